@@ -24,7 +24,7 @@
    replace them. All lengths count items, never bytes.
 
    MODELS. A model is a list of weights: symbol 0 has the first weight, symbol 1 the next, and so on. They add up to
-   2^24 (2^12 for .._u16). A symbol is impossible if its weight is 0, or if it is past the list. There are four ways
+   2^24 (2^12 for .._u16). A symbol is impossible if its weight is 0, or if it is past the list. There are five ways
    to pass models:
    - `weights`, `weight_count`: the same weights for all symbols.
    - .._each: a row of `width` weights for each symbol, one row behind another, so weight_count is width *
@@ -32,6 +32,7 @@
    - .._intervals, only for encoding: the interval of each symbol. lefts[i] is the sum of the weights before it, and
      ps[i] is its own weight, with 1 <= ps[i] and lefts[i] + ps[i] <= 2^24 (2^12). This needs no look-up.
    - .._quantized: a family of distributions, with a location and a scale for each symbol. See constriction_models.h.
+   - .._mixture: the same with a row of components for each symbol, each with a weight.
    constriction_weights_of_counts makes weights from counts.
 
    SYMBOLS are numbers 0, 1, .. of type size_t. The symbols of Exp-Golomb codewords are words. A decode writes

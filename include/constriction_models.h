@@ -22,9 +22,16 @@
    whole number x is the part of the distribution between x - 1/2 and x + 1/2. The parts outside the range go to its
    two ends. So every symbol of the range can be coded. The page MODELS.md has the definition, to the last unit.
 
+   MIXTURES. A function .._mixture takes a row of `width` components of a family for each symbol. Rows stand one behind
+   another in component_weights, locations and scales: component k of symbol i is item width * i + k of each, so each
+   has width * symbol_count items. Below a place lies the weighted mean of what lies below it under the components. The
+   weights of a row are whole numbers that add up to at least 1 and at most 2^32. A weight may be 0. If you have
+   floats, round each once: llrint(2147483648 * weight).
+
    There are as many locations and as many scales as symbols. If several errors apply, the result is the first of
    these: WRONG_LENGTH (another number of them, or as in the coder's functions); WRONG_INTERVAL (the range);
-   WRONG_WEIGHTS (a scale is 0, or the family doesn't exist); INVALID_DATA for a state; IMPOSSIBLE_SYMBOL (a symbol
+   WRONG_WEIGHTS (a scale is 0, the family doesn't exist, width is 0, or the weights of a row add up to 0 or to more
+   than 2^32); INVALID_DATA for a state; IMPOSSIBLE_SYMBOL (a symbol
    is past the range); the others as in the coder's functions. NO_MEMORY can replace only those behind
    IMPOSSIBLE_SYMBOL. */
 #ifndef CONSTRICTION_MODELS_H
@@ -114,6 +121,54 @@ uint32_t constriction_chain_decode_quantized_u32(struct constriction_chain_heads
                                                  const uint32_t *scales, size_t scale_count,
                                                  size_t *symbols, size_t symbol_count, size_t *needed);
 
+/* Mixtures, with the errors of the functions .._quantized. WRONG_LENGTH comes too if component_weight_count,
+   location_count or scale_count isn't width * symbol_count. */
+uint32_t constriction_ans_encode_mixture_reverse_u32(uint64_t *head, uint32_t *words, size_t capacity, size_t *len,
+                                                     uint32_t family, int32_t min, int32_t max, size_t width,
+                                                     const uint32_t *component_weights, size_t component_weight_count,
+                                                     const int64_t *locations, size_t location_count,
+                                                     const uint32_t *scales, size_t scale_count,
+                                                     const size_t *symbols, size_t symbol_count, size_t *needed);
+uint32_t constriction_ans_decode_mixture_u32(uint64_t *head, const uint32_t *words, size_t word_count, size_t *len,
+                                             uint32_t family, int32_t min, int32_t max, size_t width,
+                                             const uint32_t *component_weights, size_t component_weight_count,
+                                             const int64_t *locations, size_t location_count,
+                                             const uint32_t *scales, size_t scale_count,
+                                             size_t *symbols, size_t symbol_count);
+uint32_t constriction_range_encode_mixture_u32(struct constriction_range_encoder_state_u32 *encoder,
+                                               uint32_t *words, size_t capacity, size_t *len,
+                                               uint32_t family, int32_t min, int32_t max, size_t width,
+                                               const uint32_t *component_weights, size_t component_weight_count,
+                                               const int64_t *locations, size_t location_count,
+                                               const uint32_t *scales, size_t scale_count,
+                                               const size_t *symbols, size_t symbol_count, size_t *needed);
+uint32_t constriction_range_decode_mixture_u32(struct constriction_range_decoder_state_u32 *decoder,
+                                               const uint32_t *words, size_t word_count,
+                                               uint32_t family, int32_t min, int32_t max, size_t width,
+                                               const uint32_t *component_weights, size_t component_weight_count,
+                                               const int64_t *locations, size_t location_count,
+                                               const uint32_t *scales, size_t scale_count,
+                                               size_t *symbols, size_t symbol_count);
+uint32_t constriction_chain_encode_mixture_reverse_u32(struct constriction_chain_heads_u32 *heads,
+                                                       uint32_t *compressed, size_t capacity, size_t *compressed_len,
+                                                       const uint32_t *remainders, size_t remainders_count,
+                                                       size_t *remainders_len,
+                                                       uint32_t family, int32_t min, int32_t max, size_t width,
+                                                       const uint32_t *component_weights,
+                                                       size_t component_weight_count,
+                                                       const int64_t *locations, size_t location_count,
+                                                       const uint32_t *scales, size_t scale_count,
+                                                       const size_t *symbols, size_t symbol_count, size_t *needed);
+uint32_t constriction_chain_decode_mixture_u32(struct constriction_chain_heads_u32 *heads,
+                                               const uint32_t *compressed, size_t compressed_count,
+                                               size_t *compressed_len,
+                                               uint32_t *remainders, size_t capacity, size_t *remainders_len,
+                                               uint32_t family, int32_t min, int32_t max, size_t width,
+                                               const uint32_t *component_weights, size_t component_weight_count,
+                                               const int64_t *locations, size_t location_count,
+                                               const uint32_t *scales, size_t scale_count,
+                                               size_t *symbols, size_t symbol_count, size_t *needed);
+
 /* Writes the interval of each symbol, as the functions .._intervals take it: the sum of the weights before the
    symbol to lefts[i], and its own weight to ps[i]. With equal parameters and the symbols 0 to max - min, ps is a
    whole table, which can be passed as `weights`.
@@ -174,6 +229,51 @@ uint32_t constriction_chain_decode_quantized_u16(struct constriction_chain_heads
                                                  const int64_t *locations, size_t location_count,
                                                  const uint32_t *scales, size_t scale_count,
                                                  size_t *symbols, size_t symbol_count, size_t *needed);
+uint32_t constriction_ans_encode_mixture_reverse_u16(uint32_t *head, uint16_t *words, size_t capacity, size_t *len,
+                                                     uint32_t family, int32_t min, int32_t max, size_t width,
+                                                     const uint16_t *component_weights, size_t component_weight_count,
+                                                     const int64_t *locations, size_t location_count,
+                                                     const uint32_t *scales, size_t scale_count,
+                                                     const size_t *symbols, size_t symbol_count, size_t *needed);
+uint32_t constriction_ans_decode_mixture_u16(uint32_t *head, const uint16_t *words, size_t word_count, size_t *len,
+                                             uint32_t family, int32_t min, int32_t max, size_t width,
+                                             const uint16_t *component_weights, size_t component_weight_count,
+                                             const int64_t *locations, size_t location_count,
+                                             const uint32_t *scales, size_t scale_count,
+                                             size_t *symbols, size_t symbol_count);
+uint32_t constriction_range_encode_mixture_u16(struct constriction_range_encoder_state_u16 *encoder,
+                                               uint16_t *words, size_t capacity, size_t *len,
+                                               uint32_t family, int32_t min, int32_t max, size_t width,
+                                               const uint16_t *component_weights, size_t component_weight_count,
+                                               const int64_t *locations, size_t location_count,
+                                               const uint32_t *scales, size_t scale_count,
+                                               const size_t *symbols, size_t symbol_count, size_t *needed);
+uint32_t constriction_range_decode_mixture_u16(struct constriction_range_decoder_state_u16 *decoder,
+                                               const uint16_t *words, size_t word_count,
+                                               uint32_t family, int32_t min, int32_t max, size_t width,
+                                               const uint16_t *component_weights, size_t component_weight_count,
+                                               const int64_t *locations, size_t location_count,
+                                               const uint32_t *scales, size_t scale_count,
+                                               size_t *symbols, size_t symbol_count);
+uint32_t constriction_chain_encode_mixture_reverse_u16(struct constriction_chain_heads_u16 *heads,
+                                                       uint16_t *compressed, size_t capacity, size_t *compressed_len,
+                                                       const uint16_t *remainders, size_t remainders_count,
+                                                       size_t *remainders_len,
+                                                       uint32_t family, int32_t min, int32_t max, size_t width,
+                                                       const uint16_t *component_weights,
+                                                       size_t component_weight_count,
+                                                       const int64_t *locations, size_t location_count,
+                                                       const uint32_t *scales, size_t scale_count,
+                                                       const size_t *symbols, size_t symbol_count, size_t *needed);
+uint32_t constriction_chain_decode_mixture_u16(struct constriction_chain_heads_u16 *heads,
+                                               const uint16_t *compressed, size_t compressed_count,
+                                               size_t *compressed_len,
+                                               uint16_t *remainders, size_t capacity, size_t *remainders_len,
+                                               uint32_t family, int32_t min, int32_t max, size_t width,
+                                               const uint16_t *component_weights, size_t component_weight_count,
+                                               const int64_t *locations, size_t location_count,
+                                               const uint32_t *scales, size_t scale_count,
+                                               size_t *symbols, size_t symbol_count, size_t *needed);
 uint32_t constriction_quantized_intervals_u16(uint32_t family, int32_t min, int32_t max,
                                               const int64_t *locations, size_t location_count,
                                               const uint32_t *scales, size_t scale_count,

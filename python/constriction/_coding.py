@@ -67,15 +67,15 @@ def _encoded(
         return encode("_intervals", state, len(ps), (*listed(lefts), *listed(ps)))
     weights = model.table() if located is None else ()
     places = places_of(symbols, model.first)
-    if located is not None and len(places) != len(located.scales):
-        raise _other_lengths(len(places), len(located.scales), "sets of parameters")
+    if located is not None and len(places) != located.symbols:
+        raise _other_lengths(len(places), located.symbols, "sets of parameters")
     parts = list(_parts(len(places), len(weights)))
     for part in reversed(parts) if backwards else parts:
         some = places if len(parts) == 1 else places[part]
         if located is None:
             state = encode("", state, len(some), (*listed(weights), *listed(some)))
         else:
-            state = encode("_quantized", state, len(some), (*located.part(part).lent(), *listed(some)))
+            state = encode(located.form, state, len(some), (*located.part(part).lent(), *listed(some)))
     return state
 
 
@@ -92,7 +92,7 @@ def _explained(refused: Refusal, symbols: Any, model: Model, given: tuple[Any, .
                 return impossible(symbol, None if is_one(symbols) else place, model.first, len(row))
     if isinstance(refused, (WrongWeightsError, WrongLengthError)) and (not given or model.has_rows):
         return _explained_weights(refused, model, given)
-    return refused
+    return model.explained(refused, given)
 
 
 def _explained_weights(refused: Refusal, model: Model, given: tuple[Any, ...]) -> Refusal:
@@ -203,9 +203,9 @@ def _under_located(state: Any, located: Located, decode: Call) -> tuple[Any, Num
     """The state behind a symbol for each location and scale, and they."""
 
     def some(state: Any, part: slice, symbols: Numbers) -> Any:
-        return decode("_quantized", state, len(symbols), (*located.part(part).lent(), *listed(symbols)))
+        return decode(located.form, state, len(symbols), (*located.part(part).lent(), *listed(symbols)))
 
-    return _in_parts(state, len(located.scales), 0, some)
+    return _in_parts(state, located.symbols, 0, some)
 
 
 def _under_parameters(
@@ -253,7 +253,8 @@ def decoded(
             given = tuple(it if is_one(it) else sequence_of(it) for it in rest)
             state, places = _under_parameters(state, model, given, decode, quantile)
     except (WrongWeightsError, WrongLengthError) as refused:
-        raise (_explained_weights(refused, model, given) if not given or model.has_rows else refused) from None
+        own = not given or model.has_rows
+        raise (_explained_weights(refused, model, given) if own else model.explained(refused, given)) from None
     symbols = shifted(places, model.first)
-    one = not counted and all(is_one(it) for it in rest)
+    one = not counted and model.is_single(rest)
     return state, symbols[0] if one else answered(symbols)

@@ -59,6 +59,7 @@ _length, _head, _needed = POINTER(c_size_t), POINTER(c_uint64), POINTER(c_size_t
 _buffer = [_list, _size, _length]
 _table, _rows, _pairs = [_list, _size], [_list, _size, _size], [_list, _size, _list, _size]
 _located = [c_uint32, c_int32, c_int32, _list, _size, _list, _size]
+_mixed = [c_uint32, c_int32, c_int32, _size, _list, _size, _list, _size, _list, _size]
 _items = [_list, _size]
 _encoder, _decoder, _heads = POINTER(RangeEncoderState), POINTER(RangeDecoderState), POINTER(ChainHeads)
 
@@ -67,9 +68,11 @@ _PARAMETERS: dict[str, list[Any]] = {
     "ans_encode_each_reverse": [_head, *_buffer, *_rows, *_items, _needed],
     "ans_encode_intervals_reverse": [_head, *_buffer, *_pairs, _needed],
     "ans_encode_quantized_reverse": [_head, *_buffer, *_located, *_items, _needed],
+    "ans_encode_mixture_reverse": [_head, *_buffer, *_mixed, *_items, _needed],
     "ans_decode": [_head, *_buffer, *_table, *_items],
     "ans_decode_each": [_head, *_buffer, *_rows, *_items],
     "ans_decode_quantized": [_head, *_buffer, *_located, *_items],
+    "ans_decode_mixture": [_head, *_buffer, *_mixed, *_items],
     "ans_from_compressed": [*_buffer, _head],
     "ans_into_compressed": [c_uint64, *_buffer, _needed],
     "ans_from_binary": [*_buffer, _head],
@@ -79,12 +82,14 @@ _PARAMETERS: dict[str, list[Any]] = {
     "range_encode_each": [_encoder, *_buffer, *_rows, *_items, _needed],
     "range_encode_intervals": [_encoder, *_buffer, *_pairs, _needed],
     "range_encode_quantized": [_encoder, *_buffer, *_located, *_items, _needed],
+    "range_encode_mixture": [_encoder, *_buffer, *_mixed, *_items, _needed],
     "range_into_compressed": [_encoder, *_buffer, _needed],
     "range_into_self_delimited": [_encoder, *_buffer, _needed],
     "range_from_compressed": [*_items, _decoder],
     "range_decode": [_decoder, *_items, *_table, *_items],
     "range_decode_each": [_decoder, *_items, *_rows, *_items],
     "range_decode_quantized": [_decoder, *_items, *_located, *_items],
+    "range_decode_mixture": [_decoder, *_items, *_mixed, *_items],
     "range_seek": [_decoder, *_items, _size, c_uint64, c_uint64],
     "range_maybe_exhausted": [_decoder, *_items, POINTER(c_uint32)],
     "store_build": [*_buffer, *_items, *_items, *_items, *_table, *_items, *_items, _needed],
@@ -95,10 +100,12 @@ _PARAMETERS: dict[str, list[Any]] = {
     "chain_decode": [_heads, *_buffer, *_buffer, *_table, *_items, _needed],
     "chain_decode_each": [_heads, *_buffer, *_buffer, *_rows, *_items, _needed],
     "chain_decode_quantized": [_heads, *_buffer, *_buffer, *_located, *_items, _needed],
+    "chain_decode_mixture": [_heads, *_buffer, *_buffer, *_mixed, *_items, _needed],
     "chain_encode_reverse": [_heads, *_buffer, *_buffer, *_table, *_items, _needed],
     "chain_encode_each_reverse": [_heads, *_buffer, *_buffer, *_rows, *_items, _needed],
     "chain_encode_intervals_reverse": [_heads, *_buffer, *_buffer, *_pairs, _needed],
     "chain_encode_quantized_reverse": [_heads, *_buffer, *_buffer, *_located, *_items, _needed],
+    "chain_encode_mixture_reverse": [_heads, *_buffer, *_buffer, *_mixed, *_items, _needed],
     "chain_into_compressed": [_heads, *_buffer, _needed],
     "chain_into_binary": [_heads, *_buffer, _needed],
     "chain_into_remainders": [_heads, *_buffer, _needed],

@@ -9,10 +9,10 @@ from operator import index
 from typing import Any
 
 from ._buffers import NUMBER, SYMBOL, WORD, List, numpy_module, room
-from .errors import IMPOSSIBLE_SYMBOL, ImpossibleSymbolError, InvalidDataError, Refusal
+from .errors import IMPOSSIBLE_SYMBOL, ImpossibleSymbolError, InvalidDataError, Refusal, WrongLengthError
 
 __all__ = [
-    "count_of", "floats_of", "is_one", "listed_of", "places_of", "plain_of", "real", "reals_of", "rows_of",
+    "count_of", "floats_of", "grid_of", "is_one", "listed_of", "places_of", "plain_of", "real", "reals_of", "rows_of",
     "sequence_of", "table_of", "whole", "wholes_of", "words_of",
 ]  # fmt: skip
 
@@ -251,6 +251,27 @@ def table_of(numbers: Any) -> Any:
     """An array of numpy of two dimensions, where these are floats in such a one; else None."""
     table = _as_numpy(numbers)
     return table if table is not None and table.ndim == 2 and table.dtype.kind == "f" and table.size else None
+
+
+def grid_of(numbers: Any) -> tuple[Any, int]:
+    """Rows of equally many floats, one behind another, and how many each has; a list of floats is one row."""
+    table = _as_numpy(numbers)
+    if table is not None:
+        if table.ndim not in (1, 2):
+            raise TypeError(f"a row for each symbol is wanted, and not a list of {table.ndim} dimensions")
+        if table.dtype.kind not in "iubf":
+            raise TypeError(f"floats are wanted, and not those of the type {table.dtype}")
+        floats = table.astype("float64", copy=False).ravel() if table.size else array(NUMBER)
+        return floats, table.shape[-1]
+    given = listed_of(numbers)
+    if given and is_one(given[0]):
+        return floats_of(given), len(given)
+    rows = rows_of(given, floats_of)
+    width = len(rows[0]) if rows else 1
+    for place, row in enumerate(rows):
+        if len(row) != width:
+            raise WrongLengthError(f"symbol 0 has {width} components, and symbol {place} has {len(row)}")
+    return array(NUMBER, (it for row in rows for it in row)), width
 
 
 def _listed_rows(numbers: Any) -> Any:

@@ -10,10 +10,11 @@ from typing import Any
 
 from ._buffers import NUMBER, SYMBOL, WORD, numpy_module, room
 from ._numbers import real
+from .errors import WrongWeightsError
 
 __all__ = [
-    "FARTHEST", "NARROWEST", "UNITS_OF_ONE", "WIDEST", "counts_of", "counts_of_rows", "counts_of_wholes", "locations_of", "moved", "parts_of", "scales_of",
-    "unit_of",
+    "FARTHEST", "NARROWEST", "UNITS_OF_ONE", "WIDEST", "component_weights_of", "counts_of", "counts_of_rows", "counts_of_wholes", "locations_of", "moved", "parts_of", "scales_of",
+    "unit_of", "wrong_row",
 ]  # fmt: skip
 
 #: A location or a scale of 1 has so many units.
@@ -24,6 +25,8 @@ FARTHEST = 2.0**46
 NARROWEST, WIDEST = 1 / UNITS_OF_ONE, 65536.0 - 1 / UNITS_OF_ONE
 #: Two weights add up to so much.
 _TOTAL = 16777216.0
+#: A component's weight of 1 has so many units, and a row's weights add up to so much at most.
+_SHARES, _MOST_SHARES = 2.0**31, 2.0
 #: The count of the greatest probability of a list has so many bits.
 _COUNT_BITS = 62
 
@@ -57,10 +60,14 @@ def _ends(floats: Any) -> Ends:
     return (min(floats), max(floats)) if all(map(isfinite, floats)) else (nan, nan)
 
 
-def _fault(name: str, floats: array[float], good: Callable[[float], bool], wanted: str) -> ValueError:
-    """The error of the first float that isn't good."""
+def _fault(
+    name: str, floats: array[float], good: Callable[[float], bool], wanted: str, width: int | None = None
+) -> ValueError:
+    """The error of the first float that isn't good. ``width``: so many of them are of each symbol."""
     place, number = next((i, it) for i, it in enumerate(floats) if not good(it))
     which = f"{name} {place}" if len(floats) > 1 else f"a {name}"
+    if width is not None:
+        which = f"{name} {place % width} of symbol {place // width}"
     return ValueError(f"{which} is {number}, and has to {wanted}")
 
 
@@ -68,8 +75,10 @@ def _rounded(code: str, floats: array[float], unit: float, within: Ends, ends: E
     """Floats brought within these bounds, in units, of which a whole has so many; their own ends are known."""
     numpy = _numpy_for(floats)
     if numpy is not None:
-        table = numpy.clip(numpy.frombuffer(floats, dtype="float64"), *within)
-        table *= unit
+        table = _seen(numpy, floats)
+        if ends[0] < within[0] or ends[1] > within[1]:
+            table = numpy.clip(table, *within)
+        table = table * unit
         memory, kind = room(code, len(floats)), {WORD: "uint32", SYMBOL: "int64"}[code]
         numpy.copyto(numpy.frombuffer(memory, dtype=kind), numpy.rint(table, out=table), casting="unsafe")
         return memory
@@ -96,21 +105,50 @@ def unit_of(number: Any, origin: float, least: float, greatest: float) -> int | 
     return round(number * UNITS_OF_ONE) if least <= number <= greatest else None
 
 
-def locations_of(name: str, floats: array[float]) -> array[int]:
+def locations_of(name: str, floats: array[float], width: int | None = None) -> array[int]:
     """Locations in units of 2^-16. Raises ValueError of what isn't finite."""
     ends = _ends(floats)
     if isnan(ends[0]):
-        raise _fault(name, floats, isfinite, "be finite")
+        raise _fault(name, floats, isfinite, "be finite", width)
     return _rounded(SYMBOL, floats, UNITS_OF_ONE, (-FARTHEST, FARTHEST), ends)
 
 
-def scales_of(name: str, floats: array[float]) -> array[int]:
+def scales_of(name: str, floats: array[float], width: int | None = None) -> array[int]:
     """Scales in units of 2^-16, from the least that there is to the greatest. Raises ValueError of what isn't
     positive and finite."""
     ends = _ends(floats)
     if not ends[0] > 0:
-        raise _fault(name, floats, lambda it: 0 < it < inf, "be positive and finite")
+        raise _fault(name, floats, lambda it: 0 < it < inf, "be positive and finite", width)
     return _rounded(WORD, floats, UNITS_OF_ONE, (NARROWEST, WIDEST), ends)
+
+
+def component_weights_of(floats: array[float], width: int) -> array[int]:
+    """Weights of components in units of 2^-31, of which each symbol has a row of this width.
+
+    Raises ValueError of what isn't finite or is negative, and WrongWeightsError of a weight from 2 on, or of a row
+    without components. What else rows add up to is the C functions' own matter.
+    """
+    ends = _ends(floats)
+    if not ends[0] >= 0:
+        raise _fault("weight", floats, lambda it: 0 <= it < inf, "be at least 0 and finite", width)
+    if not width:
+        raise WrongWeightsError("a mixture has at least one component, and rows of none were handed in")
+    if ends[1] >= _MOST_SHARES:
+        raise wrong_row(floats, width)
+    return _rounded(WORD, floats, _SHARES, (0.0, _MOST_SHARES - 1 / _SHARES), ends)
+
+
+def wrong_row(floats: Any, width: int) -> WrongWeightsError:
+    """The error of the first row of weights that adds up to nothing, or to too much."""
+    for start in range(0, len(floats), width):
+        row = [float(it) for it in floats[start : start + width]]
+        total = sum(round(it * _SHARES) for it in row)
+        if not 0 < total <= _MOST_SHARES * _SHARES:
+            return WrongWeightsError(
+                f"the weights of symbol {start // width} add up to {sum(row)},"
+                " and have to add up to more than 0, and to 2 at most"
+            )
+    return WrongWeightsError("the weights of each symbol have to add up to more than 0, and to 2 at most")
 
 
 def parts_of(probabilities: array[float]) -> array[int]:

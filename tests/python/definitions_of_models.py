@@ -57,6 +57,17 @@ def table(family: str, location: int, scale: int, least: int, count: int, precis
     return [b - a for a, b in zip(found, found[1:])]
 
 
+def mixture(
+    family: str, shares: list[int], locations: list[int], scales: list[int], least: int, count: int, precision: int = 24
+) -> list[int]:
+    """The weights of the symbols from the least one on under a mixture: the weighted mean of the components, rounded
+    down once."""
+    components = list(zip(shares, locations, scales))
+    parts = [0, *(mixed(family, components, (least + k) * UNIT - UNIT // 2) for k in range(1, count))]
+    ends = [(2**precision - count) * part // ALL + k for k, part in enumerate([*parts, ALL])]
+    return [b - a for a, b in zip(ends, ends[1:])]
+
+
 def location_of(mean: float) -> int:
     """The nearest whole number of units, from the middle the even one."""
     return round(Fraction(mean) * UNIT)

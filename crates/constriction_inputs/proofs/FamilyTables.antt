@@ -33,29 +33,27 @@ tables_more table precision family min count locations scales models model i loc
     map_push table models model
     ∙ rw (more, take_more scales i 0 (omega arith), pairs, map_push entries (zip (take i locations) (take i scales)) (location, get_or scales i 0), before, is) refl
 
--- ---- which symbols are known: the places in the range
-module _ (precision : ℕ) (family : Option Family) (min : ℤ) (count : ℕ) where
-  pub places_known : (locations : List ℤ) (scales : List ℕ) (symbols : List ℕ)
-      → AllByRecursion (λ (symbol : ℕ). symbol < count) symbols → AreKnown (pairs_of precision (λ (t : List (ℕ × ℕ × ℕ)). t) symbols (tables_by precision family min count locations scales))
-  places_known locations scales [] all = tt
-  places_known [] scales (symbol ∷ symbols) all = tt
-  places_known (location ∷ locations) [] (symbol ∷ symbols) all = tt
-  places_known (location ∷ locations) (scale ∷ scales) (symbol ∷ symbols) all = (
-    (_, _, indexed_has precision (below_by family location scale) min count symbol _ _ all.0 refl refl),
-    places_known locations scales symbols all.1,
-  )
+-- ---- which symbols are known: the places in the range, whatever cuts it
+module _ {X : Type 0} (precision : ℕ) (below : X → ℤ → ℕ) (min : ℤ) (count : ℕ) where
+  abbrev tables_at : List X → List (List (ℕ × ℕ × ℕ))
+  tables_at xs = map (λ (x : X). indexed precision (below x) min count) xs
 
-  pub known_places : (locations : List ℤ) (scales : List ℕ) (symbols : List ℕ) → length symbols ≡ length locations → length locations ≡ length scales
-      → AreKnown (pairs_of precision (λ (t : List (ℕ × ℕ × ℕ)). t) symbols (tables_by precision family min count locations scales)) → AllByRecursion (λ (symbol : ℕ). symbol < count) symbols
-  known_places locations scales [] many same all = tt
-  known_places [] scales (symbol ∷ symbols) many same all = absurd (omega arith)
-  known_places (location ∷ locations) [] (symbol ∷ symbols) many same all = absurd (omega arith)
-  known_places (location ∷ locations) (scale ∷ scales) (symbol ∷ symbols) many same all = (
+  pub places_known : (xs : List X) (symbols : List ℕ)
+      → AllByRecursion (λ (symbol : ℕ). symbol < count) symbols → AreKnown (pairs_of precision (λ (t : List (ℕ × ℕ × ℕ)). t) symbols (tables_at xs))
+  places_known xs [] all = tt
+  places_known [] (symbol ∷ symbols) all = tt
+  places_known (x ∷ xs) (symbol ∷ symbols) all = ((_, _, indexed_has precision (below x) min count symbol _ _ all.0 refl refl), places_known xs symbols all.1)
+
+  pub known_places : (xs : List X) (symbols : List ℕ) → length symbols ≡ length xs
+      → AreKnown (pairs_of precision (λ (t : List (ℕ × ℕ × ℕ)). t) symbols (tables_at xs)) → AllByRecursion (λ (symbol : ℕ). symbol < count) symbols
+  known_places xs [] many all = tt
+  known_places [] (symbol ∷ symbols) many all = absurd (omega arith)
+  known_places (x ∷ xs) (symbol ∷ symbols) many all = (
     elim (cases_lt symbol count) [
-      | inl below ↦ below
-      | inr past ↦ absurd (indexed_impossible precision (below_by family location scale) min count symbol past all.0.0 all.0.1 all.0.2)
+      | inl below_it ↦ below_it
+      | inr past ↦ absurd (indexed_impossible precision (below x) min count symbol past all.0.0 all.0.1 all.0.2)
     ],
-    known_places locations scales symbols (omega arith) (omega arith) all.1,
+    known_places xs symbols (omega arith) all.1,
   )
 
 -- ---- intervals

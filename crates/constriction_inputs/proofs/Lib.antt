@@ -4,6 +4,7 @@ pub mod FamilyTables
 pub mod IntervalRows
 pub mod KnownRows
 pub mod Listing
+pub mod MixtureTables
 pub mod Pairs
 pub mod RowTables
 pub mod RowWeights

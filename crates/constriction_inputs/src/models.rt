@@ -3,8 +3,10 @@
 //! - `weights`: one table of weights for all symbols.
 //! - `rows`: a row of weights for each symbol.
 //! - `families`: a family of distributions, with a location and a scale for each symbol.
+//! - `mixtures`: a row of a family's distributions for each symbol, with a weight for each.
 
 mod families;
+mod mixtures;
 mod rows;
 pub mod weights;
 
@@ -17,14 +19,15 @@ use crate::refusal::Refusal;
 use constriction_base::model::{DecoderModel, EncoderModel, EntropyModel};
 use constriction_words::BitArray;
 pub use families::Families;
+pub use mixtures::Mixtures;
 pub use rows::Rows;
 use std::alloc::Global;
 pub use weights::Weights;
 
 /// The models of a list of symbols: one model for each index of the list.
 ///
-/// An implementor defines the tables of its models (`tables`). It proves that `at` returns a model with the table at
-/// the same index.
+/// An implementor defines the tables of its models (`tables`). It proves that `model` returns a model with the table at
+/// the index that `turn_to` set. So it can make each model in memory that it uses again for the next one.
 pub trait ModelList<P: BitArray, const PRECISION: usize>: Drop {
     /// The type of the models.
     type Model: EncoderModel<PRECISION, Symbol = usize, Probability = P>
@@ -33,10 +36,20 @@ pub trait ModelList<P: BitArray, const PRECISION: usize>: Drop {
     // The tables of the models, in order.
     ghost tables: { Self → List (List (ℕ × ℕ × ℕ)) };
 
-    /// Returns the model at index `place`. The caller proves that the list has that index.
-    fn at(&self, place: usize) -> &Self::Model
+    // The index of the model that `model` returns.
+    ghost turned_to: { Self → ℕ };
+
+    /// Turns to the model at index `place`. The caller proves that the list has that index. This takes no memory.
+    fn turn_to(&mut self, place: usize)
         requires { place < length (tables self.now) }
-        ensures { Self.Model.table result.now ≡ get_or (tables self.now) place (Self.Model.table result.now) };
+        ensures place { turned_to self.new ≡ place }
+        ensures tables { tables self.new ≡ tables self.old };
+
+    /// Returns the model that the list was turned to.
+    fn model(&self) -> &Self::Model
+        requires { turned_to self.now < length (tables self.now) }
+        ensures { Self.Model.table result.now
+            ≡ get_or (tables self.now) (turned_to self.now) (Self.Model.table result.now) };
 }
 
 /// The data from which the models of a caller's list of symbols are made.
@@ -85,14 +98,16 @@ pub trait Models<P: BitArray, const PRECISION: usize> {
 ///
 /// ```
 /// let weights = Weights { weights: &[255u8, 1] };
-/// if let Some(list) = Models::<u8, 8>::list(&weights, alloc, &[0, 1], false) {
-///     ModelList::<u8, 8>::at(&list, 1).quantile_function(255) // (1, 255, 1)
+/// if let Some(mut list) = Models::<u8, 8>::list(&weights, alloc, &[0, 1], false) {
+///     ModelList::<u8, 8>::turn_to(&mut list, 1);
+///     ModelList::<u8, 8>::model(&list).quantile_function(255) // (1, 255, 1)
 /// }
 /// ```
 #[derive(Drop)]
 pub struct One<M> {
     model: M,
     count: usize,
+    place: usize,
 }
 
 impl<
@@ -105,8 +120,15 @@ impl<
 
     ghost tables = { λ one. replicate one.count (M.table one.model) };
 
+    ghost turned_to = { λ one. one.place };
+
     #[inline]
-    fn at(&self, _place: usize) -> &M {
+    fn turn_to(&mut self, place: usize) {
+        self.place = place;
+    }
+
+    #[inline]
+    fn model(&self) -> &M {
         &self.model
     }
 }
@@ -117,13 +139,15 @@ impl<
 ///
 /// ```
 /// let rows = Rows { weights: &[255u8, 1, 128, 128], width: 2 };
-/// if let Some(list) = Models::<u8, 8>::list(&rows, alloc, &[0, 1], false) {
-///     ModelList::<u8, 8>::at(&list, 1).quantile_function(255) // (1, 128, 128)
+/// if let Some(mut list) = Models::<u8, 8>::list(&rows, alloc, &[0, 1], false) {
+///     ModelList::<u8, 8>::turn_to(&mut list, 1);
+///     ModelList::<u8, 8>::model(&list).quantile_function(255) // (1, 128, 128)
 /// }
 /// ```
 #[derive(Drop)]
 pub struct Each<M> {
     models: Vec<M>,
+    place: usize,
 }
 
 impl<
@@ -136,8 +160,15 @@ impl<
 
     ghost tables = { λ each. map M.table each.models.items };
 
+    ghost turned_to = { λ each. each.place };
+
     #[inline]
-    fn at(&self, place: usize) -> &M {
-        &self.models[place]
+    fn turn_to(&mut self, place: usize) {
+        self.place = place;
+    }
+
+    #[inline]
+    fn model(&self) -> &M {
+        &self.models[self.place]
     }
 }

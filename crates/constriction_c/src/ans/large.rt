@@ -7,6 +7,7 @@ ghost use Rattle.constriction_c.specs.Codes.{Told, answer_by_code};
 ghost use Rattle.constriction_calls.specs.AnsCalls.{AnsExports, AnsImports, coder_of};
 ghost use Rattle.constriction_calls.specs.AnsCalls.{AreBinary, AreCompressed, HasBinary};
 ghost use Rattle.constriction_inputs.specs.Intervals.{as_intervals};
+ghost use Rattle.constriction_inputs.specs.Mixtures.{in_mixture};
 ghost use Rattle.constriction_inputs.specs.Quantized.{in_family};
 ghost use Rattle.constriction_inputs.specs.Rows.{by_rows};
 ghost use Rattle.constriction_inputs.specs.Weights.{by_weights};
@@ -17,7 +18,7 @@ use crate::codes::{code_of, code_without_space};
 use constriction_calls::ans::decoding::decode;
 use constriction_calls::ans::encoding::{encode_intervals_reverse, encode_reverse};
 use constriction_calls::ans::words::{from_binary, from_compressed, into_binary, into_compressed};
-use constriction_inputs::models::{Families, Rows, Weights};
+use constriction_inputs::models::{Families, Mixtures, Rows, Weights};
 use std::alloc::Global;
 
 /// Encodes symbols from the last to the first, with one table of weights for all symbols.
@@ -100,6 +101,33 @@ pub extern "C" fn constriction_ans_encode_quantized_reverse_u32(
     code_of(answer, needed)
 }
 
+/// Encodes symbols from the last to the first, each under its own mixture of a family.
+#[unsafe(no_mangle)]
+pub extern "C" fn constriction_ans_encode_mixture_reverse_u32(
+    alloc: Global,
+    head: &mut u64,
+    words: &mut [u32],
+    len: &mut usize,
+    family: u32,
+    min: i32,
+    max: i32,
+    width: usize,
+    component_weights: &[u32],
+    locations: &[i64],
+    scales: &[u32],
+    symbols: &[usize],
+    needed: &mut usize,
+) -> u32
+    ensures { Told result needed.old needed.new (LargeAnsPuts
+        (in_mixture family min max width component_weights.now locations.now scales.now symbols.now)
+        (coder_of head.old words.old len.old) (coder_of head.new words.new len.new)) }
+{
+    let components = Families::new(family, min, max, locations, scales);
+    let mixtures = Mixtures::new(components, component_weights, width);
+    let answer = encode_reverse::<_, _, u32, _, 24>(alloc, head, words, len, &mixtures, symbols);
+    code_of(answer, needed)
+}
+
 /// Decodes symbols with one table of weights for all symbols.
 #[unsafe(no_mangle)]
 pub extern "C" fn constriction_ans_decode_u32(
@@ -154,6 +182,32 @@ pub extern "C" fn constriction_ans_decode_quantized_u32(
 {
     let models = Families::new(family, min, max, locations, scales);
     code_without_space(decode::<_, _, u32, _, 24>(alloc, head, words, len, &models, symbols))
+}
+
+/// Decodes symbols, each under its own mixture of a family.
+#[unsafe(no_mangle)]
+pub extern "C" fn constriction_ans_decode_mixture_u32(
+    alloc: Global,
+    head: &mut u64,
+    words: &[u32],
+    len: &mut usize,
+    family: u32,
+    min: i32,
+    max: i32,
+    width: usize,
+    component_weights: &[u32],
+    locations: &[i64],
+    scales: &[u32],
+    symbols: &mut [usize],
+) -> u32
+    ensures { LargeAnsTakes
+        (in_mixture family min max width component_weights.now locations.now scales.now)
+        (coder_of head.old words.now len.old)
+        (coder_of head.new words.now len.new) symbols.old symbols.new (answer_by_code result 0) }
+{
+    let components = Families::new(family, min, max, locations, scales);
+    let mixtures = Mixtures::new(components, component_weights, width);
+    code_without_space(decode::<_, _, u32, _, 24>(alloc, head, words, len, &mixtures, symbols))
 }
 
 /// Imports the state that exports the given words.

@@ -6,6 +6,7 @@ ghost use Rattle.constriction_c.specs.Large.{large_chain, large_heads, large_wor
 ghost use Rattle.constriction_c.specs.Codes.{Told, answer_by_code};
 ghost use Rattle.constriction_calls.specs.ChainWords.{InBinary, InCompressed, InRemainders};
 ghost use Rattle.constriction_inputs.specs.Intervals.{as_intervals};
+ghost use Rattle.constriction_inputs.specs.Mixtures.{in_mixture};
 ghost use Rattle.constriction_inputs.specs.Quantized.{in_family};
 ghost use Rattle.constriction_inputs.specs.Rows.{by_rows};
 ghost use Rattle.constriction_inputs.specs.Weights.{by_weights};
@@ -15,7 +16,7 @@ use constriction_calls::chain::{
     ChainHeads, decode, encode_intervals_reverse, encode_reverse, from_binary, from_compressed,
     from_remainders, into_binary, into_compressed, into_remainders,
 };
-use constriction_inputs::models::{Families, Rows, Weights};
+use constriction_inputs::models::{Families, Mixtures, Rows, Weights};
 use std::alloc::Global;
 
 /// The two heads of a chain coder with 32-bit words, with the fields of [`ChainHeads`].
@@ -133,6 +134,40 @@ pub extern "C" fn constriction_chain_decode_quantized_u32(
     code_of(answer, needed)
 }
 
+/// Decodes symbols, each under its own mixture of a family.
+#[unsafe(no_mangle)]
+pub extern "C" fn constriction_chain_decode_mixture_u32(
+    alloc: Global,
+    heads: &mut ChainHeadsU32,
+    compressed: &[u32],
+    count: &mut usize,
+    remainders: &mut [u32],
+    rest: &mut usize,
+    family: u32,
+    min: i32,
+    max: i32,
+    width: usize,
+    component_weights: &[u32],
+    locations: &[i64],
+    scales: &[u32],
+    symbols: &mut [usize],
+    needed: &mut usize,
+) -> u32
+    ensures { Told result needed.old needed.new (LargeChainTakes
+        (in_mixture family min max width component_weights.now locations.now scales.now)
+        (large_chain heads.old compressed.now count.old remainders.old rest.old)
+        (large_chain heads.new compressed.now count.new remainders.new rest.new) symbols.old symbols.new) }
+{
+    let components = Families::new(family, min, max, locations, scales);
+    let mixtures = Mixtures::new(components, component_weights, width);
+    let mut both = heads.parts();
+    let answer = decode::<_, _, u32, Mixtures<'_>, 24>(
+        alloc, &mut both, compressed, count, remainders, rest, &mixtures, symbols,
+    );
+    *heads = ChainHeadsU32::of(both);
+    code_of(answer, needed)
+}
+
 /// Encodes symbols from the last to the first, with one table of weights for all symbols.
 #[unsafe(no_mangle)]
 pub extern "C" fn constriction_chain_encode_reverse_u32(
@@ -211,6 +246,40 @@ pub extern "C" fn constriction_chain_encode_quantized_reverse_u32(
     let mut both = heads.parts();
     let answer = encode_reverse::<_, _, u32, Families<'_>, 24>(
         alloc, &mut both, compressed, count, remainders, rest, &models, symbols,
+    );
+    *heads = ChainHeadsU32::of(both);
+    code_of(answer, needed)
+}
+
+/// Encodes symbols from the last to the first, each under its own mixture of a family.
+#[unsafe(no_mangle)]
+pub extern "C" fn constriction_chain_encode_mixture_reverse_u32(
+    alloc: Global,
+    heads: &mut ChainHeadsU32,
+    compressed: &mut [u32],
+    count: &mut usize,
+    remainders: &[u32],
+    rest: &mut usize,
+    family: u32,
+    min: i32,
+    max: i32,
+    width: usize,
+    component_weights: &[u32],
+    locations: &[i64],
+    scales: &[u32],
+    symbols: &[usize],
+    needed: &mut usize,
+) -> u32
+    ensures { Told result needed.old needed.new (LargeChainPuts
+        (in_mixture family min max width component_weights.now locations.now scales.now symbols.now)
+        (large_chain heads.old compressed.old count.old remainders.now rest.old)
+        (large_chain heads.new compressed.new count.new remainders.now rest.new)) }
+{
+    let components = Families::new(family, min, max, locations, scales);
+    let mixtures = Mixtures::new(components, component_weights, width);
+    let mut both = heads.parts();
+    let answer = encode_reverse::<_, _, u32, Mixtures<'_>, 24>(
+        alloc, &mut both, compressed, count, remainders, rest, &mixtures, symbols,
     );
     *heads = ChainHeadsU32::of(both);
     code_of(answer, needed)

@@ -7,6 +7,7 @@ ghost use Rattle.constriction_c.specs.Small.{small_chain, small_heads, small_wor
 ghost use Rattle.constriction_c.specs.Codes.{Told, answer_by_code};
 ghost use Rattle.constriction_calls.specs.ChainWords.{InBinary, InCompressed, InRemainders};
 ghost use Rattle.constriction_inputs.specs.Intervals.{as_intervals};
+ghost use Rattle.constriction_inputs.specs.Mixtures.{in_mixture};
 ghost use Rattle.constriction_inputs.specs.Quantized.{in_family};
 ghost use Rattle.constriction_inputs.specs.Rows.{by_rows};
 ghost use Rattle.constriction_inputs.specs.Weights.{by_weights};
@@ -16,7 +17,7 @@ use constriction_calls::chain::{
     ChainHeads, decode, encode_intervals_reverse, encode_reverse, from_binary, from_compressed,
     from_remainders, into_binary, into_compressed, into_remainders,
 };
-use constriction_inputs::models::{Families, Rows, Weights};
+use constriction_inputs::models::{Families, Mixtures, Rows, Weights};
 use std::alloc::Global;
 
 /// The two heads of a chain coder with 16-bit words, with the fields of [`ChainHeads`].
@@ -134,6 +135,40 @@ pub extern "C" fn constriction_chain_decode_quantized_u16(
     code_of(answer, needed)
 }
 
+/// Decodes symbols, each under its own mixture of a family.
+#[unsafe(no_mangle)]
+pub extern "C" fn constriction_chain_decode_mixture_u16(
+    alloc: Global,
+    heads: &mut ChainHeadsU16,
+    compressed: &[u16],
+    count: &mut usize,
+    remainders: &mut [u16],
+    rest: &mut usize,
+    family: u32,
+    min: i32,
+    max: i32,
+    width: usize,
+    component_weights: &[u16],
+    locations: &[i64],
+    scales: &[u32],
+    symbols: &mut [usize],
+    needed: &mut usize,
+) -> u32
+    ensures { Told result needed.old needed.new (SmallChainTakes
+        (in_mixture family min max width component_weights.now locations.now scales.now)
+        (small_chain heads.old compressed.now count.old remainders.old rest.old)
+        (small_chain heads.new compressed.now count.new remainders.new rest.new) symbols.old symbols.new) }
+{
+    let components = Families::new(family, min, max, locations, scales);
+    let mixtures = Mixtures::new(components, component_weights, width);
+    let mut both = heads.parts();
+    let answer = decode::<_, _, u16, Mixtures<'_>, 12>(
+        alloc, &mut both, compressed, count, remainders, rest, &mixtures, symbols,
+    );
+    *heads = ChainHeadsU16::of(both);
+    code_of(answer, needed)
+}
+
 /// Encodes symbols from the last to the first, with one table of weights for all symbols.
 #[unsafe(no_mangle)]
 pub extern "C" fn constriction_chain_encode_reverse_u16(
@@ -212,6 +247,40 @@ pub extern "C" fn constriction_chain_encode_quantized_reverse_u16(
     let mut both = heads.parts();
     let answer = encode_reverse::<_, _, u16, Families<'_>, 12>(
         alloc, &mut both, compressed, count, remainders, rest, &models, symbols,
+    );
+    *heads = ChainHeadsU16::of(both);
+    code_of(answer, needed)
+}
+
+/// Encodes symbols from the last to the first, each under its own mixture of a family.
+#[unsafe(no_mangle)]
+pub extern "C" fn constriction_chain_encode_mixture_reverse_u16(
+    alloc: Global,
+    heads: &mut ChainHeadsU16,
+    compressed: &mut [u16],
+    count: &mut usize,
+    remainders: &[u16],
+    rest: &mut usize,
+    family: u32,
+    min: i32,
+    max: i32,
+    width: usize,
+    component_weights: &[u16],
+    locations: &[i64],
+    scales: &[u32],
+    symbols: &[usize],
+    needed: &mut usize,
+) -> u32
+    ensures { Told result needed.old needed.new (SmallChainPuts
+        (in_mixture family min max width component_weights.now locations.now scales.now symbols.now)
+        (small_chain heads.old compressed.old count.old remainders.now rest.old)
+        (small_chain heads.new compressed.new count.new remainders.now rest.new)) }
+{
+    let components = Families::new(family, min, max, locations, scales);
+    let mixtures = Mixtures::new(components, component_weights, width);
+    let mut both = heads.parts();
+    let answer = encode_reverse::<_, _, u16, Mixtures<'_>, 12>(
+        alloc, &mut both, compressed, count, remainders, rest, &mixtures, symbols,
     );
     *heads = ChainHeadsU16::of(both);
     code_of(answer, needed)

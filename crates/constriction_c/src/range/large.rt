@@ -5,6 +5,7 @@ ghost use Rattle.constriction_c.specs.Large.{large_word, large_state, large_kept
 ghost use Rattle.constriction_c.specs.Large.{large_decoder, large_encoder};
 ghost use Rattle.constriction_c.specs.Codes.{Told, answer_by_code};
 ghost use Rattle.constriction_inputs.specs.Intervals.{as_intervals};
+ghost use Rattle.constriction_inputs.specs.Mixtures.{in_mixture};
 ghost use Rattle.constriction_inputs.specs.Quantized.{in_family};
 ghost use Rattle.constriction_inputs.specs.Rows.{by_rows};
 ghost use Rattle.constriction_inputs.specs.Weights.{by_weights};
@@ -17,7 +18,7 @@ use constriction_calls::range::encoding::{encode, encode_intervals};
 use constriction_calls::range::parts::{DecoderParts, EncoderParts};
 use constriction_calls::range::positions::{from_compressed, maybe_exhausted, seek};
 use constriction_calls::range::words::{into_compressed, into_self_delimited};
-use constriction_inputs::models::{Families, Rows, Weights};
+use constriction_inputs::models::{Families, Mixtures, Rows, Weights};
 use std::alloc::Global;
 
 /// A range encoder between two calls, with the fields of [`EncoderParts`].
@@ -199,6 +200,35 @@ pub extern "C" fn constriction_range_encode_quantized_u32(
     code_of(answer, needed)
 }
 
+/// Encodes symbols, each under its own mixture of a family.
+#[unsafe(no_mangle)]
+pub extern "C" fn constriction_range_encode_mixture_u32(
+    alloc: Global,
+    encoder: &mut RangeEncoderU32,
+    words: &mut [u32],
+    len: &mut usize,
+    family: u32,
+    min: i32,
+    max: i32,
+    width: usize,
+    component_weights: &[u32],
+    locations: &[i64],
+    scales: &[u32],
+    symbols: &[usize],
+    needed: &mut usize,
+) -> u32
+    ensures { Told result needed.old needed.new (LargeRangePuts
+        (in_mixture family min max width component_weights.now locations.now scales.now)
+        symbols.now (large_kept encoder.old words.old len.old) (large_kept encoder.new words.new len.new)) }
+{
+    let components = Families::new(family, min, max, locations, scales);
+    let mixtures = Mixtures::new(components, component_weights, width);
+    let mut parts = encoder.parts();
+    let answer = encode::<_, _, u32, _, 24>(alloc, &mut parts, words, len, &mixtures, symbols);
+    *encoder = RangeEncoderU32::of(parts);
+    code_of(answer, needed)
+}
+
 /// Appends the words that the encoder holds back, and a seal, to the buffer's first `len` words.
 #[unsafe(no_mangle)]
 pub extern "C" fn constriction_range_into_compressed_u32(
@@ -303,6 +333,34 @@ pub extern "C" fn constriction_range_decode_quantized_u32(
     let models = Families::new(family, min, max, locations, scales);
     let mut parts = decoder.parts();
     let answer = decode::<_, _, u32, _, 24>(alloc, &mut parts, words, &models, symbols);
+    *decoder = RangeDecoderU32::of(parts);
+    code_without_space(answer)
+}
+
+/// Decodes symbols, each under its own mixture of a family.
+#[unsafe(no_mangle)]
+pub extern "C" fn constriction_range_decode_mixture_u32(
+    alloc: Global,
+    decoder: &mut RangeDecoderU32,
+    words: &[u32],
+    family: u32,
+    min: i32,
+    max: i32,
+    width: usize,
+    component_weights: &[u32],
+    locations: &[i64],
+    scales: &[u32],
+    symbols: &mut [usize],
+) -> u32
+    ensures { LargeRangeTakes
+        (in_mixture family min max width component_weights.now locations.now scales.now)
+        words.now (large_decoder decoder.old)
+        (large_decoder decoder.new) symbols.old symbols.new (answer_by_code result 0) }
+{
+    let components = Families::new(family, min, max, locations, scales);
+    let mixtures = Mixtures::new(components, component_weights, width);
+    let mut parts = decoder.parts();
+    let answer = decode::<_, _, u32, _, 24>(alloc, &mut parts, words, &mixtures, symbols);
     *decoder = RangeDecoderU32::of(parts);
     code_without_space(answer)
 }

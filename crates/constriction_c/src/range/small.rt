@@ -6,6 +6,7 @@ ghost use Rattle.constriction_c.specs.Small.{small_word, small_state, small_kept
 ghost use Rattle.constriction_c.specs.Small.{small_decoder, small_encoder};
 ghost use Rattle.constriction_c.specs.Codes.{Told, answer_by_code};
 ghost use Rattle.constriction_inputs.specs.Intervals.{as_intervals};
+ghost use Rattle.constriction_inputs.specs.Mixtures.{in_mixture};
 ghost use Rattle.constriction_inputs.specs.Quantized.{in_family};
 ghost use Rattle.constriction_inputs.specs.Rows.{by_rows};
 ghost use Rattle.constriction_inputs.specs.Weights.{by_weights};
@@ -18,7 +19,7 @@ use constriction_calls::range::encoding::{encode, encode_intervals};
 use constriction_calls::range::parts::{DecoderParts, EncoderParts};
 use constriction_calls::range::positions::{from_compressed, maybe_exhausted, seek};
 use constriction_calls::range::words::{into_compressed, into_self_delimited};
-use constriction_inputs::models::{Families, Rows, Weights};
+use constriction_inputs::models::{Families, Mixtures, Rows, Weights};
 use std::alloc::Global;
 
 /// A range encoder between two calls, with the fields of [`EncoderParts`].
@@ -200,6 +201,35 @@ pub extern "C" fn constriction_range_encode_quantized_u16(
     code_of(answer, needed)
 }
 
+/// Encodes symbols, each under its own mixture of a family.
+#[unsafe(no_mangle)]
+pub extern "C" fn constriction_range_encode_mixture_u16(
+    alloc: Global,
+    encoder: &mut RangeEncoderU16,
+    words: &mut [u16],
+    len: &mut usize,
+    family: u32,
+    min: i32,
+    max: i32,
+    width: usize,
+    component_weights: &[u16],
+    locations: &[i64],
+    scales: &[u32],
+    symbols: &[usize],
+    needed: &mut usize,
+) -> u32
+    ensures { Told result needed.old needed.new (SmallRangePuts
+        (in_mixture family min max width component_weights.now locations.now scales.now)
+        symbols.now (small_kept encoder.old words.old len.old) (small_kept encoder.new words.new len.new)) }
+{
+    let components = Families::new(family, min, max, locations, scales);
+    let mixtures = Mixtures::new(components, component_weights, width);
+    let mut parts = encoder.parts();
+    let answer = encode::<_, _, u16, _, 12>(alloc, &mut parts, words, len, &mixtures, symbols);
+    *encoder = RangeEncoderU16::of(parts);
+    code_of(answer, needed)
+}
+
 /// Appends the words that the encoder holds back, and a seal, to the buffer's first `len` words.
 #[unsafe(no_mangle)]
 pub extern "C" fn constriction_range_into_compressed_u16(
@@ -304,6 +334,34 @@ pub extern "C" fn constriction_range_decode_quantized_u16(
     let models = Families::new(family, min, max, locations, scales);
     let mut parts = decoder.parts();
     let answer = decode::<_, _, u16, _, 12>(alloc, &mut parts, words, &models, symbols);
+    *decoder = RangeDecoderU16::of(parts);
+    code_without_space(answer)
+}
+
+/// Decodes symbols, each under its own mixture of a family.
+#[unsafe(no_mangle)]
+pub extern "C" fn constriction_range_decode_mixture_u16(
+    alloc: Global,
+    decoder: &mut RangeDecoderU16,
+    words: &[u16],
+    family: u32,
+    min: i32,
+    max: i32,
+    width: usize,
+    component_weights: &[u16],
+    locations: &[i64],
+    scales: &[u32],
+    symbols: &mut [usize],
+) -> u32
+    ensures { SmallRangeTakes
+        (in_mixture family min max width component_weights.now locations.now scales.now)
+        words.now (small_decoder decoder.old)
+        (small_decoder decoder.new) symbols.old symbols.new (answer_by_code result 0) }
+{
+    let components = Families::new(family, min, max, locations, scales);
+    let mixtures = Mixtures::new(components, component_weights, width);
+    let mut parts = decoder.parts();
+    let answer = decode::<_, _, u16, _, 12>(alloc, &mut parts, words, &mixtures, symbols);
     *decoder = RangeDecoderU16::of(parts);
     code_without_space(answer)
 }

@@ -47,10 +47,10 @@ pub fn decode<
         return Err(Refusal::WrongLength);
     }
     models.check(symbols)?;
-    let Some(list) = models.list(alloc, symbols, false) else {
+    let Some(mut list) = models.list(alloc, symbols, false) else {
         return Err(Refusal::NoMemory);
     };
-    let (new_head, new_len) = decode_by(*head, words, *len, &list, symbols);
+    let (new_head, new_len) = decode_by(*head, words, *len, &mut list, symbols);
     *head = new_head;
     *len = new_len;
     Ok(())
@@ -64,12 +64,12 @@ fn decode_by<
     P: WordOf<Word>,
     L: ModelList<P, PRECISION>,
     const PRECISION: usize,
->(head: State, words: &[Word], len: usize, models: &L, symbols: &mut [usize]) -> (State, usize)
+>(head: State, words: &[Word], len: usize, models: &mut L, symbols: &mut [usize]) -> (State, usize)
     requires sizes { IsSizes Word.BITS State.BITS }
     requires within { len ≤ length words.now }
     requires count { length symbols.now ≡ length (L.tables models.now) }
     ensures decoded { DecodesAll Word.BITS State.BITS
-        (pairs_of PRECISION (λ table. table) symbols.new (L.tables models.now))
+        (pairs_of PRECISION (λ table. table) symbols.new (L.tables models.old))
         (state_kept Word.number State.number (coder_of head words.now len))
         (state_kept Word.number State.number (coder_of result.0 words.now result.1)) }
     ensures left { result.1 ≤ len }
@@ -80,7 +80,8 @@ fn decode_by<
         head,
     );
     for place in 0..symbols.len() {
-        symbols[place] = decode_next(&mut coder, models.at(place));
+        models.turn_to(place);
+        symbols[place] = decode_next(&mut coder, models.model());
     }
     let (cursor, new_head) = coder.into_raw_parts();
     let (_, left) = cursor.into_buf_and_pos();

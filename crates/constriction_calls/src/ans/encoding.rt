@@ -48,8 +48,8 @@ pub fn encode_reverse<
         return Err(Refusal::WrongLength);
     }
     models.check(symbols)?;
-    if let Some(list) = models.list(alloc, symbols, true)
-        && let Some((added, new_head)) = coded(alloc, *head, &list, symbols)
+    if let Some(mut list) = models.list(alloc, symbols, true)
+        && let Some((added, new_head)) = coded(alloc, *head, &mut list, symbols)
     {
         return match append(&added, words, len) {
             Ok(()) => {
@@ -115,13 +115,13 @@ fn coded<
     P: WordOf<Word>,
     L: ModelList<P, PRECISION>,
     const PRECISION: usize,
->(alloc: Global, head: State, models: &L, symbols: &[usize]) -> Option<(Vec<Word>, State)>
+>(alloc: Global, head: State, models: &mut L, symbols: &[usize]) -> Option<(Vec<Word>, State)>
     requires sizes { IsSizes Word.BITS State.BITS }
     requires count { length symbols.now ≡ length (L.tables models.now) }
     ensures models { IfSome result (λ made. AreModels Word.BITS
-        (pairs_of PRECISION (λ table. table) symbols.now (L.tables models.now))) }
+        (pairs_of PRECISION (λ table. table) symbols.now (L.tables models.old))) }
     ensures coded { IfSome result (λ made. EncodesAll Word.BITS State.BITS
-        (reverse (pairs_of PRECISION (λ table. table) symbols.now (L.tables models.now)))
+        (reverse (pairs_of PRECISION (λ table. table) symbols.now (L.tables models.old)))
         record { head = State.number head; words = [] }
         record { head = State.number made.1; words = map Word.number (reverse made.0.items) }) }
 {
@@ -131,7 +131,8 @@ fn coded<
     );
     let mut left = symbols.len();
     'symbols: while left > 0 {
-        match coder.encode_symbol(&symbols[left - 1], models.at(left - 1)) {
+        models.turn_to(left - 1);
+        match coder.encode_symbol(&symbols[left - 1], models.model()) {
             Ok(()) => {}
             Err(_) => return None,
         }

@@ -115,7 +115,7 @@ fn take_by<
         (λ symbols. items PRECISION (G.coded models.now symbols)) (length places.now) coder.old.state)) }
 {
     match models.list(alloc, places, false) {
-        Some(list) => take_symbols(alloc, coder, &list, places.len()),
+        Some(mut list) => take_symbols(alloc, coder, &mut list, places.len()),
         None => Err(Refusal::NoMemory),
     }
 }
@@ -136,22 +136,23 @@ fn take_symbols<
 >(
     alloc: Global,
     coder: &mut Taking<'a, Word, State, PRECISION>,
-    models: &L,
+    models: &mut L,
     count: usize,
 ) -> Result<Vec<usize>, Refusal>
     requires { length (L.tables models.now) ≡ count }
     ensures count { IfOk result (λ symbols. length symbols.items ≡ count) }
     ensures ok { IfOk result (λ symbols. TakesOffAll Word.BITS State.BITS
-        (pairs_of PRECISION (λ table. table) symbols.items (L.tables models.now)) coder.old.state coder.new.state) }
+        (pairs_of PRECISION (λ table. table) symbols.items (L.tables models.old)) coder.old.state coder.new.state) }
     ensures err { IfErr result (λ e. (e ≡ refusals.NoMemory) ⊎ ((e ≡ refusals.OutOfData)
         × LacksCompressed Word.BITS State.BITS PRECISION
-        (λ symbols. pairs_of PRECISION (λ table. table) symbols (L.tables models.now)) count coder.old.state)) }
+        (λ symbols. pairs_of PRECISION (λ table. table) symbols (L.tables models.old)) count coder.old.state)) }
 {
     let Ok(mut symbols) = Vec::with_capacity(alloc, count) else {
         return Err(Refusal::NoMemory);
     };
     for place in 0..count {
-        match coder.decode_symbol(models.at(place)) {
+        models.turn_to(place);
+        match coder.decode_symbol(models.model()) {
             Ok(symbol) => symbols.push_reserved(symbol),
             Err(CoderError::Frontend(_)) => return Err(Refusal::OutOfData),
             Err(CoderError::Backend(_)) => return Err(Refusal::NoMemory),

@@ -176,7 +176,7 @@ fn put_by<
         (reverse (items PRECISION (G.coded models.now symbols.now))) coder.old.state))) result }
 {
     let refusal = match models.list(alloc, symbols, true) {
-        Some(list) => match put_symbols(coder, &list, symbols) {
+        Some(mut list) => match put_symbols(coder, &mut list, symbols) {
             Ok(()) => return Ok(()),
             Err(refusal) => refusal,
         },
@@ -204,21 +204,22 @@ fn put_symbols<
     const PRECISION: usize,
 >(
     coder: &mut Putting<'a, Word, State, PRECISION>,
-    models: &L,
+    models: &mut L,
     symbols: &[usize],
 ) -> Result<(), Refusal>
     requires { length (L.tables models.now) ≡ length symbols.now }
     ensures ok { OnOk result (PutsBackAll Word.BITS State.BITS
-        (reverse (pairs_of PRECISION (λ table. table) symbols.now (L.tables models.now)))
+        (reverse (pairs_of PRECISION (λ table. table) symbols.now (L.tables models.old)))
         coder.old.state coder.new.state) }
     ensures err { IfErr result (λ e. (e ≡ refusals.NoMemory) ⊎ ((e ≡ refusals.ImpossibleSymbol)
-        × (AreKnown (pairs_of PRECISION (λ table. table) symbols.now (L.tables models.now)) → ⊥))
+        × (AreKnown (pairs_of PRECISION (λ table. table) symbols.now (L.tables models.old)) → ⊥))
         ⊎ ((e ≡ refusals.OutOfData) × LacksRemainders Word.BITS State.BITS
-        (reverse (pairs_of PRECISION (λ table. table) symbols.now (L.tables models.now))) coder.old.state)) }
+        (reverse (pairs_of PRECISION (λ table. table) symbols.now (L.tables models.old))) coder.old.state)) }
 {
     let mut left = symbols.len();
     'symbols: while left > 0 {
-        match coder.encode_symbol(&symbols[left - 1], models.at(left - 1)) {
+        models.turn_to(left - 1);
+        match coder.encode_symbol(&symbols[left - 1], models.model()) {
             Ok(()) => {}
             Err(CoderError::Frontend(EncoderFrontendError::ImpossibleSymbol)) => {
                 return Err(Refusal::ImpossibleSymbol);

@@ -33,25 +33,26 @@ pub(crate) fn take_list<
 >(
     alloc: Global,
     decoder: Reading<'a, Word, State>,
-    list: &L,
+    list: &mut L,
     count: usize,
 ) -> Result<(Vec<usize>, Reading<'a, Word, State>), Refusal>
     requires { count ≡ length (L.tables list.now) }
     ensures count { IfOk result (λ taken. length taken.0.items ≡ count) }
     ensures decoded { (words : List ℕ) (old : Run) → StandsAt Word.BITS State.BITS words old decoder.entry → IfOk result
         (λ taken. (last : Run) × FindsAll Word.BITS State.BITS words
-        (pairs_of PRECISION (λ table. table) taken.0.items (L.tables list.now)) old last
+        (pairs_of PRECISION (λ table. table) taken.0.items (L.tables list.old)) old last
         × StandsAt Word.BITS State.BITS words last taken.1) }
     ensures err { IfErr result (Words ((words symbols : List ℕ) (old last : Run)
         → StandsAt Word.BITS State.BITS words old decoder.entry → FindsAll Word.BITS State.BITS words
-        (pairs_of PRECISION (λ table. table) symbols (L.tables list.now)) old last → length symbols ≡ count → ⊥)) }
+        (pairs_of PRECISION (λ table. table) symbols (L.tables list.old)) old last → length symbols ≡ count → ⊥)) }
 {
     let mut decoder = decoder;
     let Ok(mut again) = Vec::with_capacity(alloc, count) else {
         return Err(Refusal::NoMemory);
     };
     for i in 0..count {
-        match Decode::<PRECISION>::decode_symbol(&mut decoder, list.at(i)) {
+        list.turn_to(i);
+        match Decode::<PRECISION>::decode_symbol(&mut decoder, list.model()) {
             Ok(symbol) => again.push_reserved(symbol),
             Err(_) => return Err(Refusal::InvalidData),
         }
@@ -97,10 +98,15 @@ pub fn decode<
     let Some(reading) = decoder_of(words, *decoder) else {
         return Err(Refusal::InvalidData);
     };
-    let Some(list) = models.list(alloc, symbols, false) else {
+    let Some(mut list) = models.list(alloc, symbols, false) else {
         return Err(Refusal::NoMemory);
     };
-    match take_list::<Word, State, P, G::List, PRECISION>(alloc, reading, &list, symbols.len()) {
+    match take_list::<Word, State, P, G::List, PRECISION>(
+        alloc,
+        reading,
+        &mut list,
+        symbols.len(),
+    ) {
         Ok((again, last)) => {
             symbols.copy_from_slice(&again);
             *decoder = decoder_parts(last, words.len());

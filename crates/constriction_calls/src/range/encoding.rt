@@ -29,20 +29,21 @@ fn put_list<
     const PRECISION: usize,
 >(
     encoder: RangeEncoder<Word, State, Vec<Word>>,
-    list: &L,
+    list: &mut L,
     symbols: &[usize],
 ) -> Option<(Vec<Word>, EncoderParts<Word, State>)>
     requires counted { length symbols.now ≡ length (L.tables list.now) }
     requires left { length symbols.now ≤ left_to_encode encoder }
     ensures coder { IfSome result (λ made. IsEncoderKept Word.number State.number Word.BITS State.BITS made.1) }
     ensures narrowed { IfSome result (λ made. NarrowsAll Word.BITS State.BITS
-        (pairs_of PRECISION (λ table. table) symbols.now (L.tables list.now)) (run_by Word.BITS State.BITS encoder)
+        (pairs_of PRECISION (λ table. table) symbols.now (L.tables list.old)) (run_by Word.BITS State.BITS encoder)
         (run_kept Word.number State.number Word.BITS State.BITS made.1 made.0.items)) }
 {
     let (words, state, situation) = encoder.into_raw_parts();
     let mut encoder = RangeEncoder::from_raw_parts(words, state, situation);
     for i in 0..symbols.len() {
-        match Encode::<PRECISION>::encode_symbol(&mut encoder, &symbols[i], list.at(i)) {
+        list.turn_to(i);
+        match Encode::<PRECISION>::encode_symbol(&mut encoder, &symbols[i], list.model()) {
             Ok(()) => {}
             Err(_) => return None,
         }
@@ -73,10 +74,10 @@ fn put_by<
         (items PRECISION (G.coded models.now symbols.now)) (run_by Word.BITS State.BITS encoder)
         (run_kept Word.number State.number Word.BITS State.BITS made.1 made.0.items)) }
 {
-    let Some(list) = models.list(alloc, symbols, false) else {
+    let Some(mut list) = models.list(alloc, symbols, false) else {
         return None;
     };
-    put_list::<Word, State, P, G::List, PRECISION>(encoder, &list, symbols)
+    put_list::<Word, State, P, G::List, PRECISION>(encoder, &mut list, symbols)
 }
 
 /// Encodes symbols in order, each under its own model.

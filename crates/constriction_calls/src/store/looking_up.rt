@@ -79,12 +79,12 @@ pub fn chunk<Word: WordOf<State>, State: BitArray, P: WordOf<Word>, const PRECIS
     let Ok(state) = RangeCoderState::<Word, State>::new(lower, range) else {
         return Err(Refusal::InvalidData);
     };
-    let Some(list) = Models::<P, PRECISION>::list(&Weights { weights }, alloc, symbols, false)
+    let Some(mut list) = Models::<P, PRECISION>::list(&Weights { weights }, alloc, symbols, false)
     else {
         return Err(Refusal::NoMemory);
     };
     let decoder = decoder_at::<Word, State>(words, pos, state);
-    match take_list::<Word, State, P, _, PRECISION>(alloc, decoder, &list, symbols.len()) {
+    match take_list::<Word, State, P, _, PRECISION>(alloc, decoder, &mut list, symbols.len()) {
         Ok((again, _)) => {
             symbols.copy_from_slice(&again);
             Ok(())

@@ -79,7 +79,7 @@ impl<'a, P: WordOf<u32>, const PRECISION: usize> Models<P, PRECISION> for Famili
             return None;
         };
         match models_of(alloc, family, &quantizer, self.locations, self.scales) {
-            Ok(models) => Some(Each { models }),
+            Ok(models) => Some(Each { models, place: 0 }),
             Err(_) => None,
         }
     }
@@ -137,7 +137,7 @@ impl<'a> Families<'a> {
     }
 
     /// Returns whether each symbol is the index of a symbol of the range.
-    fn are_places(&self, symbols: &[usize]) -> bool
+    pub(crate) fn are_places(&self, symbols: &[usize]) -> bool
         requires { self.now.min <ℤ self.now.max }
         ensures { IsTrue result ↔ ArePlacesInRange self.now.min self.now.max symbols.now }
     {

@@ -51,7 +51,7 @@ impl<'a, P: BitArray, const PRECISION: usize> Models<P, PRECISION> for Rows<'a, 
         _divides: bool,
     ) -> Option<Each<Row<'a, P, PRECISION>>> {
         match total_rows(alloc, self.weights, self.width, symbols.len()) {
-            Ok(models) => Some(Each { models }),
+            Ok(models) => Some(Each { models, place: 0 }),
             Err(_) => None,
         }
     }

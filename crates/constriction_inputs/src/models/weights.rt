@@ -59,6 +59,7 @@ impl<'a, P: BitArray, const PRECISION: usize> Models<P, PRECISION> for Weights<'
             Some(model) => Some(One {
                 model,
                 count: symbols.len(),
+                place: 0,
             }),
             None => None,
         }

@@ -3,7 +3,8 @@
 A coder takes a model as **weights** that add up to 2^24, one for each symbol of a range, and at least 1 for each, so
 that each can be coded. Encode and decode have to get equal weights.
 
-:class:`QuantizedGaussian`, :class:`QuantizedLaplace`, :class:`QuantizedLogistic` and :class:`Categorical` round each
+:class:`QuantizedGaussian`, :class:`QuantizedLaplace`, :class:`QuantizedLogistic`, mixtures of them
+(:class:`QuantizedMixture`) and :class:`Categorical` round each
 float that they are given once, to a whole number; from there on C functions make the weights, in whole numbers alone,
 and these are proved. So equal floats give equal words on every machine. :class:`Bernoulli` and :class:`Uniform` take
 one sum in whole numbers, in Python. :class:`WeightTable` takes the weights themselves.
@@ -21,6 +22,7 @@ from ._base import Model
 from ._cauchy import QuantizedCauchy
 from ._custom import CustomModel, ScipyModel
 from ._finite import Bernoulli, Binomial, Uniform
+from ._mixture import QuantizedMixture
 from ._quantized import QuantizedGaussian, QuantizedLaplace, QuantizedLogistic
 from ._table import Categorical, WeightTable
 
@@ -34,6 +36,7 @@ __all__ = [
     "QuantizedGaussian",
     "QuantizedLaplace",
     "QuantizedLogistic",
+    "QuantizedMixture",
     "ScipyModel",
     "Uniform",
     "WeightTable",

@@ -10,7 +10,7 @@ from typing import Any, NamedTuple
 
 from ..._buffers import WORD, listed
 from ..._numbers import floats_of, is_one, listed_of, whole
-from ...errors import ImpossibleSymbolError, WrongLengthError, impossible
+from ...errors import ImpossibleSymbolError, Refusal, WrongLengthError, impossible
 
 __all__ = [
     "ENDS",
@@ -50,6 +50,16 @@ class Located(NamedTuple):
     greatest: int
     locations: array[int]
     scales: array[int]
+
+    @property
+    def form(self) -> str:
+        """How models come to a coder's C functions, as a part of their names."""
+        return "_quantized"
+
+    @property
+    def symbols(self) -> int:
+        """How many symbols have parameters."""
+        return len(self.scales)
 
     def part(self, which: slice) -> Located:
         """The same for some of the symbols."""
@@ -195,6 +205,14 @@ class Model:
         """The parameters of each symbol, from a list of each, or from one of each."""
         self._known(given)
         return list(zip(*equally_long([floats_of(it) for it in given])))
+
+    def is_single(self, given: Sequence[Any]) -> bool:
+        """Whether these are the parameters of one symbol alone."""
+        return all(map(is_one, given))
+
+    def explained(self, refused: Refusal, given: Sequence[Any]) -> Refusal:
+        """The same refusal of a C function, with what of these parameters it is of."""
+        return refused
 
     def located(self, given: Sequence[Any]) -> Located | None:
         """The parameters as C functions take them, where they make the tables themselves; else None."""

@@ -13,17 +13,19 @@ loop-place-preserved g c =
     let own = λ (t : List (ℕ × ℕ × ℕ)). t in
     let l = c.loop-place in
     let tables = g.L.ModelList.tables c.args.models.now in
-    let table = g.L.Model.EntropyModel.table c.at.result.now in
+    let at = rw (c.turn_to.ensures.place, c.turn_to.ensures.tables, l.invariant.tables) at c.model.ensures in
+    let table = g.L.Model.EntropyModel.table c.model.result.now in
     let x = c.decode_next.result in
     let before = take l.place l.symbols in
     let within : l.place < length l.symbols = omega (arith, c.loop-place-test.true, l.invariant.count) in
     let long : length before ≡ l.place = length-take-le l.place l.symbols (omega arith) in
     record {
-      decoded = rw (take_more_set l.symbols l.place x within, pairs_next P own before tables x table (omega (arith, l.invariant.count, c.requires.count)) (rw long c.at.ensures))
+      decoded = rw (take_more_set l.symbols l.place x within, pairs_next P own before tables x table (omega (arith, l.invariant.count, c.requires.count)) (rw long at))
           (InTurn-more (λ item. Decodes g.Word.BitArray.BITS g.State.BitArray.BITS item.model item.symbol) (pairs_of P own before tables) (item_of (record { precision = P; table = table }) x)
           _ l.coder.state c.decode_next.new.coder.state l.invariant.decoded c.decode_next.ensures.decoded);
       buffer = c.decode_next.ensures.buffer ∙ l.invariant.buffer;
       count = length-set l.symbols l.place x ∙ l.invariant.count;
+      tables = c.turn_to.ensures.tables ∙ l.invariant.tables;
     }
 
 pub returns-clause-decoded : goal.returns-clause-decoded

@@ -9,4 +9,5 @@ invariant-loop-place g l = record {
       l.initial.coder.state l.coder.state;
   buffer : l.coder.backend.buf.now ≡ l.initial.coder.backend.buf.now;
   count : length l.symbols ≡ length l.fn.symbols;
+  tables : g.L.ModelList.tables l.models ≡ g.L.ModelList.tables l.fn.models;
 }

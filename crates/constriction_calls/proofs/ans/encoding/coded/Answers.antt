@@ -17,6 +17,7 @@ symbols-init g c =
       valid = record { state = record { fits = c.from_raw_parts-coder.ensures.coder.head_fits; are_words = rw none tt }; full = inr none };
       models = rw end tt;
       coded = rw end refl;
+      tables = refl;
     }
 
 pub symbols-preserved : goal.symbols-preserved
@@ -26,19 +27,21 @@ symbols-preserved g c =
     let P = g.row.PRECISION in
     let own = λ (t : List (ℕ × ℕ × ℕ)). t in
     let kept = c.symbols.invariant in
+    let at = rw (c.turn_to.ensures.place, c.turn_to.ensures.tables, kept.tables) at c.model.ensures in
     let xs = c.args.symbols.now in
     let tables = g.L.ModelList.tables c.args.models.now in
     let left = c.symbols.left in
-    let table = g.L.Model.EntropyModel.table c.at.result.now in
+    let table = g.L.Model.EntropyModel.table c.model.result.now in
     let model : Model ℕ = record { precision = P; table = table } in
     let x = get_or xs (left - 1) 0 in
     let one = encode_of g.Word.BitArray.number _ _ w s _ model x c.symbols.coder c.encode_symbol.new.self kept.valid c.in-Ok.ensures.step in
-    let sized = g.met.L.Model.EntropyModel.sized c.at.result.now in
+    let sized = g.met.L.Model.EntropyModel.sized c.model.result.now in
     record {
       within = omega (arith, kept.within);
       valid = one.3.valid;
-      models = rw (drop_last P own xs tables left table c.symbols-test.true kept.within (sym c.requires.count) c.at.ensures)
-          (record { some_bits = sized.0; within_word = omega (arith, sized.1, g.met.P.WordOf.width_law); lawful = g.L.Model.EntropyModel.lawful c.at.result.now }, kept.models);
-      coded = rw (turned_last P own xs tables left table c.symbols-test.true kept.within (sym c.requires.count) c.at.ensures)
+      models = rw (drop_last P own xs tables left table c.symbols-test.true kept.within (sym c.requires.count) at)
+          (record { some_bits = sized.0; within_word = omega (arith, sized.1, g.met.P.WordOf.width_law); lawful = g.L.Model.EntropyModel.lawful c.model.result.now }, kept.models);
+      coded = rw (turned_last P own xs tables left table c.symbols-test.true kept.within (sym c.requires.count) at)
           (InTurn-more (λ item. Encodes w s item.model item.symbol) (reverse (drop left (pairs_of P own xs tables))) (item_of model x) _ c.symbols.coder.state c.encode_symbol.new.self.state kept.coded one);
+      tables = c.turn_to.ensures.tables ∙ kept.tables;
     }

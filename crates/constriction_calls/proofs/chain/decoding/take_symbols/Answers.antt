@@ -13,13 +13,15 @@ loop-place-preserved g c =
     let step = c.in-Ok-decode_symbol.ensures.step in
     let xs = c.loop-place.symbols.items in
     let ms = g.L.ModelList.tables c.args.models.now in
-    let next = pairs_next g.row.PRECISION own xs ms c.in-Ok-decode_symbol.symbol (g.L.Model.EntropyModel.table c.at.result.now) (omega (arith, kept.count, c.loop-place-test.true, c.requires)) (rw kept.count c.at.ensures) in
+    let at = rw (c.turn_to.ensures.place, c.turn_to.ensures.tables, kept.tables) at c.model.ensures in
+    let next = pairs_next g.row.PRECISION own xs ms c.in-Ok-decode_symbol.symbol (g.L.Model.EntropyModel.table c.model.result.now) (omega (arith, kept.count, c.loop-place-test.true, c.requires)) (rw kept.count at) in
     record {
       count = omega (arith, c.push_reserved.ensures.len, kept.count);
       capacity = omega (arith, c.push_reserved.ensures.capacity, kept.capacity);
       taken = rw (c.push_reserved.ensures.items, next)
           (InTurn-more (λ item. TakesOff g.Word.BitArray.BITS g.State.BitArray.BITS item.model item.symbol) (pairs_of g.row.PRECISION own xs ms) _ c.args.coder.now.state c.loop-place.coder.state
           c.decode_symbol.new.self.state kept.taken (step.0, step.1, step.2, step.3.outcome.decoded tt));
+      tables = c.turn_to.ensures.tables ∙ kept.tables;
     }
 
 pub returns-in-Err-Frontend-clause-err : goal.returns-in-Err-Frontend-clause-err

@@ -13,6 +13,7 @@ symbols-init g c =
     record {
       within = omega arith;
       put = rw (pairs_end g.row.PRECISION (λ (t : List (ℕ × ℕ × ℕ)). t) c.args.symbols.now (g.L.ModelList.tables c.args.models.now)) refl;
+      tables = refl;
     }
 
 pub symbols-preserved : goal.symbols-preserved
@@ -24,14 +25,16 @@ symbols-preserved g c =
     let xs = c.args.symbols.now in
     let ms = g.L.ModelList.tables c.args.models.now in
     let left = c.symbols.left in
-    let model : Model ℕ = record { precision = g.row.PRECISION; table = g.L.Model.EntropyModel.table c.at.result.now } in
+    let at = rw (c.turn_to.ensures.place, c.turn_to.ensures.tables, c.symbols.invariant.tables) at c.model.ensures in
+    let model : Model ℕ = record { precision = g.row.PRECISION; table = g.L.Model.EntropyModel.table c.model.result.now } in
     let x = get_or xs (left - 1) 0 in
     let one = encode_of g.Word.BitArray.number _ _ _ _ w s _ model x c.symbols.coder c.encode_symbol.new.self tt c.in-Ok.ensures.step in
     record {
       within = omega (arith, kept.within);
-      put = rw (turned_last g.row.PRECISION own xs ms left model.table c.symbols-test.true kept.within c.requires c.at.ensures)
+      put = rw (turned_last g.row.PRECISION own xs ms left model.table c.symbols-test.true kept.within c.requires at)
           (InTurn-more (λ item. PutsBack w s item.model item.symbol) (reverse (drop left (pairs_of g.row.PRECISION own xs ms))) (item_of model x) c.args.coder.now.state c.symbols.coder.state
           c.encode_symbol.new.self.state kept.put one);
+      tables = c.turn_to.ensures.tables ∙ kept.tables;
     }
 
 pub returns-in-Err-Frontend-ImpossibleSymbol-clause-err : goal.returns-in-Err-Frontend-ImpossibleSymbol-clause-err
@@ -39,12 +42,13 @@ returns-in-Err-Frontend-ImpossibleSymbol-clause-err g c =
     let e = c.in-Err-Frontend-ImpossibleSymbol in
     let xs = c.args.symbols.now in
     let left = c.symbols.left in
-    let model : Model ℕ = record { precision = g.row.PRECISION; table = g.L.Model.EntropyModel.table c.at.result.now } in
+    let at = rw (c.turn_to.ensures.place, c.turn_to.ensures.tables, c.symbols.invariant.tables) at c.model.ensures in
+    let model : Model ℕ = record { precision = g.row.PRECISION; table = g.L.Model.EntropyModel.table c.model.result.now } in
     let never = impossible_at g.Word.BitArray.number _ _ _ _ g.Word.BitArray.BITS g.State.BitArray.BITS model (get_or xs (left - 1) 0) c.symbols.coder c.encode_symbol.new.self
     (rw (e.is ∙ ap Err (e.field-0-is ∙ ap Frontend e.field-0-0-is)) at c.encode_symbol.ensures.step) in
     inr (inl (
       refl,
-      unknown_last g.row.PRECISION (λ (t : List (ℕ × ℕ × ℕ)). t) xs (g.L.ModelList.tables c.args.models.now) left model.table c.symbols-test.true c.symbols.invariant.within c.requires c.at.ensures never,
+      unknown_last g.row.PRECISION (λ (t : List (ℕ × ℕ × ℕ)). t) xs (g.L.ModelList.tables c.args.models.now) left model.table c.symbols-test.true c.symbols.invariant.within c.requires at never,
     ))
 
 pub returns-in-Err-Frontend-OutOfRemainders-clause-err : goal.returns-in-Err-Frontend-OutOfRemainders-clause-err
@@ -55,7 +59,8 @@ returns-in-Err-Frontend-OutOfRemainders-clause-err g c =
     let xs = c.args.symbols.now in
     let ms = g.L.ModelList.tables c.args.models.now in
     let left = c.symbols.left in
-    let model : Model ℕ = record { precision = g.row.PRECISION; table = g.L.Model.EntropyModel.table c.at.result.now } in
+    let at = rw (c.turn_to.ensures.place, c.turn_to.ensures.tables, c.symbols.invariant.tables) at c.model.ensures in
+    let model : Model ℕ = record { precision = g.row.PRECISION; table = g.L.Model.EntropyModel.table c.model.result.now } in
     let items = pairs_of g.row.PRECISION own xs ms in
     let stop = lacks_at g.Word.BitArray.number _ _ _ _ g.Word.BitArray.BITS g.State.BitArray.BITS model (get_or xs (left - 1) 0) c.symbols.coder c.encode_symbol.new.self tt
     (rw (e.is ∙ ap Err (e.field-0-is ∙ ap Frontend e.field-0-0-is)) at c.encode_symbol.ensures.step) in
@@ -66,7 +71,7 @@ returns-in-Err-Frontend-OutOfRemainders-clause-err g c =
         item = item_of model (get_or xs (left - 1) 0);
         others = reverse (take (left - 1) items);
         last = c.symbols.coder.state;
-        parts = parted_last g.row.PRECISION own xs ms left model.table c.symbols-test.true kept.within c.requires c.at.ensures;
+        parts = parted_last g.row.PRECISION own xs ms left model.table c.symbols-test.true kept.within c.requires at;
         put = kept.put;
         needs = stop.0;
         ended = stop.1;

@@ -1,0 +1,198 @@
+//! `Mixtures`: a row of components of a family for each symbol.
+
+mod mixed;
+mod weighing;
+
+ghost use Rattle.std.specs.Prelude.{◌≡◌, ℕ, ◌*◌, ◌<◌, ◌≤◌, Some, get_or, length, vec_capacity};
+ghost use Rattle.constriction_models.specs.Mixtures.{weighted};
+ghost use Rattle.constriction_models.specs.Quantizers.{symbol_count, first_symbol};
+ghost use Rattle.constriction_inputs.specs.Mixtures.{AreMixable, by_mixture, components_of, mixture_tables, row_of_place};
+ghost use Rattle.constriction_inputs.specs.Quantized.{family_of, symbols_in};
+
+use crate::models::{Families, ModelList, Models};
+use crate::refusal::Refusal;
+use crate::rows::adding::is_product;
+use constriction_models::distribution::CumulativeDistribution;
+use constriction_models::families::{Family, FamilyDistribution};
+use constriction_models::mixture::Component;
+use constriction_models::quantizer::LeakyQuantizer;
+use constriction_words::{BitArray, WordOf};
+pub use mixed::MixedDistribution;
+use mixed::{fill_from_row, first_component};
+use std::alloc::Global;
+use weighing::are_mixable;
+
+/// Mixtures of a family: each symbol has a row of `width` components, each with a location, a scale and a weight.
+///
+/// Rows stand one behind another, one for each symbol. The locations and scales are those of `components`, in
+/// multiples of `2^-16`, and its symbols are indices in its range. The weights of a row are shares: they add up to
+/// more than 0, and to `2^32` at most. A component of weight 0 changes nothing.
+///
+/// # Examples
+///
+/// ```
+/// // Two symbols from 0 to 255, each under two logistic distributions, the first of which has three quarters.
+/// let components = Families::new(
+///     2,
+///     0,
+///     255,
+///     &[6553600, 13107200, 6553600, 13107200],
+///     &[65536, 262144, 65536, 262144],
+/// );
+/// let mixtures = Mixtures::new(components, &[3, 1, 3, 1], 2);
+/// ```
+#[derive(Clone, Copy, Drop)]
+pub struct Mixtures<'a> {
+    /// The components of all symbols, as a family with a location and a scale for each.
+    pub components: Families<'a>,
+    /// The weight of each component.
+    pub weights: &'a [u32],
+    /// How many components each symbol has.
+    pub width: usize,
+}
+
+impl<'a> Mixtures<'a> {
+    /// Creates mixtures of `width` components each. The type has an example.
+    #[inline]
+    pub fn new(components: Families<'a>, weights: &'a [u32], width: usize) -> Self
+        ensures { (result.components ≡ components.entry) × (result.weights.now ≡ weights.now) × (result.width ≡ width) }
+    {
+        Mixtures {
+            components,
+            weights,
+            width,
+        }
+    }
+}
+
+impl<'a, P: WordOf<u32>, const PRECISION: usize> Models<P, PRECISION> for Mixtures<'a> {
+    type List = MixtureList<'a, P, PRECISION>;
+
+    ghost coded = { λ given. by_mixture
+        (record {
+          components = record {
+            family = given.components.family;
+            min = given.components.min;
+            max = given.components.max;
+            locations = given.components.locations.now;
+            scales = given.components.scales.now;
+          };
+          weights = given.weights.now;
+          width = given.width;
+        }) };
+
+    fn check(&self, symbols: &[usize]) -> Result<(), Refusal> {
+        if !is_product(self.weights.len(), self.width, symbols.len()) {
+            return Err(Refusal::WrongLength);
+        }
+        if self.components.locations.len() != self.weights.len() {
+            return Err(Refusal::WrongLength);
+        }
+        match self.components.quantizer::<P, PRECISION>() {
+            Ok(_) => {}
+            Err(refusal) => return Err(refusal),
+        }
+        if self.width == 0 || !are_mixable(self.weights, self.width, symbols.len()) {
+            return Err(Refusal::WrongWeights);
+        }
+        Ok(())
+    }
+
+    fn know(&self, symbols: &[usize]) -> bool {
+        self.components.are_places(symbols)
+    }
+
+    fn list(
+        &self,
+        alloc: Global,
+        symbols: &[usize],
+        _divides: bool,
+    ) -> Option<MixtureList<'a, P, PRECISION>> {
+        let Ok((family, quantizer)) = self.components.quantizer::<P, PRECISION>() else {
+            return None;
+        };
+        let Ok(mut components) = Vec::with_capacity(alloc, self.width) else {
+            return None;
+        };
+        components.push_reserved(first_component(family));
+        Some(MixtureList {
+            mixtures: *self,
+            family,
+            count: symbols.len(),
+            place: symbols.len(),
+            mixed: MixedDistribution::new(components, quantizer),
+        })
+    }
+}
+
+/// The models of mixtures. It has memory for one row of components, which each symbol fills anew.
+///
+/// # Examples
+///
+/// ```
+/// if let Some(mut list) = Models::<u32, 24>::list(&mixtures, alloc, &[100, 200], false) {
+///     ModelList::<u32, 24>::turn_to(&mut list, 1);
+///     ModelList::<u32, 24>::model(&list).quantile_function(8388608)
+/// }
+/// ```
+#[derive(Drop)]
+pub struct MixtureList<'a, P: WordOf<u32>, const PRECISION: usize> {
+    mixtures: Mixtures<'a>,
+    family: Family,
+    count: usize,
+    place: usize,
+    mixed: MixedDistribution<FamilyDistribution, P, PRECISION>,
+    ghost named: { family_of mixtures.components.family ≡ Some family },
+    ghost first: { first_symbol mixed.quantizer ≡ mixtures.components.min },
+    ghost symbols: { symbol_count mixed.quantizer ≡ symbols_in mixtures.components.min mixtures.components.max },
+    ghost weighed: { length mixtures.weights.now ≡ mixtures.width * count },
+    ghost located: { length mixtures.components.locations.now ≡ length mixtures.weights.now },
+    ghost stretched: { length mixtures.components.scales.now ≡ length mixtures.weights.now },
+    ghost scaled: { (k : ℕ) → k < length mixtures.components.scales.now → 0 < get_or mixtures.components.scales.now k 0 },
+    ghost mixable: { AreMixable mixtures.width count mixtures.weights.now },
+    ghost room: { mixtures.width ≤ vec_capacity mixed.components },
+    ghost filled: { place < count →
+        weighted ⟦<FamilyDistribution as CumulativeDistribution>⟧.below mixed.components.items
+        ≡ components_of (Some family) (row_of_place mixtures.width place mixtures.weights.now)
+        (row_of_place mixtures.width place mixtures.components.locations.now)
+        (row_of_place mixtures.width place mixtures.components.scales.now) },
+}
+
+impl<'a, P: WordOf<u32>, const PRECISION: usize> ModelList<P, PRECISION>
+    for MixtureList<'a, P, PRECISION> {
+    type Model = MixedDistribution<FamilyDistribution, P, PRECISION>;
+
+    ghost tables = { λ list. mixture_tables PRECISION
+        (record {
+          components = record {
+            family = list.mixtures.components.family;
+            min = list.mixtures.components.min;
+            max = list.mixtures.components.max;
+            locations = list.mixtures.components.locations.now;
+            scales = list.mixtures.components.scales.now;
+          };
+          weights = list.mixtures.weights.now;
+          width = list.mixtures.width;
+        }) list.count };
+
+    ghost turned_to = { λ list. list.place };
+
+    #[inline]
+    fn turn_to(&mut self, place: usize) {
+        fill_from_row(
+            &mut self.mixed.components,
+            self.family,
+            self.mixtures.width,
+            place,
+            self.mixtures.weights,
+            self.mixtures.components.locations,
+            self.mixtures.components.scales,
+        );
+        self.place = place;
+    }
+
+    #[inline]
+    fn model(&self) -> &MixedDistribution<FamilyDistribution, P, PRECISION> {
+        &self.mixed
+    }
+}

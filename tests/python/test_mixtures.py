@@ -1,0 +1,164 @@
+"""Mixtures: their words are those of the definitions, from lists and from arrays, and each fault is told with its
+place."""
+
+from __future__ import annotations
+
+import random
+import unittest
+from typing import Any
+
+import definitions as by
+import definitions_of_models as models
+from constriction import errors
+from constriction.stream.chain import ChainCoder
+from constriction.stream.model import (
+    QuantizedGaussian, QuantizedLaplace, QuantizedLogistic, QuantizedMixture, Uniform,
+)  # fmt: skip
+from constriction.stream.queue import RangeDecoder, RangeEncoder
+from constriction.stream.stack import AnsCoder
+
+FAMILIES: Any = {
+    models.GAUSSIAN: QuantizedGaussian, models.LAPLACE: QuantizedLaplace, models.LOGISTIC: QuantizedLogistic,
+}  # fmt: skip
+LEAST, GREATEST = -50, 50
+SYMBOLS = [-31, -12, 8, 27, 50, -50]
+WEIGHTS = [[0.25, 0.5, 0.25], [0.0, 0.0, 1.0], [0.1, 0.2, 0.7], [2e-10, 1.0, 0.5], [0.9, 0.05, 0.05], [0.3, 0.3, 0.3]]
+MEANS = [
+    [-28.5, -33.25, 12.0], [6.0, 1.0, -12.5], [29.25, 8.0, 7.0], [27.5, -50.0, 60.0], [0.0, 1.0, 2.0],
+    [-49.0, 49.0, 1e9],
+]  # fmt: skip
+SCALES = [[4.0, 2.0, 30.0], [4.0, 1e-9, 2.5], [0.75, 6.0, 3.25], [12.0, 1.0, 1e9], [1.0, 2.0, 3.0], [0.5, 0.25, 8.0]]
+
+
+def tables(family: str) -> list[list[int]]:
+    """The weights by the definitions, floats rounded by exact fractions."""
+    return [
+        models.mixture(
+            family, [round(models.Fraction(it) * 2**31) for it in weights],
+            [min(max(models.location_of(it), -(2**62)), 2**62) for it in means],
+            [models.scale_of(it) for it in scales], LEAST, GREATEST - LEAST + 1,
+        )
+        for weights, means, scales in zip(WEIGHTS, MEANS, SCALES)
+    ]  # fmt: skip
+
+
+def mixture(family: str = models.LOGISTIC) -> QuantizedMixture:
+    return QuantizedMixture(FAMILIES[family](LEAST, GREATEST))
+
+
+class Words(unittest.TestCase):
+    def test_words(self) -> None:
+        for family in models.FAMILIES:
+            model, given, found = mixture(family), (WEIGHTS, MEANS, SCALES), tables(family)
+            places = [symbol - LEAST for symbol in SYMBOLS]
+            stack, queue = AnsCoder(), RangeEncoder()
+            stack.encode_reverse(SYMBOLS, model, *given)
+            queue.encode(SYMBOLS, model, *given)
+            words = list(queue.get_compressed())
+            self.assertEqual(list(stack.get_compressed()), by.ans_words(found, places))
+            self.assertEqual(words, by.range_words(found, places))
+            self.assertEqual(list(stack.decode(model, *given)), SYMBOLS)
+            self.assertEqual(list(RangeDecoder(words).decode(model, *given)), SYMBOLS)
+
+    def test_chain(self) -> None:
+        dice = random.Random(7)
+        words = [dice.randrange(1, 1 << 32) for _ in range(len(SYMBOLS) + 4)]
+        for family in models.FAMILIES:
+            coder, model, given = ChainCoder(words), mixture(family), (WEIGHTS, MEANS, SCALES)
+            symbols = list(coder.decode(model, *given))
+            self.assertEqual([it - LEAST for it in symbols], by.chain_split(tables(family), words)[0])
+            coder.encode_reverse(symbols, model, *given)
+            self.assertEqual([it for part in coder.get_data() for it in part], words)
+
+    def test_one_component_is_that_component(self) -> None:
+        for kind in FAMILIES.values():
+            alone, model = AnsCoder(), AnsCoder()
+            means, scales = [it[0] for it in MEANS], [it[0] for it in SCALES]
+            alone.encode_reverse(SYMBOLS, kind(LEAST, GREATEST), means, scales)
+            model.encode_reverse(
+                SYMBOLS, QuantizedMixture(kind(LEAST, GREATEST)), [[0.7]] * 6, [[it] for it in means], [[it] for it in scales],
+            )  # fmt: skip
+            self.assertEqual(list(alone.get_compressed()), list(model.get_compressed()))
+
+    def test_one_symbol(self) -> None:
+        coder, model = AnsCoder(), mixture()
+        coder.encode_reverse(8, model, WEIGHTS[2], MEANS[2], SCALES[2])
+        self.assertEqual(list(coder.get_compressed()), by.ans_words(tables(models.LOGISTIC)[2:3], [58]))
+        self.assertEqual(coder.decode(model, WEIGHTS[2], MEANS[2], SCALES[2]), 8)
+
+    def test_many(self) -> None:
+        dice, count, model = random.Random(3), 70000, mixture()
+        given = [[[dice.random() for _ in range(2)] for _ in range(count)] for _ in range(3)]
+        symbols = [dice.randint(LEAST, GREATEST) for _ in range(count)]
+        coder = AnsCoder()
+        coder.encode_reverse(symbols, model, *given)
+        self.assertEqual(list(coder.decode(model, *given)), symbols)
+
+    def test_none(self) -> None:
+        coder, model = AnsCoder(), mixture()
+        coder.encode_reverse([], model, [], [], [])
+        self.assertTrue(coder.is_empty())
+        self.assertEqual(list(coder.decode(model, [], [], [])), [])
+
+
+class Faults(unittest.TestCase):
+    def refused(self, kind: Any, text: str, *given: Any, symbols: Any = SYMBOLS) -> None:
+        for call in (AnsCoder().encode_reverse, RangeEncoder().encode):
+            with self.assertRaises(kind) as found:
+                call(symbols, mixture(), *given)
+            self.assertEqual(str(found.exception), text)
+        if symbols is SYMBOLS:
+            with self.assertRaises(kind) as found:
+                AnsCoder().decode(mixture(), *given)
+            self.assertEqual(str(found.exception), text)
+
+    def test_weights(self) -> None:
+        why = "and have to add up to more than 0, and to 2 at most"
+        none, much = [list(it) for it in WEIGHTS], [list(it) for it in WEIGHTS]
+        none[3], much[4] = [0.0, 0.0, 1e-12], [1.0, 0.75, 0.5]
+        self.refused(errors.WrongWeightsError, f"the weights of symbol 3 add up to 1e-12, {why}", none, MEANS, SCALES)
+        self.refused(errors.WrongWeightsError, f"the weights of symbol 4 add up to 2.25, {why}", much, MEANS, SCALES)
+        much[4] = [7.0, 0.0, 0.0]
+        self.refused(errors.WrongWeightsError, f"the weights of symbol 4 add up to 7.0, {why}", much, MEANS, SCALES)
+        none[3][1] = -0.5
+        self.refused(ValueError, "weight 1 of symbol 3 is -0.5, and has to be at least 0 and finite", none, MEANS, SCALES)
+
+    def test_parameters(self) -> None:
+        means, scales = [list(it) for it in MEANS], [list(it) for it in SCALES]
+        means[2][1], scales[5][0] = float("inf"), 0.0
+        self.refused(ValueError, "mean 1 of symbol 2 is inf, and has to be finite", WEIGHTS, means, SCALES)
+        self.refused(ValueError, "scale 0 of symbol 5 is 0.0, and has to be positive and finite", WEIGHTS, MEANS, scales)
+
+    def test_lengths(self) -> None:
+        shapes = "weights and parameters have to have one shape (n, K), and have"
+        self.refused(errors.WrongLengthError, f"{shapes} (6, 3) and (5, 3) and (6, 3)", WEIGHTS, MEANS[:5], SCALES)
+        narrow = [it[:2] for it in SCALES]
+        self.refused(errors.WrongLengthError, f"{shapes} (6, 3) and (6, 3) and (6, 2)", WEIGHTS, MEANS, narrow)
+        ragged = [*SCALES[:4], [1.0], SCALES[5]]
+        self.refused(errors.WrongLengthError, "symbol 0 has 3 components, and symbol 4 has 1", WEIGHTS, MEANS, ragged)
+        empty: Any = [[]] * 6
+        self.refused(
+            errors.WrongWeightsError, "a mixture has at least one component, and rows of none were handed in", empty, empty, empty,
+        )  # fmt: skip
+        why = "there are 2 symbols and 6 sets of parameters: each symbol has one"
+        self.refused(errors.WrongLengthError, why, WEIGHTS, MEANS, SCALES, symbols=[1, 2])
+
+    def test_symbols(self) -> None:
+        coder = AnsCoder()
+        with self.assertRaises(errors.ImpossibleSymbolError) as found:
+            coder.encode_reverse([0, 0, 51, 0, 0, 0], mixture(), WEIGHTS, MEANS, SCALES)
+        self.assertEqual((found.exception.symbol, found.exception.place), (51, 2))
+
+    def test_components(self) -> None:
+        for wrong in (QuantizedLogistic(-9, 9, 0.5), QuantizedLogistic(5, 5), Uniform(4), None):
+            with self.assertRaises(TypeError):
+                QuantizedMixture(wrong)  # type: ignore[arg-type]
+        with self.assertRaises(TypeError):
+            AnsCoder().decode(mixture(), 4)
+        self.assertEqual(repr(mixture()), "QuantizedMixture(QuantizedLogistic(-50, 50))")
+        self.assertEqual(mixture(), mixture())
+        self.assertNotEqual(mixture(), mixture(models.GAUSSIAN))
+
+
+if __name__ == "__main__":
+    unittest.main()
