@@ -14,10 +14,10 @@ invariant-loop-i g l =
     record {
       counted : length l.again.items ≡ l.i;
       capacity : vec_capacity l.again ≡ l.fn.count;
-      tables : g.L.ModelList.tables l.list ≡ tables;
       taken : (words : List ℕ) (old : Run) → StandsAt w s words old l.fn.decoder
           → (mid : Run) × FindsAll w s words (items l.again.items tables) old mid × StandsAt w s words mid l.decoder;
       left : (words symbols : List ℕ) (old last : Run) → StandsAt w s words old l.fn.decoder → FindsAll w s words (items symbols tables) old last
           → length symbols ≡ l.fn.count
           → (mid : Run) × StandsAt w s words mid l.decoder × FindsAll w s words (items (drop l.i symbols) (drop l.i tables)) mid last;
+      tables : g.L.ModelList.tables l.list ≡ tables;
     }
