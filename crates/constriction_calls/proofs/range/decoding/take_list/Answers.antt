@@ -10,13 +10,13 @@ returns-in-Err-clause-err g c = λ words symbols old last at all count.
     let own = λ (t : List (ℕ × ℕ × ℕ)). t in
     let tables = g.L.ModelList.tables c.args.list.now in
     let m = c.model.result.now in
-    let at = rw (c.turn_to.ensures.place, c.turn_to.ensures.tables, c.loop-i.invariant.tables) at c.model.ensures in
+    let placed = rw (c.turn_to.ensures.place, c.turn_to.ensures.tables, c.loop-i.invariant.tables) at c.model.ensures in
     let i = c.loop-i.i in
     let sized = g.met.L.Model.EntropyModel.sized m in
     let model : Model ℕ = record { precision = P; table = g.L.Model.EntropyModel.table m } in
     let lawful : IsModel g.Word.BitArray.BITS model = record { some_bits = sized.0; within_word = omega (arith, sized.1, g.met.P.WordOf.width_law); lawful = g.L.Model.EntropyModel.lawful m } in
     let here = c.loop-i.invariant.left words symbols old last at all count in
-    let next = pairs_left P own symbols tables i model.table (omega (arith, c.loop-i-test.true, count)) (omega (arith, c.loop-i-test.true, c.requires)) at in
+    let next = pairs_left P own symbols tables i model.table (omega (arith, c.loop-i-test.true, count)) (omega (arith, c.loop-i-test.true, c.requires)) placed in
     never_refused _ g.Word.BitArray.number _ _ g.Word.BitArray.BITS g.State.BitArray.BITS words tt model (get_or symbols i 0) (pairs_of P own (drop (i + 1) symbols) (drop (i + 1) tables)) here.0 last
     c.loop-i.decoder c.decode_symbol.new.self c.in-Err.field-0 _ (λ e. elim e [ ]) lawful here.1 (rw next at here.2) (λ h. h.1) c.in-Err.ensures.step
 
@@ -29,7 +29,7 @@ loop-i-preserved g c =
     let tables = g.L.ModelList.tables c.args.list.now in
     let own = λ (t : List (ℕ × ℕ × ℕ)). t in
     let m = c.model.result.now in
-    let at = rw (c.turn_to.ensures.place, c.turn_to.ensures.tables, c.loop-i.invariant.tables) at c.model.ensures in
+    let placed = rw (c.turn_to.ensures.place, c.turn_to.ensures.tables, c.loop-i.invariant.tables) at c.model.ensures in
     let i = c.loop-i.i in
     let sized = g.met.L.Model.EntropyModel.sized m in
     let model : Model ℕ = record { precision = P; table = g.L.Model.EntropyModel.table m } in
@@ -45,12 +45,12 @@ loop-i-preserved g c =
       tables = c.turn_to.ensures.tables ∙ l.tables;
       taken = λ words old at. (
           let here = l.taken words old at in
-          let next = pairs_next P own xs tables x model.table (omega (arith, l.counted, c.loop-i-test.true, c.requires)) (rw l.counted at) in
+          let next = pairs_next P own xs tables x model.table (omega (arith, l.counted, c.loop-i-test.true, c.requires)) (rw l.counted placed) in
           rw (c.push_reserved.ensures.items, next) (one_more _ number _ _ w s words tt model (pairs_of P own xs tables) x old here.0 d new here.1 here.2 c.in-Ok-decode_symbol.ensures.step)
           );
       left = λ words symbols old last at all count. (
           let here = l.left words symbols old last at all count in
-          let next = pairs_left P own symbols tables i model.table (omega (arith, c.loop-i-test.true, count)) (omega (arith, c.loop-i-test.true, c.requires)) at in
+          let next = pairs_left P own symbols tables i model.table (omega (arith, c.loop-i-test.true, count)) (omega (arith, c.loop-i-test.true, c.requires)) placed in
           next_found _ number _ _ w s words tt model (get_or symbols i 0) x (pairs_of P own (drop (i + 1) symbols) (drop (i + 1) tables)) here.0 last d new lawful here.1 (rw next at here.2) c.in-Ok-decode_symbol.ensures.step
           );
     }
