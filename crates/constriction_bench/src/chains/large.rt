@@ -16,6 +16,12 @@ fn coder_of(alloc: Global, words: &[u32]) -> Option<DefaultChainCoder> {
     DefaultChainCoder::from_binary(alloc, words).ok()
 }
 
+/// The coder of a copy of remainders. There is none where no decode left them or memory is missing.
+fn coder_back(alloc: Global, remainders: &[u32]) -> Option<DefaultChainCoder> {
+    let remainders = remainders.to_vec(alloc).ok()?;
+    DefaultChainCoder::from_remainders(alloc, remainders).ok()
+}
+
 /// Writes as many words of the remainders with both heads on top as there is room for. It returns how many there
 /// are, 0 where memory is missing.
 fn give_remainders(coder: DefaultChainCoder, out: &mut [u32]) -> usize {
@@ -60,8 +66,7 @@ where
 /// none.
 #[inline(never)]
 fn encode_out<M: EncoderModel<24, Symbol = usize>>(
-    alloc: Global,
-    remainders: Vec<u32>,
+    found: Option<DefaultChainCoder>,
     symbols: &[usize],
     model: &M,
     out: &mut [u32],
@@ -69,31 +74,13 @@ fn encode_out<M: EncoderModel<24, Symbol = usize>>(
 where
     M::Probability: WordOf<u32>,
 {
-    let Ok(mut coder) = DefaultChainCoder::from_remainders(alloc, remainders) else {
+    let Some(mut coder) = found else {
         return 0;
     };
     if encode_each(&mut coder, symbols, model) {
         give_words(coder, out)
     } else {
         0
-    }
-}
-
-/// Puts symbols back from a copy of the remainders, the last first, and gives the words out. It returns how many they
-/// are, 0 where there are none or memory is missing.
-fn encode_in<M: EncoderModel<24, Symbol = usize>>(
-    alloc: Global,
-    remainders: &[u32],
-    symbols: &[usize],
-    model: &M,
-    out: &mut [u32],
-) -> usize
-where
-    M::Probability: WordOf<u32>,
-{
-    match remainders.to_vec(alloc) {
-        Ok(remainders) => encode_out(alloc, remainders, symbols, model, out),
-        Err(_) => 0,
     }
 }
 
@@ -124,7 +111,7 @@ pub extern "C" fn constriction_bench_chain_encode_u32u64p24_table(
     let Ok(table) = WeightTable::<u32, 24>::new(alloc, weights) else {
         return 0;
     };
-    encode_in(alloc, remainders, symbols, &table, out)
+    encode_out(coder_back(alloc, remainders), symbols, &table, out)
 }
 
 /// Decodes as many symbols below `2^bits` as there is room for, by equal weights.
@@ -154,7 +141,7 @@ pub extern "C" fn constriction_bench_chain_encode_u32u64p24_flat(
     let Some(flat) = Flat::<u32, 24>::new(bits) else {
         return 0;
     };
-    encode_in(alloc, remainders, symbols, &flat, out)
+    encode_out(coder_back(alloc, remainders), symbols, &flat, out)
 }
 
 /// Decodes as many symbols as there is room for, by a table with a symbol for each part of the quantiles.

@@ -17,6 +17,12 @@ fn coder_of(alloc: Global, words: &[u16]) -> Option<SmallChainCoder> {
     SmallChainCoder::from_binary(alloc, words).ok()
 }
 
+/// The coder of a copy of remainders. There is none where no decode left them or memory is missing.
+fn coder_back(alloc: Global, remainders: &[u16]) -> Option<SmallChainCoder> {
+    let remainders = remainders.to_vec(alloc).ok()?;
+    SmallChainCoder::from_remainders(alloc, remainders).ok()
+}
+
 /// Writes as many words of the remainders with both heads on top as there is room for. It returns how many there
 /// are, 0 where memory is missing.
 fn give_remainders(coder: SmallChainCoder, out: &mut [u16]) -> usize {
@@ -61,8 +67,7 @@ where
 /// none.
 #[inline(never)]
 fn encode_out<M: EncoderModel<12, Symbol = usize>>(
-    alloc: Global,
-    remainders: Vec<u16>,
+    found: Option<SmallChainCoder>,
     symbols: &[usize],
     model: &M,
     out: &mut [u16],
@@ -70,31 +75,13 @@ fn encode_out<M: EncoderModel<12, Symbol = usize>>(
 where
     M::Probability: WordOf<u16>,
 {
-    let Ok(mut coder) = SmallChainCoder::from_remainders(alloc, remainders) else {
+    let Some(mut coder) = found else {
         return 0;
     };
     if encode_each(&mut coder, symbols, model) {
         give_words(coder, out)
     } else {
         0
-    }
-}
-
-/// Puts symbols back from a copy of the remainders, the last first, and gives the words out. It returns how many they
-/// are, 0 where there are none or memory is missing.
-fn encode_in<M: EncoderModel<12, Symbol = usize>>(
-    alloc: Global,
-    remainders: &[u16],
-    symbols: &[usize],
-    model: &M,
-    out: &mut [u16],
-) -> usize
-where
-    M::Probability: WordOf<u16>,
-{
-    match remainders.to_vec(alloc) {
-        Ok(remainders) => encode_out(alloc, remainders, symbols, model, out),
-        Err(_) => 0,
     }
 }
 
@@ -125,7 +112,7 @@ pub extern "C" fn constriction_bench_chain_encode_u16u32p12_table(
     let Ok(table) = WeightTable::<u16, 12>::new(alloc, weights) else {
         return 0;
     };
-    encode_in(alloc, remainders, symbols, &table, out)
+    encode_out(coder_back(alloc, remainders), symbols, &table, out)
 }
 
 /// Decodes as many symbols below `2^bits` as there is room for, by equal weights.
@@ -155,7 +142,7 @@ pub extern "C" fn constriction_bench_chain_encode_u16u32p12_flat(
     let Some(flat) = Flat::<u16, 12>::new(bits) else {
         return 0;
     };
-    encode_in(alloc, remainders, symbols, &flat, out)
+    encode_out(coder_back(alloc, remainders), symbols, &flat, out)
 }
 
 /// Decodes as many symbols as there is room for, by a table with the symbol of each quantile.
