@@ -1,0 +1,23 @@
+//! The case of the library's lookup model, at words of 16 bits, states of 32 bits and a precision of 12 bits.
+
+use crate::runs::decode_in;
+use constriction_base::weights::WeightTable;
+use constriction_models::lookup::ContiguousLookupDecoderModel;
+use std::alloc::Global;
+
+/// Decodes as many symbols as there is room for, by the library's model with a row for each quantile.
+#[unsafe(no_mangle)]
+pub extern "C" fn constriction_bench_ans_decode_u16u32p12_rows(
+    alloc: Global,
+    weights: &[u16],
+    words: &[u16],
+    symbols: &mut [usize],
+) -> bool {
+    let Ok(table) = WeightTable::<u16, 12>::new(alloc, weights) else {
+        return false;
+    };
+    match ContiguousLookupDecoderModel::new(alloc, table) {
+        Ok(rows) => decode_in::<u16, u32, _, 12>(alloc, words, symbols, &rows),
+        Err(_) => false,
+    }
+}
