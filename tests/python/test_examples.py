@@ -14,7 +14,7 @@ from constriction import _library
 
 TOP = Path(__file__).resolve().parents[2]
 FOLDER = TOP / "examples/python"
-SCRIPTS = ("adaptive_text", "image", "bits_back", "records", "sampled_latent")
+SCRIPTS = ("adaptive_text", "image", "mixture_image", "bits_back", "records", "sampled_latent")
 ENVIRONMENT = {
     **os.environ,
     "PYTHONPATH": str(Path(_library.__file__).parents[1]),
