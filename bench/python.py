@@ -15,6 +15,8 @@ symbols, `gaussian` with a mean and a deviation of its own over -100 .. 100, `ro
 handed in (a decode makes a model of it). `bare` is a call of the C function alone, ans_decode of one symbol under
 three weights, by ctypes with all its arguments made before.
 
+Cases of `mixture` have five logistic distributions for each of 100,000 symbols of -128 .. 127, in arrays of numpy.
+
 Cases of `_categorical_` make a model of so many probabilities, in nanoseconds a model, and encode a symbol under each
 row of 256 probabilities, in nanoseconds a symbol.
 """
@@ -34,11 +36,15 @@ from unittest import mock
 
 from constriction._library import plain_function
 from constriction.stream.chain import ChainCoder
-from constriction.stream.model import Categorical, Model, QuantizedGaussian, WeightTable
+from constriction.stream.model import (
+    Categorical, Model, QuantizedGaussian, QuantizedLogistic, QuantizedMixture, WeightTable,
+)  # fmt: skip
 from constriction.stream.queue import RangeDecoder, RangeEncoder
 from constriction.stream.stack import AnsCoder
 
 COUNT, RUNS, PRECISION = 1_000_000, 11, 24
+#: So many symbols are under mixtures.
+MIXED = 100_000
 #: So many calls of one symbol are timed together.
 CALLS = 20_000
 
@@ -129,6 +135,22 @@ def gaussian_cases(numpy: Any) -> list[Case]:
                 run = run if kind == "numpy" else without_numpy(run)
                 cases.append((f"python_{coder}_{name}_u32u64p24_gaussian_{kind}", run))
     return cases
+
+
+def mixture_cases(numpy: Any) -> list[Case]:
+    """Encodes and decodes under five logistic distributions for each symbol, over 256 symbols, from numpy."""
+    dice, model = numpy.random.default_rng(1), QuantizedMixture(QuantizedLogistic(-128, 127))
+    weights = numpy.full((MIXED, 5), 0.2)
+    means, scales = dice.uniform(-30, 30, (MIXED, 5)), dice.uniform(0.3, 20.3, (MIXED, 5))
+    chosen = numpy.arange(MIXED), dice.integers(0, 5, MIXED)
+    drawn = dice.logistic(means[chosen], scales[chosen])
+    symbols = numpy.clip(numpy.rint(drawn), -128, 127).astype("int64")
+    words = encoded(symbols, model, "range", weights, means, scales)
+    assert (RangeDecoder(words).decode(model, weights, means, scales) == symbols).all()
+    return [
+        ("python_range_encode_u32u64p24_mixture_numpy", lambda: encoded(symbols, model, "range", weights, means, scales)),
+        ("python_range_decode_u32u64p24_mixture_numpy", lambda: RangeDecoder(words).decode(model, weights, means, scales)),
+    ]
 
 
 def bare() -> None:
@@ -284,6 +306,9 @@ def main() -> None:
     for name, run in cases:
         if wanted in name:
             print(f"{name} {least(run):.3f}", flush=True)
+    for name, run in mixture_cases(numpy) if numpy and ("mixture" in wanted or not wanted) else []:
+        if wanted in name:
+            print(f"{name} {least(run, MIXED):.0f}", flush=True)
     for name, run in single_cases(weights):
         if wanted in name:
             print(f"{name} {least(run, CALLS):.0f}", flush=True)
