@@ -39,7 +39,7 @@ def grammar(page):
         page.row(number, bits, len(bits) - 1, code, len(code))
         judge(len(code) == 2 * (len(bits) - 1) + 1, f"the length of the codeword of {number}")
         judge(read(code + "101", 32) == (number, len(code)), f"the codeword of {number} is read")
-    page.has("A number of `k + 1` bits after one is added takes `2 * k + 1` bits")
+    page.has("If `n + 1` has `k + 1` bits, the codeword has `2 * k + 1` bits")
     page.has("about `1 / (2 * (n + 1)^2)` of the time")
     total = sum(Fraction(1, 2 ** len(golomb(number))) for number in range(2**10 - 1))
     judge(total == 1 - Fraction(1, 2**10), "the room that the codewords take")
@@ -57,7 +57,7 @@ def one_behind_another(page):
     page.has(f"The numbers 0, 5, 7 are the bits {shown}")
     page.has(f"printf '0 5 7\\n' | ./constriction golomb # prints {shown}, and then {as_word(queue)}")
     suffixes = [golomb(number)[::-1] for number in reversed(numbers)]
-    page.has(f"For 0, 5, 7 that are {series(suffixes)} and the end bit: the word is {as_word(''.join(suffixes) + '1')}")
+    page.has(f"For 0, 5, 7 the bits are {series(suffixes)} and the end bit: the word is {as_word(''.join(suffixes) + '1')}")
 
 
 def reading(page):
@@ -68,7 +68,7 @@ def reading(page):
         number = 2 * number + int(bit)
         if count > 1:
             page.row(code[:count], zeros, number or "")
-    page.has(f"Of {code}:")
+    page.has(f"Reading {code}:")
     page.has(f"so it ends here: {number} - 1 = {number - 1}")
     greatest = golomb(2**8 - 1)
     judge(greatest == "0" * 8 + "1" + "0" * 8 and read(greatest, 8) == (255, 17), "the greatest number of 8 bits")
@@ -77,7 +77,7 @@ def reading(page):
     judge(read("0" * 32, 8) == ("InvalidCodeword", 9), "too many zeros")
     judge(read("0" * 8 + "1" + "00010000", 8) == ("InvalidCodeword", 17), "a tail that is not all zeros")
     judge(read("", 8)[0] == read("001", 8)[0] == "OutOfCompressedData", "the end of the bits")
-    page.has("`b + 1` zeros: of 8 bits, after 9 bits of the word 0")
+    page.has("`b + 1` zeros: for `b = 8`, after 9 bits of the word 0")
 
 
 def test():
