@@ -36,7 +36,7 @@ impl<Symbol> StepsUndo for Encoding<Symbol> {
     ghost one_undone = { λ g item new old allowed valid does. read_back g item new old allowed valid does };
 }
 
-/// Symbols with entries in their tables can be encoded on each run in exactly one way.
+/// Encoding symbols that have entries in their tables leads from any run to exactly one run.
 pub fn one_list_of_encodes<Symbol>()
     ensures exists { (w s : ℕ) (items : List (Item Symbol)) (old : Run) → AreKnown items →
         (new : Run) × NarrowsAll w s items old new }

@@ -6,7 +6,7 @@ ghost use Rattle.constriction_queue.specs.Range.{Run, ReadAs, Within, run, seale
 
 /// A decoder reads the encoded steps from sealed words.
 ///
-/// The encoder starts from the initial interval. If a state is two words wide, any words may follow the sealed words.
+/// The encoder starts from the initial interval. If `State` is two words wide, any words may follow the sealed words.
 pub fn sealed_words_are_read()
     ensures alone { (w s : ℕ) (steps : List Step) → IsSizes w s → AreSteps w steps →
         ReadAs w s (sealed w s (run w s steps (initial s))) steps (initial s) }

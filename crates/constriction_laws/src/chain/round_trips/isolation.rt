@@ -1,6 +1,6 @@
 //! Isolation through the calls: other models for some symbols don't change the other symbols.
 //!
-//! The law [`symbols_are_isolated`] says the same of runs that change the precision.
+//! The law [`symbols_are_isolated`] says the same of decodes with changes of the precision between them.
 
 ghost use Rattle.std.specs.Prelude.{◌≡◌, ◌⊎◌, length, IfErr, IfOk};
 ghost use Rattle.constriction_base.specs.Models.{pairs_of};
@@ -28,7 +28,7 @@ use std::alloc::Global;
 ///
 /// # Errors
 ///
-/// If `coder` stops, `same` is unchanged. If `same` stops, `coder` has decoded all its symbols.
+/// If a decode of `coder` fails, `same` is unchanged. If a decode of `same` fails, `coder` has decoded all its symbols.
 ///
 /// - `OutOfData(count)`: after `count` symbols one of the coders needs a word, and none is left.
 /// - `Refused`: a read or a write failed, or there was no memory.
