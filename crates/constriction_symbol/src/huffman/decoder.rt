@@ -156,7 +156,8 @@ impl DecoderHuffmanTree {
     ///
     /// Checked in this order:
     ///
-    /// - `Iterator(error)` if an item is `Err(error)`, unless memory runs out at a weight before it. Then `Memory`.
+    /// - At the first failing item: `Iterator(error)` if the item is `Err(error)`, or `Memory` if there is no memory for
+    ///   the item's weight.
     /// - The errors of [`DecoderHuffmanTree::from_probabilities`].
     ///
     /// # Examples
