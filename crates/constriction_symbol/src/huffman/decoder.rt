@@ -156,8 +156,8 @@ impl DecoderHuffmanTree {
     ///
     /// Checked in this order:
     ///
-    /// - At the first failing item: `Iterator(error)` if the item is `Err(error)`, or `Memory` if there is no memory for
-    ///   the item's weight.
+    /// - At the first failing item: `Iterator(error)` if the item is `Err(error)`, or `Memory` if there is no memory
+    ///   for the item's weight.
     /// - The errors of [`DecoderHuffmanTree::from_probabilities`].
     ///
     /// # Examples
