@@ -90,9 +90,10 @@ pub enum ThroughStore {
     LookUp(ChunkError),
 }
 
-/// Builds a store of chunks, and looks up the chunks with the numbers `places`, in any order.
+/// Builds a store of chunks, and looks up the chunks with the numbers `places`.
 ///
-/// Returns the store and the chunks looked up. These equal the given chunks with the same numbers.
+/// `places` may list the numbers in any order. Returns the store and the chunks looked up, in the order of `places`.
+/// Each equals the given chunk with the same number.
 ///
 /// # Errors
 ///
@@ -131,7 +132,7 @@ where
 /// Builds a store, takes it apart, and looks up chunks in a store made from the parts.
 ///
 /// Calls `build`, `into_parts`, `from_parts`, and `chunk` for each number in `places`. Returns the store made from the
-/// parts and the chunks looked up. These equal the given chunks with the same numbers.
+/// parts, and the chunks looked up, in the order of `places`. Each chunk equals the given chunk with the same number.
 ///
 /// # Errors
 ///

@@ -50,10 +50,10 @@ pub enum ExchangeError {
 /// # Errors
 ///
 /// - `LowHead`: the head is low before the exchange, and the coder is unchanged.
-/// - `LowHead`: the head is low after the decode. The decoded symbol is lost.
-/// - `ImpossibleSymbol`: the model `on` has no entry for `symbol`. The decoded symbol is lost.
-/// - `Refused`: the backend refused a word. In a decode the state is unchanged. In the encode that follows, the decoded
-///   symbol is lost.
+/// - `LowHead`: the head is low after the decode. The decode isn't undone, and its symbol is lost.
+/// - `ImpossibleSymbol`: the model `on` has no entry for `symbol`. The decode isn't undone, and its symbol is lost.
+/// - `Refused`: the backend refused a word. If the decode failed, the state is unchanged. If the encode failed, the
+///   decode isn't undone, and its symbol is lost.
 pub fn exchange<
     Word: WordOf<State>,
     State: BitArray,

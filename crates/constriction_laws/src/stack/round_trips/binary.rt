@@ -57,8 +57,8 @@ where
 
 /// Encodes symbols from last to first, each with its own model, and returns the coder's words in binary form.
 ///
-/// Calls `encode_symbols_reverse` and `into_binary`. If `coder` is left after decoding `symbols` from words in binary
-/// form with these models, the call returns those words.
+/// Calls `encode_symbols_reverse` and `into_binary`. If decoding `symbols` with these models from words in binary form
+/// led to the state of `coder`, the call returns those words.
 ///
 /// # Errors
 ///
