@@ -27,10 +27,15 @@
 //! - `steps`: the parts of a step, each on one of the two sides.
 //! - `moves`: moving words between the heads and a backend.
 //!
-//! Contracts cite the definitions of `specs/Walk.antt` (quantiles, as a walk on bits), `specs/Chain.antt` (states,
-//! steps, changes of precision), `specs/Words.antt` (imports and exports) and `specs/Steps.antt` (the possible results
-//! of a call over backends). The laws of `constriction_laws` also cite `specs/Symbols.antt`, `specs/Imports.antt` and
-//! `specs/Runs.antt`. Definitions describe words by natural numbers and list them in reading order.
+//! Contracts cite the definitions of these files:
+//!
+//! - `specs/Walk.antt`: quantiles, as a walk on bits.
+//! - `specs/Chain.antt`: states, steps, and changes of precision.
+//! - `specs/Words.antt`: imports and exports.
+//! - `specs/Steps.antt`: the possible results of a call over backends.
+//!
+//! The laws of `constriction_laws` also cite `specs/Symbols.antt`, `specs/Imports.antt` and `specs/Runs.antt`.
+//! Definitions describe words by natural numbers and list them in reading order.
 #![tactic(auto)]
 
 pub mod coder;

@@ -22,9 +22,10 @@ use std::alloc::Global;
 
 /// Decodes from two coders over the same words, each with its own list of models.
 ///
-/// Calls `decode_symbols` on `coder` with `models`, and on `same` with `others`. If both coders have the same
-/// compressed head and words, then equal tables at an index give equal symbols at that index, whatever the other tables
-/// are. The two lists may have models of different types.
+/// Calls `decode_symbols` on `coder` with `models`, and on `same` with `others`. Suppose that both coders have the same
+/// compressed head and compressed words. Then equal tables at an index give equal symbols at that index, whatever the
+/// other tables are. The two lists may have models of different types. Returns the symbols of `coder`, then those of
+/// `same`.
 ///
 /// # Errors
 ///

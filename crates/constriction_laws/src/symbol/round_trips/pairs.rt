@@ -50,8 +50,8 @@ pub fn encode_pairs<W: WriteBitStream<Queue>, C: EncoderCodebook>(
 
 /// Encodes symbols from last to first, each with its own codebook, onto a stack.
 ///
-/// Calls `encode_symbols_reverse`. Read from its end, the stack then has the codewords in the order of the list,
-/// followed by the bits that it had before the call.
+/// Calls `encode_symbols_reverse`. After the call, reading the stack gives the codewords in the order of the list. Then
+/// come the bits that the stack had before the call.
 ///
 /// # Errors
 ///
