@@ -2,6 +2,9 @@
 //!
 //! Each symbol has its own table, with any allowed precision. The laws follow from the laws of one step by
 //! [`lists_undo`]. The steps of that law take encodes back, from the last to the first.
+//!
+//! Words lie within a run if their number lies in the run's interval. The digits of this number are the first
+//! `n + s / w` words, where `n` is the run's count of moves. Digits past the last word are 0.
 
 ghost use Rattle.std.specs.Prelude.{◌≡◌, ◌↔◌, ◌∷◌, ℕ, List};
 ghost use Rattle.constriction_base.specs.Models.{Item, IsModel, models, AreModels, AreKnown};
@@ -36,7 +39,7 @@ impl<Symbol> StepsUndo for Encoding<Symbol> {
     ghost one_undone = { λ g item new old allowed valid does. read_back g item new old allowed valid does };
 }
 
-/// Symbols with entries in their tables can be encoded on each run in exactly one way.
+/// Encoding symbols that have entries in their tables leads from any run to exactly one run.
 pub fn one_list_of_encodes<Symbol>()
     ensures exists { (w s : ℕ) (items : List (Item Symbol)) (old : Run) → AreKnown items →
         (new : Run) × NarrowsAll w s items old new }

@@ -18,7 +18,8 @@ use constriction_words::{BitArray, WordOf};
 
 /// Seeking to the position of a run leads a decoder to that run.
 ///
-/// The decoder reads `s / w` words from the position on, as many as a state has. These words make its point.
+/// The decoder reads the `s / w` words from the position on, with zeros past the last word. Read as one number, these
+/// words are its point.
 pub fn position_leads_there()
     ensures { (w s : ℕ) (words rest : List ℕ) (there : Run) (place lower range point : ℕ) → IsSizes w s →
         AreWords w words → IsPosition s there place lower range →
