@@ -122,9 +122,9 @@ pub fn append_words<Word: WordOf<State>, State: BitArray, Backend: WriteWords<Wo
 
 /// Reads words into a head until the head is at least `2 ^ bits` or no word is left.
 ///
-/// Returns the new head, and whether it is at least `2 ^ bits`. Each read shifts the head up by one word and puts the
-/// word read in its lowest place. If the head is at least `2 ^ bits` already, the call reads no word. The caller proves
-/// that the head is above 0, and that `State` is wide enough for `bits` bits and one more word.
+/// Returns the new head, and whether it is at least `2 ^ bits`. For each word read, the head is shifted up by one word,
+/// and the word read becomes its lowest word. If the head is at least `2 ^ bits` already, the call reads no word. The
+/// caller proves that the head is above 0, and that `State` is wide enough for `bits` bits and one more word.
 ///
 /// # Errors
 ///

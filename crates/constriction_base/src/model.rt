@@ -1,4 +1,4 @@
-//! Model traits. A model gives each symbol an interval of numbers, which stands for the symbol's probability.
+//! Model traits. A model gives each symbol an interval of numbers, whose length stands for the symbol's probability.
 //!
 //! A model of a given precision (in bits) partitions its quantiles, the numbers below `2 ^ PRECISION`, into intervals.
 //! Each symbol that the model can code has one interval. [`EncoderModel`] finds the interval of a symbol.

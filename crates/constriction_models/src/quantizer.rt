@@ -46,7 +46,7 @@ impl<Probability: WordOf<u32>, const PRECISION: usize> LeakyQuantizer<Probabilit
 
     /// Creates the quantizer of the symbols from `min` to `max`, both included.
     ///
-    /// The type has an example.
+    /// The caller proves that `PRECISION` is at least 1 and at most `Probability::BITS`. The type has an example.
     ///
     /// # Errors
     ///

@@ -124,7 +124,7 @@ impl<Word: WordOf<State>, State: BitArray, Backend: Holds<Word, Stack>> RangeEnc
     /// Makes an encoder without symbols that writes after the words of a backend.
     ///
     /// The backend's words stay before the encoder's own words. If the backend holds no words, the encoder starts in
-    /// the same way as an encoder of [`RangeEncoder::new`].
+    /// the same state as an encoder that [`RangeEncoder::new`] makes.
     ///
     /// # Examples
     ///

@@ -119,7 +119,7 @@ impl<
     /// # Errors
     ///
     /// - `Frontend(InvalidData)`: returned exactly if the words don't encode a symbol of any model with the precision
-    ///   in use (`P1` up to the flag, `P2` after it). The switch is unchanged.
+    ///   in use: `P1` bits up to and including the flag, and `P2` bits after it. The switch is unchanged.
     /// - `Backend(error)`: returned only if a word had to be read and the read returned `error`. The result of
     ///   `switched` is unchanged. The decoder is in the state in which the failed `decode_symbol` left it.
     pub fn next_symbol<M1, M2>(

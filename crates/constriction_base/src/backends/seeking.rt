@@ -1,8 +1,8 @@
 //! Positions in a backend or in a coder.
 //!
 //! For vectors and cursors, `can_seek` and `seek_fails` exclude each other: a seek succeeds exactly if `can_seek`
-//! holds, and a refused seek changes nothing. For a coder, both may hold for the same position, because the coder reads
-//! after its backend's seek, or has two backends. `stays` states how a refused seek may change the value.
+//! holds, and a refused seek changes nothing. Some coders read after their backend's seek, or have two backends. For
+//! these coders, both may hold for the same position. `stays` states how a refused seek may change the value.
 
 ghost use Rattle.std.specs.Prelude.{◌≡◌, ℕ, length, IsOk, OnOk, OnErr};
 

@@ -1,7 +1,7 @@
 //! Coders for reading: over other backends, over borrowed words, over words in reading order, and with seeking.
 //!
-//! `into_reversed` goes through the trait `IntoReversed`, because separate methods for cursors and for reversed cursors
-//! have no proved callers.
+//! `into_reversed` goes through the trait `IntoReversed`. With separate methods for cursors and for reversed cursors,
+//! code that calls them couldn't be proved.
 
 ghost use Rattle.constriction_base.specs.Readings.{BeginsHigh};
 ghost use Rattle.constriction_base.specs.Iterators.{FusedRead};
