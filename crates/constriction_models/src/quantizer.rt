@@ -290,7 +290,7 @@ fn between(low: u64, high: u64, wanted: u64) -> u64
     }
 }
 
-/// Returns how many symbols farther a search looks next: one at first, then as many as the mass of the last stride says.
+/// Returns how many symbols farther a search looks next: one at first, then as many as the last stride's mass says.
 ///
 /// Where a search has turned, it lies between two known symbols, and the answer leads past them, so that halves follow.
 #[inline(always)]
