@@ -54,7 +54,8 @@ impl<Word: WordOf<State>, State: BitArray, Backend: WriteWords<Word>> AnsCoder<
     ///
     /// # Errors
     ///
-    /// The call stops at the item that fails. Exactly the symbols of the items after this item in the list are encoded.
+    /// The call goes from the last item to the first, and stops at an item that fails. Exactly the symbols of the items
+    /// after this item in the list are encoded.
     ///
     /// - `InvalidEntropyModel(error)`: the item is `Err(error)`. It doesn't change the coder.
     /// - `CodingError(error)`: the coder refuses the item's symbol.
