@@ -24,7 +24,7 @@ pub trait IntoDecoder<const PRECISION: usize>: Encode<PRECISION> {
 
     /// Relates the encoder to each error that `into_decoder` may return instead.
     ///
-    /// An implementor chooses this relation freely. It never holds if every encoder turns into a decoder.
+    /// An implementor chooses this relation freely. If every encoder turns into a decoder, the relation never holds.
     ghost fails: { Self → Self.Error → Type 0 };
 
     /// Turns the encoder into a decoder of the data that it holds.
