@@ -1,6 +1,7 @@
 //! The calls of each coder at concrete types, as a program makes them.
 //!
-//! One function makes a few calls. `docs/CALLING.md` says what stands for the calls that no function here makes.
+//! Each function here makes a few calls. For each call that no function here makes, `docs/CALLING.md` says which
+//! other code makes it.
 
 pub mod chain;
 pub mod queue;
