@@ -149,7 +149,7 @@ impl Mixture {
     }
 }
 
-/// Returns the number of bits that a coder holds, below the leading 1 of its head.
+/// Returns the number of bits in a coder's words and in its head, where it counts only those below the leading 1.
 fn bits_of(coder: &Coder) -> Result<usize> {
     if !coder.sizes_fit() {
         bail!("too many words");
