@@ -69,8 +69,8 @@ pub trait Models<P: BitArray, const PRECISION: usize> {
     ///
     /// # Errors
     ///
-    /// The call checks for `WrongLength`, `WrongInterval` and `WrongWeights`, in this order. [`Refusal`] lists the cases
-    /// of each error. `coded` says which cases exist for an implementor, and the call fails exactly in these cases.
+    /// The call checks for `WrongLength`, `WrongInterval` and `WrongWeights`, in this order. [`Refusal`] lists the
+    /// cases of each error. `coded` says which cases exist for an implementor. The call fails exactly in these cases.
     fn check(&self, symbols: &[usize]) -> Result<(), Refusal>
         requires { (1 ≤ PRECISION) × (PRECISION ≤ P.BITS) }
         ensures { AsksFit PRECISION (coded self.now symbols.now) (Else Never) result };

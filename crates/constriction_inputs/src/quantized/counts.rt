@@ -10,8 +10,8 @@ use std::alloc::Global;
 
 /// Writes a weight for each count into `weights`. The weights add up to `2 ^ PRECISION`.
 ///
-/// The weights are in proportion to the counts, apart from rounding. Each count above 0 gets a weight of at least 1, and
-/// a count of 0 gets the weight 0.
+/// The weights are in proportion to the counts, apart from rounding. Each count above 0 gets a weight of at least 1,
+/// and a count of 0 gets the weight 0.
 ///
 /// # Errors
 ///
