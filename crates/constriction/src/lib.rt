@@ -30,7 +30,7 @@
 //! # At the root
 //!
 //! - [`BitArray`]: a type of unsigned numbers with a fixed number of bits, for words and heads.
-//! - [`WordOf`]: a type of words that goes with a type of states. A state is several words wide.
+//! - [`WordOf`]: a type of words that fit another type of numbers, such as the type of states.
 //! - [`Reciprocal`]: divides by one number, such as a symbol's weight, with a multiplication.
 //! - [`Stack`], [`Queue`], [`Semantics`]: which word of a backend is read next. A stack returns the last word, and a
 //!   queue returns the first word.
@@ -144,9 +144,9 @@
 //!
 //! # [`laws`]: theorems about lists of calls
 //!
-//! Functions whose contracts are theorems, for use in your proofs. Most of them are laws, which have no code. You call a
-//! law to use its contract in your proof, and at run time the call does nothing. The functions in modules `round_trips`
-//! do run: each of them encodes or decodes a list of symbols.
+//! Functions whose contracts are theorems, for use in your proofs. Most of them are laws, which have no code. You call
+//! a law to use its contract in your proof, and at run time the call does nothing. The functions in modules
+//! `round_trips` do run: each of them encodes or decodes a list of symbols.
 //!
 //! - [`laws::lists`]: if each step can be undone, so can a list of steps.
 //! - [`laws::bounds`]: upper bounds on the number of words of the stack coder and of the range coder, for any list of
