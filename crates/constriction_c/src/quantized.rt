@@ -51,7 +51,7 @@ pub extern "C" fn constriction_quantized_intervals_u16(
     code_without_space(intervals_of_quantized::<u16, 12>(&models, symbols, lefts, ps))
 }
 
-/// Writes a weight for each count. The weights are in proportion to the counts, and add up to `2^24`.
+/// Writes a weight for each count: in proportion to the counts, apart from rounding, and with the sum `2^24`.
 #[unsafe(no_mangle)]
 pub extern "C" fn constriction_weights_of_counts_u32(
     alloc: Global,
@@ -64,7 +64,7 @@ pub extern "C" fn constriction_weights_of_counts_u32(
     code_without_space(put_weights_of_counts::<u32, 24>(alloc, counts, weights))
 }
 
-/// Writes a weight for each count. The weights are in proportion to the counts, and add up to `2^12`.
+/// Writes a weight for each count: in proportion to the counts, apart from rounding, and with the sum `2^12`.
 #[unsafe(no_mangle)]
 pub extern "C" fn constriction_weights_of_counts_u16(
     alloc: Global,

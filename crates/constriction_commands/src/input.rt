@@ -96,7 +96,7 @@ fn with_digit(so_far: u64, byte: u8, greatest: u64) -> Option<u64>
     if value <= greatest { Some(value) } else { None }
 }
 
-/// Parses the numbers of a line. Numbers are written in decimal, with blanks between them.
+/// Parses the numbers of a line. They are decimal, with spaces, tabs or carriage returns between them.
 ///
 /// # Errors
 ///

@@ -78,7 +78,9 @@ fn encoded(
     Ok(encoder)
 }
 
-/// Prints the position of an encoder of three symbols, the number of words after the seal, and the first symbol.
+/// Encodes three symbols, and prints the encoder's position, the number of words written, and the first symbol decoded.
+///
+/// The number of words written includes the seal.
 fn show_symbols(rt: &impl Print, alloc: Global) -> Result<()> {
     let table = WeightTable::<u32, 24>::new(alloc, &[3, 2, 16777211])?;
     let encoder = encoded(alloc, &table)?;

@@ -56,8 +56,11 @@ pub trait ModelList<P: BitArray, const PRECISION: usize>: Drop {
 /// The arguments of a caller from which the models of a list of symbols are made.
 ///
 /// An implementor is one form of these arguments. Its definition `coded` says which arguments are refused, and which
-/// models the others make. The implementor proves three things: `check` refuses exactly these arguments, `know` decides
-/// whether each model has an entry for its symbol, and `list` returns the models.
+/// models are made from all other arguments. The implementor proves three things:
+///
+/// - `check` refuses exactly the arguments that `coded` says.
+/// - `know` decides whether each model has an entry for its symbol.
+/// - `list` returns the models.
 pub trait Models<P: BitArray, const PRECISION: usize> {
     /// The type of the list of models.
     type List: ModelList<P, PRECISION>;

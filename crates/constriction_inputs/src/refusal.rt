@@ -35,7 +35,8 @@ pub enum Refusal {
     /// There is no memory.
     #[error("out of memory")]
     NoMemory,
-    /// No coder has these words or the numbers of this state, or the words don't encode the symbols to decode.
+    /// No coder has the words or the numbers that the caller passed. Or the words don't encode the number of symbols
+    /// to decode.
     #[error("invalid data")]
     InvalidData,
     /// The words ended before all symbols were decoded.
