@@ -96,10 +96,10 @@ pub trait BitArray: Copy + Drop {
         requires { 0 < number other }
         ensures { number result ≡ number self / number other };
 
-    /// Returns the quotient by `other`, rounded down, computed from the reciprocal of `other`.
+    /// Returns the quotient by `other`, rounded down. An impl may use `reciprocal` to avoid the division.
     ///
-    /// The caller proves that `reciprocal` is the reciprocal of `other`. The impls of this crate compute a product and
-    /// a shift instead of a division, except the impl for `u128`. The default method divides.
+    /// The caller proves that `reciprocal` is the reciprocal of `other`. The default method ignores `reciprocal` and
+    /// divides. The impls of this crate, except the impl for `u128`, compute a product and a shift instead.
     fn quotient_by(self, other: Self, reciprocal: Reciprocal) -> Self
         requires { IsReciprocalOf reciprocal (number other) }
         ensures { number result ≡ number self / number other }

@@ -375,7 +375,7 @@ pub extern "C" fn constriction_chain_into_compressed_u32(
     code_of(answer, needed)
 }
 
-/// Exports the binary form: writes the bits of the remainders head below its leading 1 after the compressed words.
+/// Exports the binary form: appends to the compressed words the remainders head's bits below its leading 1.
 #[unsafe(no_mangle)]
 pub extern "C" fn constriction_chain_into_binary_u32(
     alloc: Global,

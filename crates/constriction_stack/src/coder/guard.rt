@@ -29,7 +29,8 @@ use std::fmt;
 /// [`AnsCoder::get_compressed`] returns a guard with `SEALED` 0, and has an example. [`AnsCoder::get_binary`] returns a
 /// guard with `SEALED` 1.
 ///
-/// Dropping a guard reads back as many words as the guard wrote, so it takes no memory. It stops at a read that fails.
+/// Dropping a guard only reads back as many words as the guard wrote, so the drop allocates no memory. The drop stops at
+/// the first read that fails.
 /// If a guard is forgotten instead of dropped, the words that it wrote stay on the backend, below the head.
 pub struct CoderGuard<'a, Word: WordOf<State>, State: BitArray, Backend, const SEALED: usize>
 where
