@@ -42,10 +42,10 @@ pub trait StandardDistribution: Copy {
     fn table() -> &'static [u64]
         ensures { result.now ≡ values };
 
-    /// Returns about where the distribution function reaches each of 0, 1/1024, 2/1024, .., 1.
+    /// Returns approximate arguments at which the distribution function reaches 0, 1/1024, 2/1024, .., 1.
     ///
-    /// Each number is a distance from the first place of the table. Its unit is a 65536th of the distance between two
-    /// neighbouring places. Every list of 1025 numbers is allowed. Accurate numbers make decoding fast.
+    /// Each number is the distance from the first of the 2049 grid points, in 65536ths of the spacing of the grid.
+    /// Every list of 1025 numbers is allowed. Accurate numbers make decoding fast.
     fn guesses() -> &'static [u32]
         ensures { length result.now ≡ 1025 };
 }

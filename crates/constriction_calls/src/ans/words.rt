@@ -63,7 +63,7 @@ pub fn from_binary<Word: WordOf<State>, State: BitArray>(
 
 /// Exports the state: writes the words of the head, without leading zero words, after the first `len` words of `words`.
 ///
-/// The call adds the number of the words written to `len`. The first `len` words are then the exported words.
+/// The call increases `len` by the number of words that it writes. The first `len` words are then the exported words.
 ///
 /// # Errors
 ///
@@ -90,7 +90,7 @@ pub fn into_compressed<Word: WordOf<State>, State: BitArray>(
 
 /// Exports the binary form: writes the bits of the head below its leading 1 after the first `len` words of `words`.
 ///
-/// The call adds the number of the words written to `len`. The first `len` words are then the exported words.
+/// The call increases `len` by the number of words that it writes. The first `len` words are then the exported words.
 ///
 /// # Errors
 ///

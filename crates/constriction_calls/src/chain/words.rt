@@ -171,9 +171,9 @@ pub fn into_compressed<Word: WordOf<State>, State: BitArray, const PRECISION: us
     }
 }
 
-/// Exports the binary form: writes the bits of the remainders head below its leading 1 after the compressed words.
+/// Exports the binary form: appends to the compressed words the remainders head's bits below its leading 1.
 ///
-/// The call adds the number of the words written to `compressed_len`. [`from_binary`] imports the first
+/// The call increases `compressed_len` by the number of words that it writes. [`from_binary`] imports the first
 /// `compressed_len` words. The call doesn't use the remainders below the head.
 ///
 /// # Errors
@@ -212,7 +212,7 @@ pub fn into_binary<Word: WordOf<State>, State: BitArray, const PRECISION: usize>
 
 /// Exports remainders: writes the words of both heads after the remainders in use, the remainders head first.
 ///
-/// The call adds the number of the words written to `remainders_len`. [`from_remainders`] imports the first
+/// The call increases `remainders_len` by the number of words that it writes. [`from_remainders`] imports the first
 /// `remainders_len` words. The call doesn't use the compressed words below the head.
 ///
 /// # Errors

@@ -14,7 +14,7 @@ use std::alloc::Global;
 
 /// Writes the words that an encoder holds back, and a seal, after the first `len` words of `buffer`.
 ///
-/// The call adds the number of the words written to `len`. Pass the first `len` words of the buffer to a decoder.
+/// The call increases `len` by the number of words that it writes. Pass the buffer's first `len` words to a decoder.
 ///
 /// # Errors
 ///
@@ -68,8 +68,8 @@ fn sealed_count<Word: WordOf<State>, State: BitArray>(
 
 /// Writes the words that an encoder holds back, and a self-delimiting seal, after the first `len` words of `buffer`.
 ///
-/// The call adds the number of the words written to `len`. A decoder of the buffer's first `len` words returns the
-/// encoded symbols, and any words may follow these words.
+/// The call increases `len` by the number of words that it writes. A decoder of the buffer's first `len` words returns
+/// the encoded symbols, and any words may follow these words.
 ///
 /// The caller proves that `State` is two words wide. Then this call writes the same words as [`into_compressed`]. Their
 /// number is counted without memory, so the call checks the length of the buffer before it asks for memory.

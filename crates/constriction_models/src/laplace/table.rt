@@ -262,9 +262,9 @@ pub static VALUES: [u64; 2049] = [
     4294967296, // all
 ];
 
-/// About where the distribution function reaches each of 0, 1/1024, 2/1024, .., 1.
+/// Approximate arguments at which the distribution function reaches 0, 1/1024, 2/1024, .., 1.
 ///
-/// Each number is a distance from the first place, in 65536ths of the distance between two neighbouring places. A
+/// Each number is the distance from the first of the 2049 grid points, in 65536ths of the spacing of the grid. A
 /// decoder's search begins there, and no proof depends on these numbers.
 #[rattlefmt::skip]
 pub static GUESSES: [u32; 1025] = [
