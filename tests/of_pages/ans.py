@@ -39,7 +39,7 @@ def pushes(page, head, words):
         (left, length), old, top = entries(WEIGHTS)[symbol], head, head // 2**12
         before.append((head, words))
         moved, low, below, head, words = push(WEIGHTS, symbol, head, words)
-        room = f"{top} < {length} fails: {low} moves out, {below} is left" if moved else f"{top} < {length}"
+        room = f"{top} < {length} fails: the word {low} moves out, the head is {below}" if moved else f"{top} < {length}"
         judge(moved == (top >= length), "the room of a push")
         after = f"{below} / {length} * 16 + {left} + {below} % {length} = {head}"
         page.row(NAMES[symbol], old, room, after, series(words) or "none")

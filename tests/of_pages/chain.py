@@ -75,7 +75,7 @@ def way_there(page):
 def other_model(page):
     """Both coders over the same words, under two models for the first symbol."""
     head = WORDS[1] * 256 + WORDS[0]
-    page.has(f"The first symbol under the weights {series(OTHER)} in place of {series(WEIGHTS)}")
+    page.has(f"With the first weights {series(OTHER)} in place of {series(WEIGHTS)}")
     ways = []
     for first in (WEIGHTS, OTHER):
         decodes, _ = decoded([first, WEIGHTS], WORDS)
@@ -121,7 +121,7 @@ def test():
     carried = 2 * (4 - log2(11))
     page.has(f"Two quantiles took 8 bits. The symbols carry {carried:.2f} bits under their model, and the other")
     page.has(f"{8 - carried:.2f} are in the remainders")
-    page.has("`r` is at least 2^4 and below 2^12 at 4 bits of precision, and at 8 bits at least 1 and below 2^8")
+    page.has("At precision 4, `r` is at least 2^4 and below 2^12; at precision 8, at least 1 and below 2^8")
     high, low = divmod(number, 256)
     judge(1 <= high < 2**8 <= number, "a change of the precision moves one word")
     page.has(f"`increase_precision::<8>` writes the word {low} and leaves `r = {high}`")
