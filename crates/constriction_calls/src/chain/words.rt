@@ -25,8 +25,8 @@ type Bare<Word, State, const PRECISION: usize> = ChainCoder<
 
 /// Imports a coder from compressed words. The coder has no words of remainders below its heads.
 ///
-/// The call sets `heads`. It sets `len` to the number of entries of `words` that remain on the compressed side, below the
-/// heads.
+/// The call sets `heads`. It sets `len` to the number of entries of `words` that remain on the compressed side, below
+/// the heads.
 ///
 /// # Errors
 ///
@@ -61,8 +61,8 @@ pub fn from_compressed<Word: WordOf<State>, State: BitArray, const PRECISION: us
 
 /// Imports a coder from compressed words in binary form. The coder has no words of remainders below its heads.
 ///
-/// The call sets `heads`. It sets `len` to the number of entries of `words` that remain on the compressed side, below the
-/// heads.
+/// The call sets `heads`. It sets `len` to the number of entries of `words` that remain on the compressed side, below
+/// the heads.
 ///
 /// # Errors
 ///
