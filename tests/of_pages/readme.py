@@ -138,4 +138,4 @@ def test():
     speed(page)
     gate()
     rounding = f"{log2(1 + 2 ** -(64 - 32 - 24)):.4f}"
-    page.has(f"bits a step for rounding ({rounding} at 24 bits, words of 32 and states of 64), and a state's bits")
+    page.has(f"bits a step for rounding ({rounding} at 24 bits, words of 32 and states of 64), plus a head's bits")
