@@ -6,7 +6,6 @@ use Rattle.constriction_inputs.specs.Coded.{Coded}
 use Rattle.constriction_inputs.specs.Mixtures.{by_mixture, in_mixture}
 use Rattle.constriction_inputs.specs.Quantized.{by_family, in_family}
 use Rattle.constriction_inputs.specs.declared.models.families.Families.{Families}
-use Rattle.constriction_inputs.specs.declared.models.mixtures.Mixtures.{Mixtures}
 use Rattle.constriction_calls.specs.AnsCalls.{AnsKept, AnsPuts, AnsTakes}
 use Rattle.constriction_calls.specs.ChainCalls.{ChainPuts, ChainTakes, keeps}
 use Rattle.constriction_calls.specs.RangeCalls.{RangePuts, RangeTakes, kept_in}
@@ -22,18 +21,19 @@ pub family_is : {made family : ℕ} {first last low high min max : ℤ} {places 
 family_is numbers lists low_is high_is = rw (numbers.0, numbers.1, numbers.2, low_is, high_is, lists.0, lists.1) refl
 
 -- mixtures of a family
-pub mixture_is : {made : Families} {models : Mixtures} {family : ℕ} {low high min max : ℤ} {locations : List ℤ} {scales weights : List ℕ} {width : ℕ} → (made.family ≡ family) × (made.min ≡ low) × (made.max ≡ high)
-    → (made.locations.now ≡ locations) × (made.scales.now ≡ scales) → (models.components ≡ made) × (models.weights.now ≡ weights) × (models.width ≡ width) → low ≡ min → high ≡ max
+pub mixture_is : {made components : Families} {family : ℕ} {low high min max : ℤ} {locations : List ℤ} {scales held weights : List ℕ} {wide width : ℕ}
+    → (made.family ≡ family) × (made.min ≡ low) × (made.max ≡ high) → (made.locations.now ≡ locations) × (made.scales.now ≡ scales)
+    → (components ≡ made) × (held ≡ weights) × (wide ≡ width) → low ≡ min → high ≡ max
     → ◌≡◌ {A = List ℕ → Coded} (by_mixture (record {
       components = record {
-        family = models.components.family;
-        min = models.components.min;
-        max = models.components.max;
-        locations = models.components.locations.now;
-        scales = models.components.scales.now;
+        family = components.family;
+        min = components.min;
+        max = components.max;
+        locations = components.locations.now;
+        scales = components.scales.now;
       };
-      weights = models.weights.now;
-      width = models.width;
+      weights = held;
+      width = wide;
     })) (in_mixture family min max width weights locations scales)
 mixture_is numbers lists parts low_is high_is = rw (parts.0, parts.1, parts.2, numbers.0, numbers.1, numbers.2, low_is, high_is, lists.0, lists.1) refl
 

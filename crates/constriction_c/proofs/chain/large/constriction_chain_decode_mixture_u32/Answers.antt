@@ -1,6 +1,6 @@
 use Rattle.std.proofs.Common.{w32, ap}
 use Rattle.std.proofs.lemmas.Int.{to_z-of_z}
-use Rattle.constriction_c.specs.Chains.{large_heads}
+use Rattle.constriction_c.specs.Large.{large_heads}
 use Rattle.constriction_c.proofs.Told.{chain_takes, mixture_is}
 use Rattle.constriction_c.proofs.chain.large.constriction_chain_decode_mixture_u32.Goals as goal
 

@@ -1,7 +1,7 @@
 -- Written by tools/sizes from Answers.antt.
 use Rattle.std.proofs.Common.{w32, ap}
 use Rattle.std.proofs.lemmas.Int.{to_z-of_z}
-use Rattle.constriction_c.specs.Chains.{small_heads}
+use Rattle.constriction_c.specs.Small.{small_heads}
 use Rattle.constriction_c.proofs.Told.{chain_takes, mixture_is}
 use Rattle.constriction_c.proofs.chain.small.constriction_chain_decode_mixture_u16.Goals as goal
 

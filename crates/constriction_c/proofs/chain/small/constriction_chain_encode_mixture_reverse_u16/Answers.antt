@@ -2,7 +2,7 @@
 use Rattle.std.proofs.Common.{w32, ℕ, List, ap}
 use Rattle.std.proofs.lemmas.Int.{to_z-of_z}
 use Rattle.constriction_inputs.specs.Coded.{Coded}
-use Rattle.constriction_c.specs.Chains.{small_heads}
+use Rattle.constriction_c.specs.Small.{small_heads}
 use Rattle.constriction_c.proofs.Told.{chain_puts, mixture_is}
 use Rattle.constriction_c.proofs.chain.small.constriction_chain_encode_mixture_reverse_u16.Goals as goal
 
