@@ -68,7 +68,7 @@ pub struct Mixture<'a, D: CumulativeDistribution> {
     components: &'a [Component<D>],
     /// The sum of the weights.
     total: u64,
-    /// `2^64 - 1` divided by it.
+    /// `2^64 - 1` divided by `total`.
     rate: u64,
     ghost summed: { total ≡ total_weight (weighted D.below components.now) },
     ghost some: { 0 < total_weight (weighted D.below components.now) },

@@ -48,7 +48,7 @@ pub fn symbols_after_a_position<Symbol>()
     decodes_undo_encodes::<Symbol>()
 }
 
-/// The run of any encoder is an interval, whatever words were written before.
+/// Proves that the lower end and the range of any encoder are an interval, whatever words were written before.
 ///
 /// So the clause `anywhere` of [`symbols_after_a_position`] covers each position of the encoder: decoding from the
 /// position returns the symbols encoded since then.
