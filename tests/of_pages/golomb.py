@@ -72,7 +72,7 @@ def reading(page):
     page.has(f"so it ends here: {number} - 1 = {number - 1}")
     greatest = golomb(2**8 - 1)
     judge(greatest == "0" * 8 + "1" + "0" * 8 and read(greatest, 8) == (255, 17), "the greatest number of 8 bits")
-    page.has(f"of 8 bits, 255 takes {len(greatest)} bits, and a queue with words of 32 bits holds it")
+    page.has(f"For `b = 8`, 255 takes {len(greatest)} bits, and a queue with words of 32 bits holds it")
     page.has(f"as `[{as_word(greatest)}]`")
     judge(read("0" * 32, 8) == ("InvalidCodeword", 9), "too many zeros")
     judge(read("0" * 8 + "1" + "00010000", 8) == ("InvalidCodeword", 17), "a tail that is not all zeros")

@@ -16,7 +16,7 @@ ghost use Rattle.constriction_laws.specs.queue.Undone.{Reading, TakesBack, read_
 use crate::lists::{StepsUndo, lists_undo};
 use std::marker::PhantomData;
 
-/// An implementor of [`StepsUndo`]. Its steps take encodes of symbols back, and its inverse steps are decodes.
+/// An implementor of [`StepsUndo`]. Each step undoes the encode of a symbol; its inverse is a decode.
 pub struct Encoding<Symbol> {
     symbols: PhantomData<Symbol>,
 }
