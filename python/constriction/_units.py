@@ -131,15 +131,15 @@ def component_weights_of(floats: array[float], width: int) -> array[int]:
     ends = _ends(floats)
     if not ends[0] >= 0:
         raise _fault("weight", floats, lambda it: 0 <= it < inf, "be at least 0 and finite", width)
-    if not width:
-        raise WrongWeightsError("a mixture has at least one component, and rows of none were handed in")
-    if ends[1] >= _MOST_SHARES:
+    if not width or ends[1] >= _MOST_SHARES:
         raise wrong_row(floats, width)
     return _rounded(WORD, floats, _SHARES, (0.0, _MOST_SHARES - 1 / _SHARES), ends)
 
 
 def wrong_row(floats: Any, width: int) -> WrongWeightsError:
-    """The error of the first row of weights that adds up to nothing, or to too much."""
+    """The error of the first row of weights that adds up to nothing, or to too much, or of rows of none."""
+    if not width:
+        return WrongWeightsError("a mixture has at least one component, and rows of none were handed in")
     for start in range(0, len(floats), width):
         row = [float(it) for it in floats[start : start + width]]
         total = sum(round(it * _SHARES) for it in row)
