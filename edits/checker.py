@@ -10,6 +10,8 @@ GOAL = re.compile(r"note: src/\S+ it is not proved that .*?\(`([^`]+)`\)")
 LAW = re.compile(r"impl (\S+): not proved; antt refuses (.+?) in `")
 # A proof file that names what an edit took away says nothing about the contract, and nor does what cites such a proof.
 VANISHED = re.compile(r"has no field|is not in scope|has no `|was not admitted")
+# A function that needed no answer, and of which the search for a proof now leaves a goal open.
+SEARCHED = re.compile(r"no proof: expected answers in \S+; `search` did not prove `([^`]+)`")
 # An error in the answer to a goal begins with the goal's name.
 ANSWER = re.compile(r"`([^`]+)`: (.*)")
 
@@ -49,7 +51,7 @@ class Blame:
 
 def blames(lines):
     """Returns a blame for each function that is not proved. It is the function's own where the lines above it note a goal that no tactic
-    proved, or where its proof file has an error. That it calls what is refused, or any word unknown here, is no blame of its own."""
+    proved, where it names such a goal itself, or where its proof file has an error. That it calls what is refused, or any word unknown here, is no blame of its own."""
     lines = "\n".join(lines).replace("\n  has no ", " has no ").split("\n")  # a long error goes on in the next line
     found, goals = [], []
     for line in lines:
@@ -85,4 +87,6 @@ def blame_of(name, why, goals, lines):
         return [Blame(name, True, f"proof {goals}: {answers[0][2]}" if answers else "proof " + telling[0])]
     if errors:
         return [Blame(name, False, "only its proof file names what the edit took away: " + errors[0])]
+    if searched := SEARCHED.fullmatch(why):
+        return [Blame(name, True, f"goal {searched[1]}")]
     return [] if why == "proved" else [Blame(name, False, why)]
