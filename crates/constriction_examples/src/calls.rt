@@ -1,7 +1,6 @@
 //! The calls of each coder at concrete types, as a program makes them.
 //!
-//! Each function here makes a few calls. The checker can't prove a few forms of calls. `docs/CALLING.md` lists these
-//! forms, and says what to write in their place.
+//! One function makes a few calls. `docs/CALLING.md` says what stands for the calls that no function here makes.
 
 pub mod chain;
 pub mod queue;

@@ -1,7 +1,5 @@
-//! Intervals that a caller passes without their table, each turned into a row of three weights.
-//!
-//! The row makes a table of three symbols. Symbol 1 has the interval, symbol 0 has the quantiles below it, and symbol 2
-//! has the quantiles above it.
+//! Intervals without a table, as rows of three weights: the weight below an interval, its own length, and the weight
+//! above it.
 
 ghost use Rattle.std.specs.Prelude.{◌≡◌, ◌≢◌, ◌↔◌, ◌⊎◌, ◌*◌, ◌+◌, ◌^◌, ◌≤◌, length, map, IsTrue, IfOk, IfErr, OnOk};
 ghost use Rattle.std.specs.Prelude.{IsErrOf};
@@ -14,15 +12,13 @@ use constriction_base::weights::starts::ones;
 use constriction_words::BitArray;
 use std::alloc::{AllocError, Global};
 
-/// Returns a row of three weights for each interval, and a list that has the number 1 for each row.
+/// Returns a row of three weights for each interval, and a list with the symbol 1 for each row.
 ///
-/// `lefts` has the start of each interval, and `ps` has its length. The rows stand one after another in the first list
-/// returned. In the table of each row, symbol 1 has the interval. So encoding the second list under the rows encodes
-/// the intervals.
+/// Symbol 1 of a row stands for the interval. `lefts` has the start of each interval, and `ps` has its length.
 ///
 /// # Errors
 ///
-/// The call checks for errors in this order:
+/// Checked in this order:
 ///
 /// - `WrongLength`: the two lists differ in length.
 /// - `WrongInterval`: an interval is empty or ends past `2 ^ PRECISION`.

@@ -29,7 +29,7 @@ pub struct ChainHeadsU16 {
 }
 
 impl ChainHeadsU16 {
-    /// Returns the heads as a value of the type that the calls of `constriction_calls` take.
+    /// Returns the heads in the form that the calls take.
     #[inline]
     pub fn parts(&self) -> ChainHeads<u16, u32>
         ensures { result ≡ small_heads self.now }
@@ -40,7 +40,7 @@ impl ChainHeadsU16 {
         }
     }
 
-    /// Makes the struct from the heads that a call of `constriction_calls` sets.
+    /// Makes the struct from the heads that a call returns.
     #[inline]
     pub fn of(heads: ChainHeads<u16, u32>) -> Self
         ensures { result ≡ record { remainders = heads.remainders; compressed = heads.compressed } }
@@ -105,7 +105,7 @@ pub extern "C" fn constriction_chain_decode_each_u16(
     code_of(answer, needed)
 }
 
-/// Decodes symbols, each under the model of its own location and scale ([`Families`]).
+/// Decodes symbols with a model of a family for each: its own location and scale.
 #[unsafe(no_mangle)]
 pub extern "C" fn constriction_chain_decode_quantized_u16(
     alloc: Global,
@@ -135,7 +135,7 @@ pub extern "C" fn constriction_chain_decode_quantized_u16(
     code_of(answer, needed)
 }
 
-/// Decodes symbols, each under its own mixture of a family's distributions ([`Mixtures`]).
+/// Decodes symbols, each under its own mixture of a family.
 #[unsafe(no_mangle)]
 pub extern "C" fn constriction_chain_decode_mixture_u16(
     alloc: Global,
@@ -222,7 +222,7 @@ pub extern "C" fn constriction_chain_encode_each_reverse_u16(
     code_of(answer, needed)
 }
 
-/// Encodes symbols from the last to the first, each under the model of its own location and scale ([`Families`]).
+/// Encodes symbols from the last to the first, with a model of a family for each: its own location and scale.
 #[unsafe(no_mangle)]
 pub extern "C" fn constriction_chain_encode_quantized_reverse_u16(
     alloc: Global,
@@ -252,7 +252,7 @@ pub extern "C" fn constriction_chain_encode_quantized_reverse_u16(
     code_of(answer, needed)
 }
 
-/// Encodes symbols from the last to the first, each under its own mixture of a family's distributions ([`Mixtures`]).
+/// Encodes symbols from the last to the first, each under its own mixture of a family.
 #[unsafe(no_mangle)]
 pub extern "C" fn constriction_chain_encode_mixture_reverse_u16(
     alloc: Global,
@@ -311,7 +311,7 @@ pub extern "C" fn constriction_chain_encode_intervals_reverse_u16(
     code_of(answer, needed)
 }
 
-/// Imports a coder from compressed words. The coder has no words of remainders below its heads.
+/// Imports a coder from compressed words, with no remainders.
 #[unsafe(no_mangle)]
 pub extern "C" fn constriction_chain_from_compressed_u16(
     alloc: Global,
@@ -328,7 +328,7 @@ pub extern "C" fn constriction_chain_from_compressed_u16(
     code_without_space(answer)
 }
 
-/// Imports a coder from compressed words in binary form. The coder has no words of remainders below its heads.
+/// Imports a coder from words in binary form, with no remainders.
 #[unsafe(no_mangle)]
 pub extern "C" fn constriction_chain_from_binary_u16(
     alloc: Global,
@@ -344,7 +344,7 @@ pub extern "C" fn constriction_chain_from_binary_u16(
     code_without_space(answer)
 }
 
-/// Imports a coder from the words of remainders. The coder has no compressed words below its heads.
+/// Imports a coder from remainders, with no compressed words.
 #[unsafe(no_mangle)]
 pub extern "C" fn constriction_chain_from_remainders_u16(
     alloc: Global,
@@ -360,7 +360,7 @@ pub extern "C" fn constriction_chain_from_remainders_u16(
     code_without_space(answer)
 }
 
-/// Exports compressed words: writes the words of the remainders head after the compressed words in use.
+/// Appends the words of the remainders' head to the compressed words.
 #[unsafe(no_mangle)]
 pub extern "C" fn constriction_chain_into_compressed_u16(
     alloc: Global,
@@ -376,7 +376,7 @@ pub extern "C" fn constriction_chain_into_compressed_u16(
     code_of(answer, needed)
 }
 
-/// Exports the binary form: appends to the compressed words the remainders head's bits below its leading 1.
+/// Appends the words of the remainders' head, without its leading 1, to the compressed words.
 #[unsafe(no_mangle)]
 pub extern "C" fn constriction_chain_into_binary_u16(
     alloc: Global,
@@ -392,7 +392,7 @@ pub extern "C" fn constriction_chain_into_binary_u16(
     code_of(answer, needed)
 }
 
-/// Exports remainders: writes the words of both heads after the remainders in use.
+/// Appends both heads to the remainders.
 #[unsafe(no_mangle)]
 pub extern "C" fn constriction_chain_into_remainders_u16(
     alloc: Global,

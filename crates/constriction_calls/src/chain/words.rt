@@ -1,4 +1,4 @@
-//! Importing chain coders from a caller's words, and exporting the words of chain coders.
+//! Importing chain coders from a caller's words, and exporting their words.
 ghost use Rattle.constriction_chain.specs.Chain.{IsSized};
 ghost use Rattle.constriction_calls.specs.ChainFits.{CoderFits};
 ghost use Rattle.constriction_calls.specs.ChainWords.{ChainBegins, ChainEnds, InBinary, InCompressed, InRemainders};
@@ -23,14 +23,13 @@ type Bare<Word, State, const PRECISION: usize> = ChainCoder<
     PRECISION,
 >;
 
-/// Imports a coder from compressed words. The coder has no words of remainders below its heads.
+/// Imports a coder from compressed words, with no remainders.
 ///
-/// The call sets `heads`. It sets `len` to the number of entries of `words` that remain on the compressed side, below
-/// the heads.
+/// Sets `heads`, and sets `len` to the number of words that stay below the heads.
 ///
 /// # Errors
 ///
-/// `InvalidData` exactly if the last word is 0, or if there are too few words for the heads.
+/// `InvalidData` exactly if no coder has these words: the last word is 0, or there are too few words.
 pub fn from_compressed<Word: WordOf<State>, State: BitArray, const PRECISION: usize>(
     alloc: Global,
     words: &[Word],
@@ -59,14 +58,13 @@ pub fn from_compressed<Word: WordOf<State>, State: BitArray, const PRECISION: us
     }
 }
 
-/// Imports a coder from compressed words in binary form. The coder has no words of remainders below its heads.
+/// Imports a coder from words in binary form, with no remainders.
 ///
-/// The call sets `heads`. It sets `len` to the number of entries of `words` that remain on the compressed side, below
-/// the heads.
+/// Sets `heads`, and sets `len` to the number of words that stay below the heads.
 ///
 /// # Errors
 ///
-/// `InvalidData` exactly if there are too few words for the heads.
+/// `InvalidData` exactly if there are too few words for a coder.
 pub fn from_binary<Word: WordOf<State>, State: BitArray, const PRECISION: usize>(
     alloc: Global,
     words: &[Word],
@@ -95,13 +93,13 @@ pub fn from_binary<Word: WordOf<State>, State: BitArray, const PRECISION: usize>
     }
 }
 
-/// Imports a coder from the words of remainders. The coder has no compressed words below its heads.
+/// Imports a coder from remainders, with no compressed words.
 ///
-/// The call sets `heads`, and sets `len` to the number of words of `words` that stay remainders below the heads.
+/// Sets `heads`, and sets `len` to the number of words that stay below the heads.
 ///
 /// # Errors
 ///
-/// `InvalidData` exactly if one of the last two words is 0, or if there are too few words for the heads.
+/// `InvalidData` exactly if no coder has these words: one of the last two words is 0, or there are too few words.
 pub fn from_remainders<Word: WordOf<State>, State: BitArray, const PRECISION: usize>(
     alloc: Global,
     words: &[Word],
@@ -130,17 +128,17 @@ pub fn from_remainders<Word: WordOf<State>, State: BitArray, const PRECISION: us
     }
 }
 
-/// Exports compressed words: writes the words of the remainders head after the compressed words in use.
+/// Appends the words of the remainders' head to the compressed words, without leading zeros.
 ///
-/// The words are written without leading zero words. The call adds their number to `compressed_len`.
-/// [`from_compressed`] imports the first `compressed_len` words. The call doesn't use the remainders below the head.
+/// The call adds the number of these words to `compressed_len`. [`from_compressed`] imports the result. The remainders
+/// below the head aren't needed, and stay with the caller.
 ///
 /// # Errors
 ///
-/// The call checks for errors in this order:
+/// Checked in this order:
 ///
 /// - `WrongLength` exactly if `compressed_len` is past the buffer's end.
-/// - `InvalidData` exactly if no coder has these heads, or if bits are left over.
+/// - `InvalidData` exactly if no coder has these heads, or bits are left over.
 /// - `NoSpace(needed)` if the buffer is too short. `needed` is the number of words that it has to hold.
 /// - `NoMemory` if there is no memory.
 pub fn into_compressed<Word: WordOf<State>, State: BitArray, const PRECISION: usize>(
@@ -173,14 +171,14 @@ pub fn into_compressed<Word: WordOf<State>, State: BitArray, const PRECISION: us
     }
 }
 
-/// Exports the binary form: appends to the compressed words the remainders head's bits below its leading 1.
+/// Appends the words of the remainders' head, without the head's leading 1, to the compressed words.
 ///
-/// The call increases `compressed_len` by the number of words that it writes. [`from_binary`] imports the first
-/// `compressed_len` words. The call doesn't use the remainders below the head.
+/// The call adds the number of these words to `compressed_len`. [`from_binary`] imports the result. The remainders
+/// below the head aren't needed, and stay with the caller.
 ///
 /// # Errors
 ///
-/// The errors of [`into_compressed`]. `InvalidData` is also returned if the bits below that leading 1 don't make whole
+/// The errors of [`into_compressed`]. `InvalidData` is also returned if the bits below that leading 1 aren't whole
 /// words.
 pub fn into_binary<Word: WordOf<State>, State: BitArray, const PRECISION: usize>(
     alloc: Global,
@@ -212,14 +210,14 @@ pub fn into_binary<Word: WordOf<State>, State: BitArray, const PRECISION: usize>
     }
 }
 
-/// Exports remainders: writes the words of both heads after the remainders in use, the remainders head first.
+/// Appends both heads to the remainders, the words of the remainders' head first.
 ///
-/// The call increases `remainders_len` by the number of words that it writes. [`from_remainders`] imports the first
-/// `remainders_len` words. The call doesn't use the compressed words below the head.
+/// The call adds the number of these words to `remainders_len`. [`from_remainders`] imports the result. The compressed
+/// words aren't needed, and stay with the caller.
 ///
 /// # Errors
 ///
-/// The errors of [`into_compressed`], for the buffer of the remainders. If bits are left over, that is no error.
+/// The errors of [`into_compressed`], for the buffer of the remainders. Bits that are left over are no error.
 pub fn into_remainders<Word: WordOf<State>, State: BitArray, const PRECISION: usize>(
     alloc: Global,
     heads: &ChainHeads<Word, State>,

@@ -1,4 +1,4 @@
-//! Writing the index of a store as three lists.
+//! An index as three lists, beside the lengths of its chunks.
 
 ghost use Rattle.std.specs.Prelude.{◌≡◌, length, map};
 ghost use Rattle.constriction_store.specs.Stores.{entry_at};
@@ -6,10 +6,7 @@ ghost use Rattle.constriction_store.specs.Stores.{entry_at};
 use constriction_queue::RangeCoderState;
 use constriction_words::{BitArray, WordOf};
 
-/// Writes each entry of an index into a caller's three lists.
-///
-/// An entry's position goes to `positions`. The lower end and the length of its interval go to `lowers` and `ranges`.
-/// The caller proves that each list is as long as the index.
+/// Writes the positions, and the lower ends and lengths of the intervals, of an index into a caller's lists.
 pub fn put_index<Word: WordOf<State>, State: BitArray>(
     index: &[(usize, RangeCoderState<Word, State>, usize)],
     positions: &mut [usize],

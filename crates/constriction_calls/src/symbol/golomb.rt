@@ -1,4 +1,4 @@
-//! The implementation of [`crate::symbol::Codes`] for Exp-Golomb codewords. Every number has a codeword.
+//! Exp-Golomb codewords, which exist for all numbers.
 
 ghost use Rattle.constriction_calls.specs.SymbolCalls.{OfNumbers};
 

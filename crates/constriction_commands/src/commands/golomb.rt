@@ -1,6 +1,4 @@
-//! The command `golomb`, which encodes numbers with Exp-Golomb codewords.
-//!
-//! The command writes the codewords as binary digits, and the words of a queue of bits that holds the codewords.
+//! The command `golomb`, which writes numbers as Exp-Golomb codewords, as digits and in the words of a queue of bits.
 
 ghost use Rattle.std.specs.Prelude.{◌≡◌, ◌%◌, ◌^◌, ◌++◌, map, flat_map, IfOk, IfErr, OnOk};
 ghost use Rattle.constriction_symbol.specs.Bits.{IsQueueWords};
@@ -56,10 +54,7 @@ fn queue_of(alloc: Global, numbers: &[u32]) -> Result<Vec<u32>, AllocError>
     coder.into_compressed()
 }
 
-/// Encodes the numbers in line 1 of the input `text`, and returns two lines.
-///
-/// The first line has the codewords as binary digits. The second line has the words of the queue that holds the
-/// codewords' bits.
+/// Returns a line of the codewords of the numbers in the input `text`, and a line of the words of these bits.
 pub fn answer(alloc: Global, text: &[u8]) -> Result<Vec<u8>, Fault>
     ensures ok { IfOk result (λ answer. IsGolomb text.now answer.items) }
     ensures err { IfErr result (GolombFails text.now) }
