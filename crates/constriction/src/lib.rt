@@ -1,15 +1,15 @@
 //! Entropy coders over lists of words: lossless compression under models of the symbols' probabilities.
 //!
-//! The coders come close to the least number of bits. A proved contract says what each call does.
+//! The coders come close to the least number of bits that the models allow. A proved contract says what each call does.
 //!
-//! This crate has no code of its own. It re-exports the items of the crates below it in one tree, so that you depend on
-//! one crate. `specs/` re-exports the definitions that their contracts cite.
+//! This crate has no code of its own. It re-exports the items of the crates that it depends on in one tree of modules.
+//! So your crate needs to depend on this crate alone. `specs/` re-exports the definitions that the contracts cite.
 //!
 //! ```
 //! use constriction::stream::model::WeightTable;
 //! use constriction::stream::stack::DefaultAnsCoder;
 //!
-//! // The symbols 0, 1 and 2, of which 2 is by far the most probable. The weights sum to 2 ^ 24.
+//! // The symbols 0, 1 and 2. Symbol 2 is by far the most probable. The weights add up to 2 ^ 24.
 //! let table = WeightTable::<u32, 24>::new(alloc, &[3, 2, 16777211])?;
 //!
 //! // The last symbol encoded is the first decoded.
@@ -30,30 +30,31 @@
 //! # At the root
 //!
 //! - [`BitArray`]: a type of unsigned numbers with a fixed number of bits, for words and heads.
-//! - [`WordOf`]: a type of words, several of which fit a number of a type of states.
+//! - [`WordOf`]: a type of words that fit another type of numbers, such as the type of states.
 //! - [`Reciprocal`]: divides by one number, such as a symbol's weight, with a multiplication.
-//! - [`Stack`], [`Queue`], [`Semantics`]: which word of a backend is read next, the last or the first.
-//! - [`Pos`], [`Seek`], [`PosSeek`]: positions of a backend or a coder, and returning to them.
-//! - [`CoderError`]: the error of a step, which comes from the model or from the backend. [`DefaultEncoderError`] and
-//!   [`DefaultEncoderFrontendError`] are errors of an encoder. [`ReadWriteError`] is the error of a call that reads and
-//!   writes.
+//! - [`Stack`], [`Queue`], [`Semantics`]: which word of a backend is read next. A stack returns the last word, and a
+//!   queue returns the first word.
+//! - [`Pos`], [`Seek`], [`PosSeek`]: recording a position of a backend or a coder, and seeking to it.
+//! - [`CoderError`]: the error of an encode or a decode, from the model or from the backend. [`DefaultEncoderError`]
+//!   and [`DefaultEncoderFrontendError`] are errors of an encoder. [`ReadWriteError`] is the error of a call that reads
+//!   and writes.
 //!
 //! # [`base`]: words, backends and models
 //!
-//! The numbers, backends, errors and models that coders build on, under one name. They also stand at the root, in
-//! [`backends`] and in [`stream::model`].
+//! The types and traits of numbers, backends, errors and models that coders build on, in one module. Each of them is
+//! also at the root, in [`backends`] or in [`stream::model`].
 //!
 //! # [`backends`]: sources and sinks of words
 //!
 //! - [`backends::ReadWords`], [`backends::WriteWords`]: reading and writing a word of a backend ([`backends::Holds`]).
 //!   [`backends::BoundedReadWords`] returns how many words are left.
 //! - [`backends::IntoReadWords`], [`backends::AsReadWords`], [`backends::IntoSeekReadWords`] and
-//!   [`backends::AsSeekReadWords`]: readers made from a list of words, or over a borrowed list.
-//! - [`backends::IntoReversed`]: a cursor over reversed words, for the same stack.
+//!   [`backends::AsSeekReadWords`]: making a reader from a backend, or over a borrowed backend.
+//! - [`backends::IntoReversed`]: reversing a backend's buffer in place. The new backend holds the same stack of words.
 //! - [`backends::Words`], [`backends::WordsMut`]: a buffer that lends its words.
 //! - [`backends::BothWays`], [`backends::CountsWords`], [`backends::SeeksBack`]: requirements of some calls on a
-//!   backend. The first says that it holds the same words as a stack and as a queue. The second says that its position
-//!   is the number of its words. The third says that it can seek to its own position.
+//!   backend. The first says that the backend holds the same words as a stack and as a queue. The second says that the
+//!   backend's position is the number of its words. The third says that the backend can seek to its own position.
 //! - [`backends::written_to_queue`]: turns written words into a reader that begins with the first word.
 //!   [`backends::take_back`]: removes written words again.
 //! - [`backends::Cursor`]: a buffer and a position in it. [`backends::Reverse`]: the same, read in the other direction.
@@ -65,40 +66,42 @@
 //!
 //! - [`stream::Code`], [`stream::Encode`], [`stream::Decode`]: the calls of every stream coder, for a symbol or a list.
 //!   [`stream::Lent`] is a symbol passed to a list call.
-//! - [`stream::EncodeReverse`]: encoding lists from the last symbol to the first, for code that is generic over stacks.
-//!   The stack coder and the chain coder have these calls themselves.
-//! - [`stream::IntoDecoder`], [`stream::AsDecoder`]: a decoder made from an encoder, or over a borrowed encoder.
+//! - [`stream::EncodeReverse`]: encoding lists from the last symbol to the first, for code that is generic over coders.
+//!   The stack coder and the chain coder also have these calls as methods of their own.
+//! - [`stream::IntoDecoder`], [`stream::AsDecoder`]: making a decoder from an encoder, or over a borrowed encoder.
 //! - [`stream::DecodeSymbols`], [`stream::TryDecodeSymbols`], [`stream::DecodeIidSymbols`]: iterators over decoded
 //!   symbols.
 //! - [`stream::TryCodingError`]: the error of a list call whose items may be errors.
 //!
 //! ## [`stream::model`]: probabilities of symbols
 //!
-//! - [`stream::model::EntropyModel`], [`stream::model::EncoderModel`], [`stream::model::DecoderModel`]: a table that
-//!   gives each symbol an interval of the numbers below `2 ^ PRECISION`.
+//! - [`stream::model::EntropyModel`], [`stream::model::EncoderModel`], [`stream::model::DecoderModel`]: the traits of
+//!   models. A model has a table, which gives each symbol an interval of the numbers below `2 ^ PRECISION`.
 //! - [`stream::model::WeightTable`]: the table of a list of weights. [`stream::model::TableError`] is the error of
 //!   weights that make no table.
-//! - [`stream::model::LeakyQuantizer`]: quantizes a distribution in whole numbers, with cuts at half symbols. Its table
-//!   ([`stream::model::LeakilyQuantizedDistribution`]) is the same on every machine.
+//! - [`stream::model::LeakyQuantizer`]: turns a distribution into a model whose symbols are integers
+//!   ([`stream::model::LeakilyQuantizedDistribution`]). It cuts the distribution halfway between neighbouring symbols.
+//!   It computes in whole numbers, so the table is the same on every machine.
 //! - [`stream::model::Gaussian`], [`stream::model::Laplace`], [`stream::model::Logistic`]: distributions with a
-//!   location and a scale ([`stream::model::LocationScale`]). [`stream::model::Scale`] makes them without a division.
-//!   You can define other distributions with [`stream::model::CumulativeDistribution`].
+//!   location and a scale ([`stream::model::LocationScale`]). [`stream::model::Scale`] makes distributions of one scale
+//!   without a division. You can define other distributions with [`stream::model::CumulativeDistribution`].
 //! - [`stream::model::Mixture`]: the weighted mean of distributions, each a [`stream::model::Component`].
 //!   [`stream::model::MixtureError`] is the error of components that make no mixture.
 //! - [`stream::model::UniformModel`], [`stream::model::BernoulliModel`]: models of equally probable symbols, and of two
 //!   symbols. [`stream::model::SupportError`] is the error of a number of symbols that makes no model.
 //! - [`stream::model::weights_of_counts`]: the weights of a histogram. [`stream::model::CountsError`] is the error of
 //!   counts that make no weights.
-//! - [`stream::model::ContiguousLookupDecoderModel`]: a model with a row for each quantile.
-//!   [`stream::model::LookupError`] is the error of making it.
+//! - [`stream::model::ContiguousLookupDecoderModel`]: a model for decoding that stores the symbol of each quantile.
+//!   [`stream::model::LookupError`] is the error of making this model.
 //!
 //! ## [`stream::stack`]: asymmetric numeral systems, which decode the last symbol first
 //!
 //! - [`stream::stack::AnsCoder`], with [`stream::stack::DefaultAnsCoder`] (32-bit words, 64-bit heads) and
 //!   [`stream::stack::SmallAnsCoder`] (16 and 32 bits).
-//! - [`stream::stack::AnsCompressedIter`]: the words of a coder, which stays unchanged.
-//! - [`stream::stack::CoderGuard`]: these words on the coder's own backend, until the guard is dropped.
-//! - [`stream::stack::CompressedDataEndsWithZeroWord`]: the error of words that belong to no coder.
+//! - [`stream::stack::AnsCompressedIter`]: an iterator over the words that a coder would export. The coder stays
+//!   unchanged.
+//! - [`stream::stack::CoderGuard`]: lends the exported words on the coder's own backend, until the guard is dropped.
+//! - [`stream::stack::CompressedDataEndsWithZeroWord`]: the error of importing words that no coder exports.
 //!
 //! ## [`stream::queue`]: range coding, which decodes the first symbol first
 //!
@@ -106,49 +109,51 @@
 //!   [`stream::queue::SmallRangeEncoder`] (16 and 32 bits). [`stream::queue::RangeCoderState`] and
 //!   [`stream::queue::EncoderSituation`] are its parts.
 //! - [`stream::queue::RangeDecoder`], with [`stream::queue::DefaultRangeDecoder`] and
-//!   [`stream::queue::SmallRangeDecoder`]. [`stream::queue::DecoderFrontendError`] is the error of a quantile that no
-//!   symbol has.
-//! - [`stream::queue::RangeCompressedIter`], [`stream::queue::EncoderGuard`]: the sealed words of an encoder, which
-//!   stays unchanged. [`stream::queue::LendsAsWritten`]: backends that lend their words in writing order.
-//! - [`stream::queue::encode_flagged`], [`stream::queue::FlagSwitch`]: two models in one stream, separated by a flag.
+//!   [`stream::queue::SmallRangeDecoder`]. [`stream::queue::DecoderFrontendError`] is the error of words that encode no
+//!   symbol at the decoder's position.
+//! - [`stream::queue::RangeCompressedIter`], [`stream::queue::EncoderGuard`]: an iterator over the sealed words of an
+//!   encoder, and a guard that lends these words. The encoder stays unchanged. [`stream::queue::LendsAsWritten`]:
+//!   backends that lend their words in writing order.
+//! - [`stream::queue::encode_flagged`], [`stream::queue::FlagSwitch`]: two models in one list of symbols. The second
+//!   model is used after a flag.
 //!
 //! ## [`stream::chain`]: symbols that don't depend on each other's models
 //!
 //! - [`stream::chain::ChainCoder`], with [`stream::chain::DefaultChainCoder`] and [`stream::chain::SmallChainCoder`].
-//!   [`stream::chain::ChainCoderHeads`] and [`stream::chain::BackendPosition`] are its heads, and the positions of its
-//!   backends.
+//!   [`stream::chain::ChainCoderHeads`] has the two heads of a coder. [`stream::chain::BackendPosition`] has the
+//!   positions of its two backends.
 //! - [`stream::chain::DecoderFrontendError`], [`stream::chain::EncoderFrontendError`], [`stream::chain::BackendError`],
 //!   [`stream::chain::ChangePrecisionError`]: the errors of its calls.
 //!
 //! # [`store`]: many lists in one list of words, each decoded alone
 //!
-//! - [`store::Store`]: chunks of symbols under one model, with an index of where each chunk begins. A store has at most
-//!   [`store::MOST_SYMBOLS`] symbols. [`store::BuildError`], [`store::ChunkError`] and [`store::BadIndex`] are the
-//!   errors of its calls.
+//! - [`store::Store`]: chunks of symbols under one model, with an index that has the position of each chunk. A store
+//!   has at most [`store::MOST_SYMBOLS`] symbols. [`store::BuildError`], [`store::ChunkError`] and [`store::BadIndex`]
+//!   are the errors of its calls.
 //!
 //! # [`symbol`]: symbols as lists of bits
 //!
-//! - [`symbol::QueueEncoder`], [`symbol::QueueDecoder`], [`symbol::StackCoder`]: bits in words, with the traits
-//!   [`symbol::WriteBitStream`] and [`symbol::ReadBitStream`].
+//! - [`symbol::QueueEncoder`], [`symbol::QueueDecoder`], [`symbol::StackCoder`]: coders that write bits into words and
+//!   read them. Their calls are in the traits [`symbol::WriteBitStream`] and [`symbol::ReadBitStream`].
 //! - [`symbol::EncoderCodebook`], [`symbol::DecoderCodebook`]: a list of bits for each symbol.
 //!   [`symbol::exp_golomb::ExpGolomb`] is a codebook for all numbers.
 //! - [`symbol::huffman::EncoderHuffmanTree`], [`symbol::huffman::DecoderHuffmanTree`]: the Huffman codebook of weights,
 //!   for encoding and for decoding. [`symbol::huffman::HuffmanError`] is the error of weights that make no tree.
-//! - [`symbol::reversed_codeword`]: reverses a codeword that a [`symbol::SuffixCodebook`] finds from its last bit to
-//!   its first, in a [`symbol::SmallBitStack`].
+//! - [`symbol::reversed_codeword`]: emits a codeword from its first bit to its last, by a codebook that emits codewords
+//!   from the last bit to the first ([`symbol::SuffixCodebook`]). It reverses the bits in a [`symbol::SmallBitStack`].
 //!
 //! # [`laws`]: theorems about lists of calls
 //!
-//! Functions whose contracts are theorems, for use in your proofs. Most are laws over definitions: you call a law for
-//! its contract, and the call does nothing. The functions in modules `round_trips` make the coders' calls for lists of
-//! symbols. Each of these functions either encodes or decodes.
+//! Functions whose contracts are theorems, for use in your proofs. Most of them are laws, which have no code. You call
+//! a law to use its contract in your proof, and at run time the call does nothing. The functions in modules
+//! `round_trips` do run: each of them encodes or decodes a list of symbols.
 //!
 //! - [`laws::lists`]: if each step can be undone, so can a list of steps.
-//! - [`laws::bounds`]: upper bounds on the words of the stack coder and of the range coder for any steps, and words
-//!   that may follow the words of a range coder.
+//! - [`laws::bounds`]: upper bounds on the number of words of the stack coder and of the range coder, for any list of
+//!   steps. Also, which words may follow the words of a range coder.
 //! - [`laws::chain`]: the chain coder. [`laws::chain::isolation`] says that its symbols don't depend on each other's
-//!   models. [`laws::chain::steps`], [`laws::chain::lists`] and [`laws::chain::words`] are about one step, lists, and
-//!   words that are restored through the remainders. [`laws::chain::round_trips`] decodes symbols and encodes them
+//!   models. [`laws::chain::steps`], [`laws::chain::lists`] and [`laws::chain::words`] are about one step, about lists,
+//!   and about restoring words from the remainders. [`laws::chain::round_trips`] decodes symbols and encodes them
 //!   again.
 //! - [`laws::queue`]: the range coder. [`laws::queue::words`], [`laws::queue::lists`] and [`laws::queue::positions`]
 //!   are about sealed words, lists of symbols, and recorded positions. [`laws::queue::round_trips`] encodes and decodes

@@ -1,8 +1,8 @@
 //! Words that move between a coder's head and a backend. The head is the number that a coder keeps above its words.
 //!
-//! If there are no words to write, `append_words` doesn't call the backend. A call that stops at a refused write
-//! returns how many words it wrote before that write. The stack coder's guard takes these words off again. The guard
-//! needs the number, because generic code can't count the words on a backend.
+//! If there are no words to write, `append_words` doesn't call the backend. If a write is refused, the call returns how
+//! many words it wrote before that write. The stack coder's guard needs this number to take the words off again,
+//! because generic code can't count the words on a backend.
 
 ghost use Rattle.std.specs.Prelude.{Err, IfErr, IfNone, IfOk, IfSome, MatchResult, Ok, drop, ℕ, ◌+◌, ◌<◌};
 ghost use Rattle.std.specs.Prelude.{true, ◌^◌, ◌≡◌, ◌≤◌, ◌⊎◌};
@@ -31,7 +31,7 @@ pub fn count_of_words<Word: WordOf<State>, State: BitArray>(head: State) -> usiz
     count
 }
 
-/// Returns the number of words below a head's leading set bit, or `None` if those bits don't fill whole words.
+/// Returns how many words the bits below a head's highest set bit fill, or `None` if they don't fill whole words.
 ///
 /// It also returns `None` for the head 0.
 pub fn words_below_one<Word: WordOf<State>, State: BitArray>(head: State) -> Option<usize>
@@ -120,11 +120,11 @@ pub fn append_words<Word: WordOf<State>, State: BitArray, Backend: WriteWords<Wo
     write_words(bulk, head, count)
 }
 
-/// Reads words into a head until the head reaches `2 ^ bits` or no word is left.
+/// Reads words into a head until the head is at least `2 ^ bits` or no word is left.
 ///
-/// Returns the new head, and whether it reached `2 ^ bits`. Each word becomes the lowest word of the head. If the head
-/// is at least `2 ^ bits` already, the call reads no word. The caller proves that the head is above 0, and that `State`
-/// is wide enough for `bits` bits and one more word.
+/// Returns the new head, and whether it is at least `2 ^ bits`. For each word read, the head is shifted up by one word,
+/// and the word read becomes its lowest word. If the head is at least `2 ^ bits` already, the call reads no word. The
+/// caller proves that the head is above 0, and that `State` is wide enough for `bits` bits and one more word.
 ///
 /// # Errors
 ///

@@ -1,4 +1,4 @@
-//! Model traits: which interval of the quantiles stands for a symbol.
+//! Model traits. A model gives each symbol an interval of numbers, whose length stands for the symbol's probability.
 //!
 //! A model of a given precision (in bits) partitions its quantiles, the numbers below `2 ^ PRECISION`, into intervals.
 //! Each symbol that the model can code has one interval. [`EncoderModel`] finds the interval of a symbol.
@@ -63,10 +63,11 @@ pub trait EncoderModel<const PRECISION: usize>: EntropyModel<PRECISION> {
             (Self.Probability.nonzero_number found.1)) }
         ensures impossible { IfNone result (Impossible (Self.table self.now) symbol.now) };
 
-    /// Returns the start and the length of the symbol's interval, and the length's reciprocal where the model has one.
+    /// Returns the start and the length of the symbol's interval, and the length's reciprocal if the model stores it.
     ///
     /// Returns `None` for an impossible symbol. With a reciprocal, an encoder multiplies where it would divide by the
-    /// length. A model without reciprocals keeps the default method, which returns no reciprocal.
+    /// length. A model that stores no reciprocals keeps the default method, which returns `None` in place of the
+    /// reciprocal.
     fn left_cumulative_and_reciprocal(
         &self,
         symbol: &Self::Symbol,

@@ -1,4 +1,4 @@
-//! Borrowed words as a buffer, and as a value that turns into a cursor.
+//! A borrowed slice of words as a buffer, and as a value that turns into a cursor.
 //!
 //! A cursor that is read as a stack starts at the end of the words. A cursor that is read as a queue starts at their
 //! beginning.

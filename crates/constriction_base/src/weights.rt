@@ -1,13 +1,13 @@
 //! `WeightTable`: a model made from the weights of its symbols.
 //!
 //! The table cuts off weights of 0 at the end of the list, so that the start of each remaining symbol fits
-//! `Probability`. Starts and hints take one allocation each. Contracts describe a table by `entries`, defined in
-//! `specs/`, because a law of a trait ranges over all values of a model.
+//! `Probability`. Starts and hints take one allocation each. Contracts describe a table by its `entries`, defined in
+//! `specs/`, because the laws of `EntropyModel` hold for every value of the type.
 //!
-//! A reciprocal takes one 128-bit division, 33 to 41 ns in a prototype. The rest of a table takes 10.4 to 10.8 ns a
-//! symbol. Two 64-bit divisions would take 19 to 29 ns, but they serve only weights below 2^32, so the table uses the
-//! simpler form. An encoder that divides by weights does so with a table of `for_decoding`. With a table of `new`, at a
-//! precision of at most 63 bits, it never divides.
+//! Making a reciprocal takes one 128-bit division, 33 to 41 ns in a prototype. Making the rest of a table takes 10.4 to
+//! 10.8 ns a symbol. Two 64-bit divisions would take 19 to 29 ns, but they work only for weights below 2^32, so the
+//! table uses the simpler form. An encoder that divides by weights, such as the stack coder, still divides if the table
+//! is made by `for_decoding`. If the table is made by `new`, at a precision of at most 63 bits, it never divides.
 
 mod hints;
 pub mod starts;
@@ -57,13 +57,13 @@ impl From<AllocError> for TableError {
 
 /// A model of the symbols `0`, `1`, .. by their weights, which add up to `2 ^ PRECISION`.
 ///
-/// A table is made from a list of weights, where entry `i` is the weight of symbol `i`. The intervals lie in the order
-/// of the symbols, and the length of each interval is its symbol's weight. A symbol of weight 0 has no interval, and
-/// neither has a number past the end of the list. Both are impossible symbols.
+/// A table is made from a list of weights, where the weight at index `i` is the weight of symbol `i`. The intervals lie
+/// in the order of the symbols, and the length of each interval is its symbol's weight. A symbol is impossible if its
+/// weight is 0, or if the list has no weight for it.
 ///
-/// A decoder finds a quantile's symbol in two steps. The quantile's high bits, its bucket, select the few symbols whose
-/// intervals meet the bucket. A binary search then finds the symbol among them. Usually only one symbol is left, and
-/// the search takes no step.
+/// A decoder finds a quantile's symbol in two stages. All quantiles with the same high bits form a bucket, and the
+/// table stores which symbols have an interval that meets the bucket. A binary search then finds the symbol among these
+/// few. Usually there is only one, and nothing is left to search.
 ///
 /// # Examples
 ///
@@ -101,14 +101,14 @@ impl<Probability: BitArray, const PRECISION: usize> WeightTable<Probability, PRE
 
     /// Creates the table of `weights`, for encoding and decoding.
     ///
-    /// If `PRECISION` is `Probability::BITS`, a single weight can't hold the total, so at least two weights have to be
-    /// above 0.
+    /// The caller proves that `PRECISION` is at least 1 and at most `Probability::BITS`. If `PRECISION` is
+    /// `Probability::BITS`, a single weight can't hold the total, so at least two weights have to be above 0.
     ///
-    /// The table allocates in `alloc`. Let `n` be the number of symbols up to and including the last symbol with a
-    /// weight above 0. The table keeps:
+    /// The table allocates its memory from `alloc`. Let `n` be the number of symbols up to and including the last
+    /// symbol with a weight above 0. The table keeps:
     ///
-    /// - The starts of `n` intervals.
-    /// - At most `4 * n + 1` hints.
+    /// - `n` starts, one for each of these symbols.
+    /// - At most `4 * n + 1` hints, which speed up decoding.
     /// - At a precision of at most 63 bits, `n` reciprocals of 24 bytes each. With them, an encoder that would divide
     ///   by a weight multiplies instead.
     ///
@@ -149,8 +149,8 @@ impl<Probability: BitArray, const PRECISION: usize> WeightTable<Probability, PRE
     /// Creates the table of `weights` without reciprocals, for decoding.
     ///
     /// The table has the same entries as the table of [`new`](WeightTable::new), and takes less time and memory. It
-    /// also serves encoders that don't divide by weights, such as the range coder's. Encoders that divide by weights
-    /// accept it too, but run slower.
+    /// is also the better table for encoders that don't divide by weights, such as the range coder's. Encoders that
+    /// divide by weights accept the table too, but run slower.
     ///
     /// # Errors
     ///

@@ -1,6 +1,7 @@
 //! The code that a C function returns for the answer of its call.
 //!
-//! The contract of an export has each clause of its call, for the answer that the code stands for (`answer_by_code`).
+//! Each C function makes one call of `constriction_calls`, and its contract has each clause of the call's contract. The
+//! clauses are about the answer that the returned code stands for (`answer_by_code`).
 
 ghost use Rattle.std.specs.Prelude.{◌≡◌, ℕ, Err};
 ghost use Rattle.constriction_inputs.specs.declared.refusal.Refusal.TheVariants.{NoSpace};

@@ -1,4 +1,4 @@
-//! The C functions of models: intervals of families, and weights of counts, in both sizes.
+//! The C functions of models: intervals under the models of families, and weights from counts, in both sizes.
 
 ghost use Rattle.std.specs.Prelude.{map};
 ghost use Rattle.constriction_c.specs.Codes.{answer_by_code};
@@ -11,7 +11,7 @@ use constriction_inputs::quantized::intervals::intervals_of_quantized;
 use constriction_words::BitArray;
 use std::alloc::Global;
 
-/// Writes each symbol's interval under its own model of a family, with a precision of 24 bits.
+/// Writes each symbol's interval under the model of its own location and scale, at a precision of 24 bits.
 #[unsafe(no_mangle)]
 pub extern "C" fn constriction_quantized_intervals_u32(
     family: u32,
@@ -31,7 +31,7 @@ pub extern "C" fn constriction_quantized_intervals_u32(
     code_without_space(intervals_of_quantized::<u32, 24>(&models, symbols, lefts, ps))
 }
 
-/// Calls `intervals_of_quantized` with a precision of 12 bits.
+/// Writes each symbol's interval under the model of its own location and scale, at a precision of 12 bits.
 #[unsafe(no_mangle)]
 pub extern "C" fn constriction_quantized_intervals_u16(
     family: u32,
@@ -51,7 +51,7 @@ pub extern "C" fn constriction_quantized_intervals_u16(
     code_without_space(intervals_of_quantized::<u16, 12>(&models, symbols, lefts, ps))
 }
 
-/// Writes weights that add up to `2^24`, in proportion to counts.
+/// Writes a weight for each count: in proportion to the counts, apart from rounding, and with the sum `2^24`.
 #[unsafe(no_mangle)]
 pub extern "C" fn constriction_weights_of_counts_u32(
     alloc: Global,
@@ -64,7 +64,7 @@ pub extern "C" fn constriction_weights_of_counts_u32(
     code_without_space(put_weights_of_counts::<u32, 24>(alloc, counts, weights))
 }
 
-/// Calls `put_weights_of_counts` for weights that add up to `2^12`.
+/// Writes a weight for each count: in proportion to the counts, apart from rounding, and with the sum `2^12`.
 #[unsafe(no_mangle)]
 pub extern "C" fn constriction_weights_of_counts_u16(
     alloc: Global,

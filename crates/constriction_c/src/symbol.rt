@@ -1,4 +1,4 @@
-//! The C functions of symbol codes: Huffman and Exp-Golomb codewords.
+//! The C functions of codebooks, `constriction_huffman_..` and `constriction_exp_golomb_..`.
 //!
 //! The module [`constriction_calls::symbol`] has the calls, and explains their arguments and errors.
 //!

@@ -1,6 +1,7 @@
 //! The stack coder over a caller's buffer.
 //!
-//! The coder's state is a head and the first `len` words of the buffer, last word on top.
+//! The caller keeps the coder's state: a head, and a buffer. The first `len` words of the buffer are in use, and the
+//! last of them is the top word.
 //!
 //! - [`encoding`]: encoding symbols.
 //! - [`decoding`]: decoding symbols.
@@ -10,16 +11,16 @@
 //!
 //! A call that fails changes nothing. It returns the first of these errors that applies:
 //!
-//! - `WrongLength`: `len` is past the buffer's end, the numbers of symbols and of models differ, or the lengths of
-//!   `lefts` and `ps` differ.
-//! - `WrongInterval`: an interval is empty or ends past `2 ^ PRECISION`, or a range has fewer than two symbols or more
-//!   than `2 ^ PRECISION`.
-//! - `WrongWeights`: weights don't add up to `2 ^ PRECISION`, no family has the caller's family number, or a scale is
-//!   0.
-//! - `InvalidData`: no state has these words, or this head.
+//! - `WrongLength`: `len` is past the buffer's end, the arguments of the models don't match the number of symbols, or
+//!   the lengths of `lefts` and `ps` differ.
+//! - `WrongInterval`: an interval is empty or ends past `2 ^ PRECISION`. Or the range of a family has fewer than two
+//!   symbols, or more than `2 ^ PRECISION` symbols.
+//! - `WrongWeights`: the caller's weights or distributions make no models.
+//!   [`constriction_inputs::refusal::Refusal::WrongWeights`] lists the cases.
+//! - `InvalidData`: no state exports the words to import, or the head to export has no binary form.
 //! - `ImpossibleSymbol`: a model has no entry for its symbol.
-//! - `NoSpace(needed)`: the buffer is too short. `needed` is the number of words that the state would have.
-//! - `NoMemory`: there is no memory. The call may also return this if the buffer is too short.
+//! - `NoSpace(needed)`: the buffer is too short. `needed` is the number of words that it would hold after the call.
+//! - `NoMemory`: there is no memory. The call may return `NoMemory` in place of `NoSpace`.
 //!
 //! # Examples
 //!

@@ -1,20 +1,22 @@
-//! The chain coder over a caller's buffers. The coder's state is two heads and the words of two buffers.
+//! The chain coder over a caller's buffers.
 //!
-//! The words in use are the first words of each buffer, last word on top. The caller passes the number of words in use.
-//! A decode reads compressed words and writes remainders. An encode reads remainders and writes compressed words.
+//! The caller keeps the coder: two heads, a buffer of compressed words, and a buffer of remainders. The first words of
+//! each buffer are in use, and the last of them is the top word. The caller passes the number of words in use of each
+//! buffer. A decode reads compressed words and writes remainders. An encode reads remainders and writes compressed
+//! words.
 //!
 //! # Errors
 //!
 //! A call that fails changes nothing. It checks for these errors in this order. Each except `NoMemory` is returned
 //! exactly in its case:
 //!
-//! - `WrongLength`: a number of words is past its buffer's end, or the arguments of the models don't have as many items
-//!   as there are symbols.
+//! - `WrongLength`: a number of words in use is past its buffer's end, or the arguments of the models don't match the
+//!   number of symbols.
 //! - `WrongInterval`, `WrongWeights`: the arguments make no models. [`constriction_inputs::models`] describes these
 //!   cases.
 //! - `InvalidData`: no coder has these heads.
 //! - `ImpossibleSymbol`: a model has no entry for its symbol.
-//! - `OutOfData`: the coder needs a word, and none is left.
+//! - `OutOfData`: the coder needs a word from the buffer that it reads, and no word is left there.
 //! - `NoSpace(needed)`: the buffer to write to is too short. `needed` is the number of words that it has to hold.
 //! - `NoMemory`: there is no memory.
 
@@ -39,8 +41,8 @@ pub use words::{
 /// ```
 #[derive(Debug, Clone, Copy, PartialEq, Eq)]
 pub struct ChainHeads<Word, State> {
-    /// The head of the remainders.
+    /// The remainders head: the number on top of the words of the remainders.
     pub remainders: State,
-    /// The compressed head: a 1 above the bits left over from compressed words.
+    /// The compressed head: a leading 1, and below it the bits of the last compressed word read that no decode used.
     pub compressed: Word,
 }

@@ -1,7 +1,8 @@
-//! The coders as calls over a caller's buffers, with no value that outlives a call.
+//! The coders as functions over a caller's buffers. No object of this crate outlives a call.
 //!
-//! The caller keeps a coder's state between calls: words in a buffer with their number, and heads. So a caller in
-//! another language needs no handle. `constriction_c` has a C function for each call.
+//! Between calls the caller keeps all parts of a coder: a buffer of words, the number of words in use, and a few
+//! numbers such as heads. So a caller in another language needs no handle. `constriction_c` has a C function for each
+//! call.
 //!
 //! - [`ans`]: the stack coder.
 //! - [`symbol`]: encoding lists of symbols with codebooks, and decoding them.

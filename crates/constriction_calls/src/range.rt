@@ -1,6 +1,7 @@
-//! The range coder over a caller's buffers. An encoder or a decoder is a few numbers that the caller keeps.
+//! The range coder over a caller's buffers.
 //!
-//! The words that an encoder wrote are the first `len` words of a buffer, in the order of writing.
+//! The caller keeps an encoder or a decoder as a few numbers, and a buffer of words. The first `len` words of an
+//! encoder's buffer are the words that it wrote, in the order of writing. A decoder reads a whole buffer.
 //!
 //! - [`encoding`]: encoding symbols.
 //! - [`decoding`]: decoding symbols.
@@ -12,11 +13,11 @@
 //!
 //! A call that fails changes nothing. Each call first checks for these errors, in this order:
 //!
-//! - `WrongLength` exactly if `len` or a position is past the buffer's end.
-//! - `WrongLength`, `WrongInterval` and `WrongWeights` exactly if [`constriction_inputs::models::Models::check`]
-//!   returns them.
-//! - `InvalidData` exactly if no decoder or encoder has the numbers, or if the encoder can't count that many further
-//!   symbols.
+//! - `WrongLength` exactly if `len`, or the decoder's position, is past the buffer's end.
+//! - `WrongLength`, `WrongInterval` or `WrongWeights` exactly if the call takes models, and
+//!   [`constriction_inputs::models::Models::check`] returns the error.
+//! - `InvalidData` exactly if no encoder or decoder has the numbers that the caller passes for it, or if the encoder
+//!   can't count the symbols to encode.
 //!
 //! The errors that a call itself documents come after these.
 

@@ -1,17 +1,18 @@
 //! Encoding lists of symbols with codebooks, and decoding them, over a caller's buffers.
 //!
-//! A caller chooses the codewords with a value whose type implements [`Codes`]: `ExpGolomb` for numbers, or [`Tree`]
-//! for the Huffman tree of weights.
+//! A caller chooses the codebook with a value whose type implements [`Codes`]. The types are `ExpGolomb` for numbers,
+//! and [`Tree`] for the Huffman tree of weights.
 //!
 //! # Errors
 //!
 //! A call that fails leaves the buffers unchanged. It returns the first of these errors that applies:
 //!
-//! - `WrongWeights`: the weights make no tree, because there are none, or their sum doesn't fit their type.
+//! - `WrongWeights`: the weights make no Huffman tree. There are no weights or too many, or their sum doesn't fit their
+//!   type.
 //! - `ImpossibleSymbol`: a symbol has no codeword.
 //! - `NoSpace(needed)`: the buffer is too short. `needed` is the number of words that it has to hold.
-//! - `OutOfData`: the words end before all symbols are read.
-//! - `InvalidData`: at some symbol the next bits begin with no codeword, or the last word of a stack is 0.
+//! - `OutOfData`: the words end before all symbols are decoded.
+//! - `InvalidData`: no codeword is a beginning of the next bits, or the last word of a stack is 0.
 //!
 //! If there is no memory, the call returns `NoMemory`, unless `WrongWeights` or `ImpossibleSymbol` applies.
 
@@ -33,11 +34,11 @@ pub use encoding::{encode_queue, encode_stack};
 use std::alloc::Global;
 pub use trees::Tree;
 
-/// A caller's choice of codewords.
+/// A caller's choice of a codebook.
 ///
-/// An implementor defines the choice (`book`), and proves that its codebooks have the codewords of that choice. It also
-/// proves when each error is returned: if the weights make no tree, if a symbol has no codeword, or if there is no
-/// memory.
+/// An implementor defines the codewords (`book`). It proves that the codebooks for encoding and for decoding have these
+/// codewords. It also proves which error is returned if the weights make no tree, if a symbol has no codeword, or if
+/// there is no memory.
 pub trait Codes {
     type Symbol: Copy + Drop;
 
@@ -47,10 +48,10 @@ pub trait Codes {
     /// The error of the decoder's codebook for bits that begin with no codeword.
     type Wrong: Drop;
 
-    /// The choice of codewords: Exp-Golomb, or the Huffman tree of weights. It assigns codewords to numbers.
+    /// Defines the codewords of numbers: by Exp-Golomb, or by the Huffman tree of weights.
     ghost book: { Self → SymbolCode };
 
-    /// The number of a symbol, to which `book` assigns the codeword.
+    /// Assigns a number to each symbol. The symbol's codeword is the codeword of that number in `book`.
     ghost number: { Self.Symbol → ℕ };
 
     /// Makes the codebook for encoding. Returns `None` if the weights make no tree, or if there is no memory.

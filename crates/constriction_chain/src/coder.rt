@@ -22,11 +22,11 @@ use constriction_words::{BitArray, WordOf};
 use std::alloc::AllocError;
 use std::marker::Model;
 
-/// A coder that decodes each symbol from its own bits of the compressed words, with that symbol's model alone.
+/// A coder that decodes each symbol from separate bits of the compressed words, with that symbol's model alone.
 ///
 /// A decode takes a quantile from the compressed words. The quantile lies in the interval of the symbol. The decode
-/// moves the quantile's place in that interval to the remainders. An encode takes the place back from the remainders,
-/// and restores the quantile.
+/// moves the offset, which is the quantile minus the interval's start, to the remainders. An encode takes the offset
+/// back from the remainders, and restores the quantile.
 ///
 /// Contracts see a `ChainValue`: the state (the two heads and the words of both backends) and the backends.
 ///

@@ -1,4 +1,4 @@
-//! Decoding in two halves, with a call of the model between them, and encoding, on the heads and the backends.
+//! Decoding and encoding on the heads and the backends. A decode has two halves, with a call of the model between them.
 //!
 //! The heads are two numbers here, and not a struct with a const parameter: in a function that is generic over two
 //! backends and a model, such a struct makes conditions too large for the checker.
@@ -40,7 +40,7 @@ pub fn take<Word: WordOf<State>, State: BitArray, C: ReadWords<Word, Stack>, R: 
     take_quantile(compressed, remainders, heads.0, precision)
 }
 
-/// Moves the place of a quantile in its interval to the remainders, and returns the remainders head after it.
+/// Moves a quantile's offset in its interval to the remainders, and returns the remainders head after it.
 #[inline(always)]
 pub fn keep<Word: WordOf<State>, State: BitArray, R: WriteWords<Word>>(
     remainders: &mut R,

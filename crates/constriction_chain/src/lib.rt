@@ -1,10 +1,10 @@
 //! The chain coder: each symbol depends on its own model alone.
 //!
-//! A [`coder::ChainCoder`] decodes every symbol from bits of its own. A decode takes a quantile from the compressed
-//! words, with as many bits as the precision. It looks up the quantile's symbol, and moves the remaining information to
-//! a second stack of words, the remainders. If the model of one symbol changes, that symbol and the remainders change,
-//! and no other symbol does. Bits-back coding and inference with entropy coders need this property. Encoding is the
-//! inverse: it takes the information back from the remainders and restores the bits.
+//! A [`coder::ChainCoder`] decodes every symbol from bits that no other symbol uses. A decode takes a quantile from the
+//! compressed words, with as many bits as the precision. It looks up the quantile's symbol, and moves the remaining
+//! information to a second stack of words, the remainders. If the model of one symbol changes, that symbol and the
+//! remainders may change, and no other symbol does. Bits-back coding and inference with entropy coders need this
+//! property. Encoding is the inverse: it takes the information back from the remainders and restores the bits.
 //!
 //! ```
 //! let table = WeightTable::<u32, 24>::new(alloc, &[8388608, 8388608])?;
@@ -27,10 +27,15 @@
 //! - `steps`: the parts of a step, each on one of the two sides.
 //! - `moves`: moving words between the heads and a backend.
 //!
-//! Contracts cite the definitions of `specs/Walk.antt` (quantiles, as a walk on bits), `specs/Chain.antt` (states,
-//! steps, changes of precision), `specs/Words.antt` (imports and exports) and `specs/Steps.antt` (the possible results
-//! of a call over backends). The laws of `constriction_laws` also cite `specs/Symbols.antt`, `specs/Imports.antt` and
-//! `specs/Runs.antt`. Definitions describe words by natural numbers and list them in reading order.
+//! Contracts cite the definitions of these files:
+//!
+//! - `specs/Walk.antt`: quantiles, as a walk on bits.
+//! - `specs/Chain.antt`: states, steps, and changes of precision.
+//! - `specs/Words.antt`: imports and exports.
+//! - `specs/Steps.antt`: the possible results of a call over backends.
+//!
+//! The laws of `constriction_laws` also cite `specs/Symbols.antt`, `specs/Imports.antt` and `specs/Runs.antt`.
+//! Definitions describe words by natural numbers and list them in reading order.
 #![tactic(auto)]
 
 pub mod coder;

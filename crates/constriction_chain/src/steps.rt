@@ -76,7 +76,7 @@ pub fn take_quantile<Word: BitArray, C: ReadWords<Word, Stack>, R: WriteWords<Wo
     }
 }
 
-/// Adds a place in an interval to the remainders head, and brings the head back into its window.
+/// Adds an offset in an interval to the remainders head, and brings the head back into its window.
 #[inline(always)]
 pub fn gain<Word: WordOf<State>, State: BitArray, R: WriteWords<Word>>(
     remainders: &mut R,

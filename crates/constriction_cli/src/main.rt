@@ -1,4 +1,6 @@
-//! The program `constriction`: coders over lists of numbers, from standard input to standard output.
+//! The program `constriction`, which encodes and decodes lists of numbers.
+//!
+//! It reads lines of numbers from standard input, and writes lines of numbers to standard output.
 #![tactic(auto)]
 
 use constriction_commands::cli;

@@ -92,11 +92,13 @@ fn answer_to<R: Read, O: Write>(
 /// The arguments don't contain the program's name. The status is one of these:
 ///
 /// - 0 if the answer was written.
-/// - 1 if a fault stopped the run. One line on `faults` says which fault.
-/// - 2 if the arguments aren't exactly one known command.
+/// - 1 if a fault stopped the run. The call then writes the fault's line ([`crate::fault::Fault::line`]) to `faults`.
+/// - 2 if there isn't exactly one argument, or if it names no command. The call then writes the usage line to `faults`.
 ///
-/// Whether a read or a write fails depends on `input`, `output` and `faults`. So no clause says when the line of the
-/// fault is `cannot read input`, `cannot write output` or `out of memory`.
+/// The status is the same if the line can't be written to `faults`.
+///
+/// `input` and `output` decide whether a read or a write fails. So no clause says when the line on `faults` is `cannot
+/// read input`, `cannot write output` or `out of memory`.
 pub fn run<R: Read, O: Write, E: Write>(
     alloc: Global,
     args: &[String],
@@ -130,8 +132,8 @@ pub fn run<R: Read, O: Write, E: Write>(
 
 /// Runs the program with the arguments that the system gives, and returns the exit status.
 ///
-/// `given` begins with the program's name. The status is the one that [`run`] returns for the other arguments, except
-/// in two cases:
+/// `given` begins with the program's name. The call passes the arguments after that name to [`run`], and returns the
+/// status that `run` returns. There are two exceptions:
 ///
 /// - If there is no memory for the arguments, the status is 1, and the line on `faults` is `out of memory`.
 /// - If an argument isn't UTF-8, the status is 2.

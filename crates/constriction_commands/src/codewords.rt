@@ -29,6 +29,10 @@ impl WriteBitStream<Queue> for Bits {
 }
 
 /// Returns the bits of a symbol's codeword.
+///
+/// # Errors
+///
+/// `AllocError` if there is no memory, or if `codebook` has no codeword for `symbol`.
 pub fn codeword<C: EncoderCodebook>(
     alloc: Global,
     symbol: &C::Symbol,

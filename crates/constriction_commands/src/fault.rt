@@ -1,7 +1,7 @@
 //! The faults that stop a run.
 //!
-//! The text of a fault is a line of bytes and not a `Display`, so that a contract can say which line it is. A test
-//! compares the lines of the coders' errors with the texts of these errors.
+//! [`Fault`] has no `Display`. It returns its text as a line of bytes, so that a contract can say which bytes these
+//! are. Some faults hold an error of a coder. A test compares the lines of these faults with the texts of the errors.
 
 ghost use Rattle.std.specs.Prelude.{◌≡◌};
 ghost use Rattle.constriction_commands.specs.Written.{fault_line};
@@ -37,19 +37,19 @@ pub enum Fault {
     Encoder(DefaultEncoderFrontendError),
     /// The last compressed word is 0.
     ZeroWord(CompressedDataEndsWithZeroWord),
-    /// The words belong to no chain coder: there are too few, or the last one is 0.
+    /// No chain coder has these words: there are too few words, or the last word is 0.
     NoChain,
-    /// The words of a chain coder ended.
+    /// The words ended before a chain coder had decoded all symbols.
     OutOfData(chain::DecoderFrontendError),
-    /// The compressed words don't encode symbols of the table.
+    /// The words of a range coder don't encode the number of symbols to decode.
     InvalidData(DecoderFrontendError),
-    /// A chunk to look up is past the last chunk.
+    /// The index of a chunk to look up is past the last chunk.
     NoSuchChunk,
     OutOfMemory,
 }
 
 impl Fault {
-    /// Returns the line for standard error, with its line feed.
+    /// Returns the line that the program writes to standard error for this fault. It ends with a line feed.
     pub fn line(&self) -> &'static [u8]
         ensures { result.now ≡ fault_line self.now }
     {

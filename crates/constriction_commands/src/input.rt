@@ -13,7 +13,8 @@ use std::io::{ErrorKind, Read};
 ///
 /// # Errors
 ///
-/// `OutOfMemory` if there is no memory for the bytes. `Unreadable` if a read fails for another reason.
+/// - `OutOfMemory` if there is no memory for the bytes.
+/// - `Unreadable` if a read fails for another reason.
 pub fn read_all<R: Read>(alloc: Global, input: &mut R) -> Result<Vec<u8>, Fault>
     ensures ok { IfOk result (λ text. IfSome (R.remaining input.old) (λ left. text.items ≡ left)) }
     ensures err { IfErr result (λ fault. (fault ≡ Unreadable) ⊎ (fault ≡ OutOfMemory)) }
@@ -26,7 +27,9 @@ pub fn read_all<R: Read>(alloc: Global, input: &mut R) -> Result<Vec<u8>, Fault>
     }
 }
 
-/// Returns the first line without its line feed, and the text after it.
+/// Returns the first line without its line feed, and the text after that line feed.
+///
+/// A text without a line feed is one line, and the text after it is empty.
 pub fn split_line(text: &[u8]) -> (&[u8], &[u8])
     ensures first { result.0.now ≡ first_line text.now }
     ensures rest { result.1.now ≡ after_line text.now }
@@ -37,7 +40,7 @@ pub fn split_line(text: &[u8]) -> (&[u8], &[u8])
     }
 }
 
-/// A type for the numbers of a line.
+/// A type of numbers, in which the numbers of a line can be parsed.
 pub trait Number: Copy {
     /// The greatest number of the type.
     const GREATEST: u64;
@@ -93,11 +96,12 @@ fn with_digit(so_far: u64, byte: u8, greatest: u64) -> Option<u64>
     if value <= greatest { Some(value) } else { None }
 }
 
-/// Parses the numbers of a line.
+/// Parses the numbers of a line. They are decimal, with spaces, tabs or carriage returns between them.
 ///
 /// # Errors
 ///
-/// `BadNumber` only if the line isn't a list of numbers that fit the type `N`. `OutOfMemory` if there is no memory.
+/// - `BadNumber` only if the line isn't a list of numbers that fit the type `N`.
+/// - `OutOfMemory` if there is no memory.
 pub fn parse_numbers<N: Number>(alloc: Global, line: &[u8]) -> Result<Vec<N>, Fault>
     ensures ok { IfOk result (λ numbers. numbers_of N.GREATEST line.now ≡ Some (map N.number numbers.items)) }
     ensures bad { IsErrOf result BadNumber → numbers_of N.GREATEST line.now ≡ None }
@@ -124,11 +128,12 @@ pub fn parse_numbers<N: Number>(alloc: Global, line: &[u8]) -> Result<Vec<N>, Fa
     Ok(numbers)
 }
 
-/// Parses a list of numbers for each line of a text.
+/// Parses each line of a text as a list of numbers, as [`parse_numbers`] does. Returns the lists in order.
 ///
 /// # Errors
 ///
-/// `BadNumber` if a line isn't a list of numbers that fit the type `N`. `OutOfMemory` if there is no memory.
+/// - `BadNumber` only if a line isn't a list of numbers that fit the type `N`.
+/// - `OutOfMemory` if there is no memory.
 pub fn parse_lines<N: Number>(alloc: Global, text: &[u8]) -> Result<Vec<Vec<N>>, Fault>
     ensures ok { IfOk result (λ lists. number_lists_of N.GREATEST text.now
         ≡ Some (map (λ list. map N.number list.items) lists.items)) }

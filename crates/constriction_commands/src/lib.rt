@@ -1,8 +1,8 @@
-//! The commands of the program `constriction`, and whole runs of it, from bytes to bytes.
+//! The commands of the program `constriction`, and whole runs of the program.
 //!
-//! [`cli::run`] runs a command with given arguments, over any reader and writers. [`cli::start`] runs the program with
-//! the arguments that the system gives. The files of `specs/commands/` say what each command answers, and when it
-//! fails.
+//! [`cli::run`] runs the command that the arguments name, over any reader and writers. [`cli::start`] runs the program
+//! with the arguments that the system gives. The files of `specs/commands/` define the output of each command, and the
+//! inputs for which it fails.
 #![tactic(auto)]
 
 pub mod cli;

@@ -12,7 +12,7 @@ use itoa::{Buffer, Integer};
 use std::alloc::{AllocError, Global};
 use std::io::{ErrorKind, Write};
 
-/// Appends a line of numbers to `out`.
+/// Appends a line of numbers to `out`: the numbers in decimal, separated by spaces, and a line feed.
 pub fn push_numbers<I: Integer>(out: &mut Vec<u8>, numbers: &[I]) -> Result<(), AllocError>
     ensures { OnOk result (out.new.items ≡ out.old.items ++ join_with_byte 32 (map I.text numbers.now) ++ 10 ∷ []) }
 {
@@ -27,7 +27,7 @@ pub fn push_numbers<I: Integer>(out: &mut Vec<u8>, numbers: &[I]) -> Result<(), 
     Ok(())
 }
 
-/// Returns a line of numbers.
+/// Returns a line of numbers: the numbers in decimal, separated by spaces, and a line feed.
 pub fn line_of_numbers<I: Integer>(alloc: Global, numbers: &[I]) -> Result<Vec<u8>, AllocError>
     ensures { IfOk result (λ line. line.items ≡ join_with_byte 32 (map I.text numbers.now) ++ 10 ∷ []) }
 {
@@ -77,7 +77,7 @@ fn write_bytes<O: Write>(output: &mut O, bytes: &[u8]) -> Result<(), Fault>
 ///
 /// # Errors
 ///
-/// `Unwritable` if a write or the flush fails. The first bytes may have been written.
+/// `Unwritable` if a write or the flush fails. By then a part of `bytes` from the beginning may be written.
 pub fn write_out<O: Write>(output: &mut O, bytes: &[u8]) -> Result<(), Fault>
     ensures ok { OnOk result (Appends (O.contents output.old) (O.contents output.new) bytes.now) }
     ensures begun { GrowsByBeginning (O.contents output.old) (O.contents output.new) bytes.now }

@@ -1,4 +1,4 @@
-//! Code that is generic over backends, and a backend of your own for it: [`Counted`].
+//! Functions that are generic over backends, and a user-defined backend to call them with: [`Counted`].
 
 mod counted;
 
@@ -17,7 +17,7 @@ use constriction::{Pos, Queue};
 use counted::Counted;
 use std::alloc::Global;
 
-/// Returns the position of an encoder: the number of words that it has written, and its interval.
+/// Returns the position of an encoder: the number of words written or held back, and the encoder's interval.
 ///
 /// Returns `None` if that number doesn't fit a `usize`.
 fn place<Backend: CountsWords<u32>>(
@@ -34,7 +34,7 @@ fn place<Backend: CountsWords<u32>>(
     }
 }
 
-/// Returns the first symbol of an encoder, or `None` if its backend refuses a call.
+/// Turns an encoder into a decoder, and returns the first symbol decoded. Returns `None` if a call fails.
 fn first_symbol<Backend>(
     encoder: RangeEncoder<u32, u64, Backend>,
     table: &WeightTable<u32, 24>,
@@ -53,11 +53,11 @@ where
     }
 }
 
-/// Returns a decoder of an encoder's bits, first bit first.
+/// Turns a queue encoder into a decoder, which reads the encoder's bits from the first one on.
 ///
 /// # Errors
 ///
-/// The backend's error if it refuses the word of the last bits.
+/// The error of the backend, if it can't write the word with the encoder's last bits.
 fn bits_of<Backend>(
     encoder: QueueEncoder<u32, Backend>,
 ) -> Result<QueueDecoder<u32, Backend::IntoReadWords>, Backend::WriteError>
@@ -67,7 +67,7 @@ where
     encoder.into_decoder()
 }
 
-/// Makes an encoder of three symbols over a backend that counts words.
+/// Makes an encoder over the backend [`Counted`], and encodes three symbols.
 fn encoded(
     alloc: Global,
     table: &WeightTable<u32, 24>,
@@ -78,7 +78,9 @@ fn encoded(
     Ok(encoder)
 }
 
-/// Prints an encoder's position, the number of words that it writes in all, and its first symbol.
+/// Encodes three symbols, and prints the encoder's position, the number of words written, and the first symbol decoded.
+///
+/// The number of words written includes the seal.
 fn show_symbols(rt: &impl Print, alloc: Global) -> Result<()> {
     let table = WeightTable::<u32, 24>::new(alloc, &[3, 2, 16777211])?;
     let encoder = encoded(alloc, &table)?;
@@ -95,7 +97,7 @@ fn show_symbols(rt: &impl Print, alloc: Global) -> Result<()> {
     Ok(())
 }
 
-/// Encodes two numbers over a backend that counts words, and prints the first number decoded.
+/// Encodes two numbers over the backend [`Counted`], and prints the first number decoded.
 fn show_bits(rt: &impl Print, alloc: Global) -> Result<()> {
     let golomb = ExpGolomb::<u32>::new();
     let mut bits = QueueEncoder::<u32, _>::from_compressed(Counted::new(Vec::new(alloc)));

@@ -1,9 +1,11 @@
-//! Bits-back coding: symbols of a mixture of models cost no more than their information.
+//! Bits-back coding: symbols under a mixture of two models cost no more bits than their information content.
 //!
-//! Each symbol is drawn from one of two models. The latent says which one, and the receiver doesn't need it. Sending
-//! the latent would cost one bit for each symbol. Bits-back coding gets that bit back: the sender doesn't choose the
-//! latent, but decodes it from words that the coder already holds. This removes the bits of the latent from the coder.
-//! The receiver encodes the latent, and so restores these bits.
+//! Each symbol is drawn from one of two models. A number, called the latent, says which model. The receiver doesn't
+//! need the latent, and encoding it costs one bit for each symbol. Bits-back coding gets that bit back: the sender
+//! decodes the latent from words that the coder already holds. This takes the bits of the latent off the coder. After
+//! the receiver has decoded the symbol, it encodes the latent again, and so restores these bits.
+//!
+//! "Hiding" a symbol is the sender's part, and "revealing" it is the receiver's part.
 
 ghost use Rattle.std.specs.Prelude.{◌≡◌, ℕ, List, length, reverse, IfOk, OnOk};
 ghost use Rattle.constriction.specs.stack.Ans.{AnsState, IsValid};
@@ -18,10 +20,10 @@ use constriction::stream::stack::DefaultAnsCoder as Coder;
 use constriction::stream::{Decode, Encode};
 use std::alloc::Global;
 
-/// The precision in bits. Weights add up to 4096.
+/// The precision of all tables in bits. The weights of a table add up to 4096.
 const PRECISION: usize = 12;
 
-/// A table of the example.
+/// The type of all tables here: of latents, and of symbols.
 type Table = WeightTable<u32, PRECISION>;
 
 /// The symbols that are sent.
@@ -32,12 +34,11 @@ const WORDS: [u32; 4] = [0x0123_4567, 0x89ab_cdef, 0x0bad_cafe, 0x5eed_5eed];
 
 /// The information content of the symbols, in thousandths of a bit.
 ///
-/// For each symbol it is 1000 times the binary logarithm of 8192 divided by the sum of the symbol's two weights,
-/// because both latents are equally likely. This is 1608 for each of the eight symbols 0 and 3, and 2541 for each of
-/// the other four symbols.
+/// Both latents are equally likely. So a symbol's probability is the sum of its weights in the two models, divided by
+/// 8192. Each of the eight symbols 0 and 3 has 1608 thousandths of a bit. Each of the other four symbols has 2541.
 const MILLIBITS: u64 = 8 * 1608 + 4 * 2541;
 
-/// Decodes a symbol from a coder with a table.
+/// Decodes a symbol, or a latent, with a table.
 fn take_off(coder: &mut Coder, table: &Table) -> usize
     ensures { Decodes 32 64 (model_of table.now) result coder.old.state coder.new.state }
 {
@@ -48,7 +49,7 @@ fn take_off(coder: &mut Coder, table: &Table) -> usize
     }
 }
 
-/// Encodes a symbol onto a coder with a table.
+/// Encodes a symbol, or a latent, with a table.
 fn put_on(coder: &mut Coder, symbol: usize, table: &Table) -> Result<()>
     ensures { IsValid 32 64 coder.old.state
         → OnOk result (Encodes 32 64 (model_of table.now) symbol coder.old.state coder.new.state) }
@@ -57,14 +58,14 @@ fn put_on(coder: &mut Coder, symbol: usize, table: &Table) -> Result<()>
     Ok(())
 }
 
-/// Two models of four symbols, one for each latent.
+/// The tables of the example: the prior of the latents, a model of symbols for each latent, and the posteriors.
 #[derive(Drop)]
 struct Mixture {
-    /// The probability of each latent.
+    /// The table of the latents, with equal weights.
     prior: Table,
-    /// The probability of each symbol, for each latent.
+    /// For each latent, the table of the symbols.
     symbols: [Table; 2],
-    /// The probability of each latent, for each symbol: by Bayes' rule, rounded.
+    /// For each symbol, the table of the latents given that symbol. The weights follow from Bayes' rule, rounded.
     posteriors: [Table; 4],
 }
 
@@ -88,7 +89,9 @@ impl Mixture {
         })
     }
 
-    /// Encodes a symbol onto a coder. Decodes the symbol's latent first, and encodes the latent last.
+    /// Hides a symbol: decodes a latent with the symbol's posterior, encodes the symbol, and encodes the latent.
+    ///
+    /// The symbol is encoded with the latent's table, and the latent with the prior.
     fn hide(&self, coder: &mut Coder, symbol: usize) -> Result<()>
         ensures hides { IsValid 32 64 coder.old.state
             → OnOk result (Hides self.now symbol coder.old.state coder.new.state) }
@@ -103,7 +106,9 @@ impl Mixture {
         Ok(())
     }
 
-    /// Decodes a symbol from a coder: the steps of `hide` in reverse. Encodes the symbol's latent last.
+    /// Reveals the symbol hidden last, and returns it. Undoes each action of `hide`, in reverse order.
+    ///
+    /// The call decodes the latent and the symbol, and encodes the latent with the symbol's posterior.
     fn reveal(&self, coder: &mut Coder) -> Result<usize>
         ensures reveals { (hidden : ℕ) (before : AnsState) → IsValid 32 64 before
             → Hides self.now hidden before coder.old.state
@@ -119,7 +124,7 @@ impl Mixture {
         Ok(symbol)
     }
 
-    /// Hides symbols, one after the other.
+    /// Hides symbols one after the other, in order.
     fn hide_all(&self, coder: &mut Coder, symbols: &[usize]) -> Result<()>
         ensures hides { IsValid 32 64 coder.old.state
             → OnOk result (InTurn (Hides self.now) symbols.now coder.old.state coder.new.state) }
@@ -130,7 +135,7 @@ impl Mixture {
         Ok(())
     }
 
-    /// Reveals `count` symbols. The symbol that was hidden last comes first.
+    /// Reveals `count` symbols, and returns them. The symbol that was hidden last is first in the list.
     fn reveal_all(&self, alloc: Global, coder: &mut Coder, count: usize) -> Result<Vec<usize>>
         ensures reveals { (hidden : List ℕ) (before : AnsState) → length hidden ≡ count → IsValid 32 64 before
             → InTurn (Hides self.now) hidden before coder.old.state
@@ -144,7 +149,7 @@ impl Mixture {
     }
 }
 
-/// Returns the number of bits that a coder holds.
+/// Returns the number of bits in a coder's words and in its head, where it counts only those below the leading 1.
 fn bits_of(coder: &Coder) -> Result<usize> {
     if !coder.sizes_fit() {
         bail!("too many words");
@@ -152,7 +157,7 @@ fn bits_of(coder: &Coder) -> Result<usize> {
     Ok(coder.num_valid_bits())
 }
 
-/// The cost of the symbols in bits, and the symbols decoded.
+/// The numbers of bits before and after hiding the symbols, their difference, and the symbols revealed.
 #[derive(Drop)]
 struct Sent {
     before: usize,
@@ -161,7 +166,7 @@ struct Sent {
     symbols: Vec<usize>,
 }
 
-/// Hides the symbols on a coder, and reveals them.
+/// Hides [`SYMBOLS`] on a coder, and reveals them. The symbols returned are in the order of hiding.
 fn send(alloc: Global, mixture: &Mixture, coder: &mut Coder) -> Result<Sent>
     requires { IsValid 32 64 coder.old.state }
 {
@@ -181,7 +186,7 @@ fn send(alloc: Global, mixture: &Mixture, coder: &mut Coder) -> Result<Sent>
     })
 }
 
-/// Prints what was sent.
+/// Prints the numbers of bits, the information content, and the symbols revealed.
 fn show(rt: &impl Print, sent: &Sent) -> Result<()> {
     println!(rt; "bits before: {}", sent.before)?;
     println!(rt; "bits with {} symbols: {}", SYMBOLS.len(), sent.after)?;
@@ -192,7 +197,7 @@ fn show(rt: &impl Print, sent: &Sent) -> Result<()> {
     Ok(())
 }
 
-/// Sends the symbols over a new coder, and prints the results.
+/// Hides and reveals the symbols on a coder of [`WORDS`], and prints the results and the coder's words afterwards.
 fn send_and_show(rt: &impl Print, alloc: Global, mixture: &Mixture) -> Result<()> {
     let mut coder = Coder::from_binary(WORDS.to_vec(alloc)?)?;
     binary::binary_export_of_import();
@@ -203,7 +208,9 @@ fn send_and_show(rt: &impl Print, alloc: Global, mixture: &Mixture) -> Result<()
     Ok(())
 }
 
-/// Hides twelve symbols on the words of an earlier message. Prints their cost, and that everything is restored.
+/// Encodes twelve symbols with bits-back coding on top of an earlier message's words, and decodes them.
+///
+/// Prints the symbols' cost in bits, the symbols decoded, and the words, which equal the earlier message's words.
 pub fn run(rt: &impl Print, alloc: Global) -> Result<()> {
     let mixture = Mixture::new(alloc)?;
     send_and_show(rt, alloc, &mixture)

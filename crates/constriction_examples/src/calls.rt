@@ -1,6 +1,7 @@
 //! The calls of each coder at concrete types, as a program makes them.
 //!
-//! One function makes a few calls. `docs/CALLING.md` says what stands for the calls that no function here makes.
+//! Each function here makes a few calls. The checker can't prove a few forms of calls. `docs/CALLING.md` lists these
+//! forms, and says what to write in their place.
 
 pub mod chain;
 pub mod queue;

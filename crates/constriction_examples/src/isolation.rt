@@ -1,13 +1,13 @@
 //! Isolation: which symbols change if one model is replaced.
 //!
-//! A stack coder decodes from one number. Each symbol takes a share out of that number, as large as the symbol's model
-//! says. So another model for the first symbol leaves another number for all later symbols.
+//! A stack coder decodes from one large number. Each decode reduces that number, by an amount that depends on the
+//! symbol's model. So if the model of the first symbol is replaced, all later symbols are decoded from another number.
 //!
 //! A chain coder first cuts the words into pieces of 12 bits, one for each symbol, whatever the models are. The model
 //! then says which symbol the piece stands for. The rest of the piece's information goes to a second stack, the
-//! remainders. So another model for the first symbol changes that symbol and the remainders, and no other symbol. If
-//! symbols are samples, as in bits-back coding, a small change of one model then has a small effect. The price is that
-//! encoding needs the remainders.
+//! remainders. So if the model of the first symbol is replaced, that symbol and the remainders may change, and no other
+//! symbol changes. If symbols are samples, as in bits-back coding, a small change of one model then has a small effect.
+//! The price is that encoding needs the remainders.
 //!
 //! [`run`] decodes the same words four times: with both coders, under two models for the first symbol. The law
 //! `symbols_are_isolated` of `constriction::laws::chain::isolation` says that the chain coder's later symbols stay the
@@ -20,21 +20,21 @@ use constriction::stream::model::WeightTable;
 use constriction::stream::stack::SmallAnsCoder;
 use std::alloc::Global;
 
-/// Tables of 12 bits: the weights of the symbols 0, 1, 2, .. add up to 4096.
+/// Tables with a precision of 12 bits: the weights of the symbols 0, 1, 2, .. add up to 4096.
 type Table = WeightTable<u16, 12>;
 
-/// The eight words to decode, chosen at random. The last word is read first.
+/// The eight words to decode from, chosen at random. The coders read the last word first.
 const WORDS: [u16; 8] = [
     0x243f, 0x6a88, 0x85a3, 0x08d3, 0x1319, 0x8a2e, 0x0370, 0x7344,
 ];
 
-/// The number of symbols after the first one.
+/// The number of symbols decoded after the first symbol.
 const LATER: usize = 7;
 
 /// The first symbol, and the later symbols.
 type Symbols = (usize, Vec<usize>);
 
-/// Decodes the words with a stack coder. The first symbol has its own model.
+/// Decodes symbols from [`WORDS`] with a stack coder. `first` is the first symbol's model, and `later` has the others.
 fn by_stack(alloc: Global, first: &Table, later: &[Table]) -> Result<Symbols> {
     let Ok(mut coder) = SmallAnsCoder::from_compressed(WORDS.to_vec(alloc)?) else {
         bail!("no coder exports words that end with a zero word");
@@ -47,7 +47,7 @@ fn by_stack(alloc: Global, first: &Table, later: &[Table]) -> Result<Symbols> {
     Ok((symbol, rest))
 }
 
-/// Decodes the words with a chain coder, under the same models.
+/// Decodes symbols from [`WORDS`] with a chain coder. `first` is the first symbol's model, and `later` has the others.
 fn by_chain(alloc: Global, first: &Table, later: &[Table]) -> Result<Symbols> {
     let Ok(mut coder) = SmallChainCoder::from_compressed(alloc, WORDS.to_vec(alloc)?) else {
         bail!("too few words, or a zero word at the end");
@@ -60,7 +60,7 @@ fn by_chain(alloc: Global, first: &Table, later: &[Table]) -> Result<Symbols> {
     Ok((symbol, rest))
 }
 
-/// Prints the symbols that a coder decoded under each of the two models.
+/// Prints a coder's name, and the symbols that it decoded under each of the two models for the first symbol.
 fn show(rt: &impl Print, coder: &str, one: &Symbols, other: &Symbols) -> Result<()> {
     println!(rt; "{coder}")?;
     println!(rt; "  under the one model:   {}, then {:?}", one.0, one.1)?;

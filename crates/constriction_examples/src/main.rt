@@ -2,11 +2,11 @@
 //!
 //! The program runs these modules in order:
 //!
-//! - [`uses`]: callers whose own contracts say which symbols are decoded.
+//! - [`uses`]: functions that call the stack coder, and whose contracts say which symbols are decoded.
 //! - [`bits_back`]: bits-back coding.
-//! - [`isolation`]: what the chain coder is for.
+//! - [`isolation`]: symbols of the chain coder don't depend on each other's models.
 //! - [`programs`]: small programs for the other coders and for models.
-//! - [`any_backend`]: a backend of your own.
+//! - [`any_backend`]: a user-defined backend.
 //! - [`calls`]: the calls of each coder at concrete types.
 //!
 //! [`laws_of_each_coder`] applies one law of each coder. The program doesn't run it.

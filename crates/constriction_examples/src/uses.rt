@@ -1,6 +1,6 @@
-//! Callers of the stack coder whose own contracts say which symbols are decoded, and a small program.
+//! Functions that call the stack coder, and a small program.
 //!
-//! `docs/CALLING.md` explains them.
+//! The contracts of these functions say which symbols are decoded. `docs/CALLING.md` explains the functions.
 
 ghost use Rattle.std.specs.Prelude.{◌≡◌, ◌%◌, ◌^◌, ℕ, List, length, map, reverse, IfOk, IfErr, IfSome};
 ghost use Rattle.constriction.specs.Models.{pairs_of};
@@ -22,7 +22,7 @@ use constriction::stream::stack::DefaultAnsCoder;
 use constriction::stream::{Decode, Encode};
 use std::alloc::Global;
 
-/// Packs symbols, each with its own table, into words. [`unpack`] returns the symbols.
+/// Encodes symbols, each under its own table, and returns the words. [`unpack`] decodes them.
 ///
 /// The caller proves that there are as many tables as symbols.
 ///
@@ -42,7 +42,9 @@ pub fn pack(
     words_with_pairs(DefaultAnsCoder::new(alloc), symbols, tables)
 }
 
-/// Decodes one symbol for each table from words.
+/// Decodes one symbol for each table of `tables` from `words`.
+///
+/// If [`pack`] made the words with these tables, the call returns the symbols that were passed to `pack`.
 ///
 /// # Errors
 ///
@@ -65,7 +67,7 @@ pub fn unpack(
     Ok(again)
 }
 
-/// Returns a copy of the words that a coder would export. The coder is unchanged.
+/// Returns a copy of the words that a coder would export, with the top word last. The coder is unchanged.
 ///
 /// Returns `None` if there is no memory.
 pub fn words_so_far(alloc: Global, coder: &mut DefaultAnsCoder) -> Option<Vec<u32>>
@@ -79,9 +81,10 @@ pub fn words_so_far(alloc: Global, coder: &mut DefaultAnsCoder) -> Option<Vec<u3
     guard.backend().as_slice().to_vec(alloc).ok()
 }
 
-/// Decodes one symbol for each table from a position in a coder's words.
+/// Decodes one symbol for each table of `tables`, from a position in a coder's words.
 ///
-/// These are the symbols encoded before the position was recorded, whatever symbols were encoded since.
+/// These are the last symbols encoded before the position was recorded, in reverse order of encoding. The coder may
+/// have encoded any symbols since then.
 ///
 /// # Errors
 ///
@@ -102,7 +105,7 @@ pub fn before_a_position(
     pairs_at_position(alloc, coder, position, tables)
 }
 
-/// Encodes three symbols, and prints the symbols decoded.
+/// Encodes three symbols, decodes them, and prints the symbols decoded.
 pub fn run(rt: &impl Print, alloc: Global) -> Result<()> {
     // Symbols 0, 1 and 2. Symbol 2 is by far the likeliest.
     let table = WeightTable::<u32, 24>::new(alloc, &[3, 2, 16777211])?;

@@ -1,5 +1,7 @@
-//! Intervals without a table, as rows of three weights: the weight below an interval, its own length, and the weight
-//! above it.
+//! Intervals that a caller passes without their table, each turned into a row of three weights.
+//!
+//! The row makes a table of three symbols. Symbol 1 has the interval, symbol 0 has the quantiles below it, and symbol 2
+//! has the quantiles above it.
 
 ghost use Rattle.std.specs.Prelude.{◌≡◌, ◌≢◌, ◌↔◌, ◌⊎◌, ◌*◌, ◌+◌, ◌^◌, ◌≤◌, length, map, IsTrue, IfOk, IfErr, OnOk};
 ghost use Rattle.std.specs.Prelude.{IsErrOf};
@@ -12,13 +14,15 @@ use constriction_base::weights::starts::ones;
 use constriction_words::BitArray;
 use std::alloc::{AllocError, Global};
 
-/// Returns a row of three weights for each interval, and a list with the symbol 1 for each row.
+/// Returns a row of three weights for each interval, and a list that has the number 1 for each row.
 ///
-/// Symbol 1 of a row stands for the interval. `lefts` has the start of each interval, and `ps` has its length.
+/// `lefts` has the start of each interval, and `ps` has its length. The rows stand one after another in the first list
+/// returned. In the table of each row, symbol 1 has the interval. So encoding the second list under the rows encodes
+/// the intervals.
 ///
 /// # Errors
 ///
-/// Checked in this order:
+/// The call checks for errors in this order:
 ///
 /// - `WrongLength`: the two lists differ in length.
 /// - `WrongInterval`: an interval is empty or ends past `2 ^ PRECISION`.

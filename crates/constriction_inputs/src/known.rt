@@ -9,8 +9,8 @@ use constriction_words::BitArray;
 
 /// Returns whether each symbol has a weight above 0 in its own row of `width` weights. The call needs no memory.
 ///
-/// The row of a symbol is at the symbol's index in `symbols`. The caller proves that there are `width` weights for
-/// each symbol.
+/// `weights` has the rows one after another, in the order of `symbols`. The caller proves that there are `width`
+/// weights for each symbol.
 pub fn all_known_in_rows<P: BitArray, const PRECISION: usize>(
     weights: &[P],
     width: usize,
@@ -30,7 +30,7 @@ pub fn all_known_in_rows<P: BitArray, const PRECISION: usize>(
     true
 }
 
-/// Returns whether a symbol has a weight above 0.
+/// Returns whether `symbol` is an index of `weights`, and the weight at that index is above 0.
 pub fn is_known<P: BitArray, const PRECISION: usize>(weights: &[P], symbol: usize) -> bool
     ensures { IsTrue result ↔ Knows (weights_model PRECISION (map P.number weights.now)) symbol }
 {

@@ -1,13 +1,14 @@
-//! Models and words that a caller passes in buffers, and the reasons why a call refuses them.
+//! Checks and converts the models and the words that a caller passes in buffers.
 //!
-//! The caller may be written in another language. `constriction_calls` has the coders for such a caller.
+//! The caller may be written in another language. The calls of `constriction_calls` encode and decode with these models
+//! and words.
 //!
-//! - [`refusal`]: the error of a refused call.
-//! - [`models`]: the forms in which a caller states the models of symbols.
+//! - [`refusal`]: the error of a call that refuses its arguments.
+//! - [`models`]: the forms in which a caller passes the models of symbols.
 //! - [`rows`]: rows of weights as models.
 //! - [`known`]: whether symbols have weights above 0.
-//! - [`intervals`]: intervals without a table.
-//! - [`quantized`]: the intervals and weights of models, for callers that inspect them.
+//! - [`intervals`]: intervals that a caller passes without their table.
+//! - [`quantized`]: the intervals of models, and weights from counts, written into a caller's buffers.
 //! - [`buffers`]: appending words to a buffer.
 #![tactic(auto)]
 

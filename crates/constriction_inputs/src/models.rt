@@ -1,9 +1,9 @@
-//! The forms in which a caller states the models of a list of symbols, and the models made from them.
+//! The forms in which a caller passes the models of a list of symbols, and the models made from these forms.
 //!
-//! - `weights`: one table of weights for all symbols.
-//! - `rows`: a row of weights for each symbol.
-//! - `families`: a family of distributions, with a location and a scale for each symbol.
-//! - `mixtures`: a row of a family's distributions for each symbol, with a weight for each.
+//! - [`Weights`]: one table of weights for all symbols.
+//! - [`Rows`]: a row of weights for each symbol.
+//! - [`Families`]: a family of distributions, with a location and a scale for each symbol.
+//! - [`Mixtures`]: a row of distributions of one family for each symbol, and a weight for each distribution.
 
 mod families;
 mod mixtures;
@@ -24,10 +24,11 @@ pub use rows::Rows;
 use std::alloc::Global;
 pub use weights::Weights;
 
-/// The models of a list of symbols: one model for each index of the list.
+/// The models of a list of symbols, with one model for each symbol.
 ///
-/// An implementor defines the tables of its models (`tables`). It proves that `model` returns a model with the table at
-/// the index that `turn_to` set. So it can make each model in memory that it uses again for the next one.
+/// A caller selects an index of the list with `turn_to`, and `model` then returns the model at that index. So an
+/// implementor can keep one model in memory, and change it at each `turn_to`. The implementor defines the list of all
+/// tables (`tables`). It proves that the model returned has the table at the selected index.
 pub trait ModelList<P: BitArray, const PRECISION: usize>: Drop {
     /// The type of the models.
     type Model: EncoderModel<PRECISION, Symbol = usize, Probability = P>
@@ -39,23 +40,27 @@ pub trait ModelList<P: BitArray, const PRECISION: usize>: Drop {
     // The index of the model that `model` returns.
     ghost turned_to: { Self → ℕ };
 
-    /// Turns to the model at index `place`. The caller proves that the list has that index. This takes no memory.
+    /// Selects the model at index `place`. The caller proves that the list has that index. The call needs no memory.
     fn turn_to(&mut self, place: usize)
         requires { place < length (tables self.now) }
         ensures place { turned_to self.new ≡ place }
         ensures tables { tables self.new ≡ tables self.old };
 
-    /// Returns the model that the list was turned to.
+    /// Returns the model at the index that the last call of `turn_to` selected.
     fn model(&self) -> &Self::Model
         requires { turned_to self.now < length (tables self.now) }
         ensures { Self.Model.table result.now
             ≡ get_or (tables self.now) (turned_to self.now) (Self.Model.table result.now) };
 }
 
-/// The data from which the models of a caller's list of symbols are made.
+/// The arguments of a caller from which the models of a list of symbols are made.
 ///
-/// An implementor defines the form of its data (`coded`), and proves three things. `check` refuses the data in exactly
-/// the cases of that form. `know` decides whether the models have entries for the symbols. `list` returns the models.
+/// An implementor is one form of these arguments. Its definition `coded` says which arguments are refused, and which
+/// models are made from all other arguments. The implementor proves three things:
+///
+/// - `check` refuses exactly the arguments that `coded` says.
+/// - `know` decides whether each model has an entry for its symbol.
+/// - `list` returns the models.
 pub trait Models<P: BitArray, const PRECISION: usize> {
     /// The type of the list of models.
     type List: ModelList<P, PRECISION>;
@@ -63,12 +68,12 @@ pub trait Models<P: BitArray, const PRECISION: usize> {
     // The symbols, together with what their models are made from.
     ghost coded: { Self → List ℕ → Coded };
 
-    /// Checks that the data make models for these symbols. The call needs no memory.
+    /// Checks that the caller's arguments make a model for each symbol. The call needs no memory.
     ///
     /// # Errors
     ///
-    /// `WrongLength`, `WrongInterval` and `WrongWeights`, checked in this order. The form of the data (`coded`)
-    /// determines the case of each error, and the error is returned exactly in that case.
+    /// The call checks for `WrongLength`, `WrongInterval` and `WrongWeights`, in this order. [`Refusal`] lists the
+    /// cases of each error. `coded` says which cases exist for an implementor. The call fails exactly in these cases.
     fn check(&self, symbols: &[usize]) -> Result<(), Refusal>
         requires { (1 ≤ PRECISION) × (PRECISION ≤ P.BITS) }
         ensures { AsksFit PRECISION (coded self.now symbols.now) (Else Never) result };
@@ -82,7 +87,8 @@ pub trait Models<P: BitArray, const PRECISION: usize> {
 
     /// Returns the models of the symbols, or `None` if there is no memory for them.
     ///
-    /// `divides` says whether the coder divides by weights. The caller proves that `check` would succeed.
+    /// `divides` is true if the caller's coder divides by weights, as the stack coder and the chain coder do when they
+    /// encode. Then the models may keep the reciprocals of the weights. The caller proves that `check` would succeed.
     fn list(&self, alloc: Global, symbols: &[usize], divides: bool) -> Option<Self::List>
         requires precision { (1 ≤ PRECISION) × (PRECISION ≤ P.BITS) }
         requires fit { AreFit PRECISION (coded self.now symbols.now) }
@@ -92,7 +98,7 @@ pub trait Models<P: BitArray, const PRECISION: usize> {
             ≡ pairs_of PRECISION (λ table. table) others (Self.List.tables list)) };
 }
 
-/// One model for all symbols of a list.
+/// A list of models for symbols that all have the same model. It keeps that model once.
 ///
 /// # Examples
 ///
@@ -133,7 +139,7 @@ impl<
     }
 }
 
-/// A model for each symbol of a list.
+/// A list of models that keeps a separate model for each symbol.
 ///
 /// # Examples
 ///

@@ -1,4 +1,4 @@
-//! The intervals of a family's symbols, and weights from counts, for callers that inspect models.
+//! The intervals of symbols under a family's models, and weights from counts, written into a caller's buffers.
 
 pub mod counts;
 pub mod intervals;

@@ -1,8 +1,8 @@
-//! `Refusal`: the error of a refused call.
+//! [`Refusal`]: the error of a call that refuses its arguments.
 
 use thiserror::Error;
 
-/// The error of a refused call. The call changed nothing that the caller passed in.
+/// The error of a call that refuses its arguments. The call left the caller's buffers and numbers unchanged.
 ///
 /// # Examples
 ///
@@ -14,25 +14,29 @@ pub enum Refusal {
     /// A model has no entry for its symbol.
     #[error("impossible symbol")]
     ImpossibleSymbol,
-    /// Weights don't add up to `2 ^ PRECISION`, or the caller's numbers give no weights.
+    /// The weights make no model, or the other numbers of a model make no weights. The cases are:
     ///
-    /// The numbers give no weights in four cases: no family has the caller's family number, a scale is 0, no count is
-    /// above 0, or too many counts are above 0.
+    /// - The weights of a table don't add up to `2 ^ PRECISION`.
+    /// - No family has the caller's family number, or a scale is 0.
+    /// - The weights of a mixture add up to 0 or to more than `2^32`, or mixtures have no components.
+    /// - No count is above 0, or more than `2 ^ PRECISION` counts are above 0.
+    /// - The weights make no Huffman tree: there are none, or their sum doesn't fit the type.
     #[error("wrong weights")]
     WrongWeights,
     /// An interval is empty or ends past `2 ^ PRECISION`, or a range has too few or too many symbols.
     #[error("wrong interval")]
     WrongInterval,
-    /// A length is above the length of its buffer, or the lengths of two lists don't match.
+    /// A number of words in use, or a position, is past the end of its buffer. Or the lengths of two lists don't match.
     #[error("wrong length")]
     WrongLength,
-    /// The buffer is too short. It has to hold this number of words.
+    /// The buffer is too short. The number in the variant is the number of words that the buffer has to hold.
     #[error("no space: {0} words are needed")]
     NoSpace(usize),
     /// There is no memory.
     #[error("out of memory")]
     NoMemory,
-    /// No coder has these words, or these numbers of its state.
+    /// No coder has the words or the numbers that the caller passed. Or the words don't encode the number of symbols
+    /// to decode.
     #[error("invalid data")]
     InvalidData,
     /// The words ended before all symbols were decoded.

@@ -52,9 +52,9 @@ impl<'a, P: BitArray, const PRECISION: usize> Row<'a, P, PRECISION> {
     }
 }
 
-/// Returns `count` models, one for each row of `width` weights.
+/// Returns `count` models, one for each row of `width` weights. `weights` has the rows one after another.
 ///
-/// The caller proves that each row adds up to `2 ^ PRECISION`.
+/// The caller proves that `weights` has `count` rows, and that each row adds up to `2 ^ PRECISION`.
 ///
 /// # Errors
 ///

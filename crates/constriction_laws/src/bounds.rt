@@ -1,8 +1,9 @@
 //! Upper bounds on the number of words, for any list of steps with any precisions.
 //!
-//! The bounds are inequalities of products of whole numbers. `w` and `s` are the bits of a word and of a state.
-//! `k = s - w - P` is the number of bits that a state has beyond a word and a table of `P` bits. In logarithms, a step
-//! of probability `p / 2^P` costs at most its information content `log2(2^P / p)`, plus `log2(1 + 2^-k)` for rounding.
+//! The bounds are inequalities of products of whole numbers. `w` and `s` are the widths in bits of a word and of a
+//! head. `k = s - w - P` is the number of spare bits: the bits that a head has beyond a word and a precision of `P`
+//! bits. In logarithms, a step of probability `p / 2^P` costs at most `log2(2^P / p) + log2(1 + 2^-k)` bits. The first
+//! term is the step's information content, the second term is due to rounding.
 
 pub mod following;
 pub mod words;
@@ -16,7 +17,7 @@ ghost use Rattle.constriction_queue.specs.SelfDelimiting.{SelfDelimits};
 ghost use Rattle.constriction_laws.specs.Bounds.{Act, Acts, AreAllowed, IsNetBounded, product, rounded_whole};
 ghost use Rattle.constriction_laws.specs.Bounds.{share};
 
-/// Bounds the number of words that a stack coder exports, if it encoded `steps` and was empty before.
+/// Bounds the number of words that a stack coder exports, if it started empty and encoded `steps`.
 ///
 /// Each step has one factor on each side of the inequality: `p * 2^k` on the left, `2^P * (2^k + 1)` on the right.
 pub fn stack_bound()
@@ -28,9 +29,9 @@ pub fn stack_bound()
 
 /// Bounds the number of words that a stack coder exports, if all symbols have the same precision.
 ///
-/// The coder encoded `steps` and was empty before. The spare bits `k` are the same in all steps. If the coder exports
-/// `N` words for `n` symbols, then `w * (N - 1)` is at most the sum of three terms: `s - w`, the information content
-/// of all symbols in bits, and `n * log2(1 + 2^-k)`.
+/// The coder started empty and encoded `steps`. The spare bits `k` are the same in all steps. If the coder exports `N`
+/// words for `n` symbols, then `w * (N - 1)` is at most the sum of three terms: `s - w`, the information content of all
+/// symbols in bits, and `n * log2(1 + 2^-k)`.
 pub fn stack_bound_at_one_precision()
     ensures { (w s precision : ℕ) (steps : List Step) (state : AnsState) → IsSizes w s → AreSteps w steps →
         AllByRecursion (λ e. e.precision ≡ precision) steps → InTurn (IsPush w s) steps empty state →
@@ -62,7 +63,7 @@ pub fn range_bound()
 /// Bounds the number of words of a range encoder with a self-delimiting seal.
 ///
 /// The encoder starts from the initial interval and encodes `steps`. The bound holds if there are at least `s / w`
-/// words, including the seal. That is the number of words in a state.
+/// words, including the seal. A head is `s / w` words wide.
 pub fn self_delimiting_bound()
     ensures { (w s : ℕ) (steps : List Step) (words : List ℕ) → IsSizes w s → AreSteps w steps →
         SelfDelimits w s (run w s steps (initial s)) words → s / w ≤ length words →

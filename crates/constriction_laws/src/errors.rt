@@ -18,7 +18,7 @@ pub enum RoundTripError {
     ImpossibleSymbol,
     /// There are more symbols than the encoder can count.
     TooManySymbols,
-    /// The words don't encode that many symbols, or the words or the coder's state don't have the required form.
+    /// The words don't encode the symbols asked for, or the words or the coder's state lack the required form.
     InvalidData,
     /// The words ended after this number of symbols.
     OutOfData(usize),

@@ -1,4 +1,4 @@
-//! Laws of the coders: theorems about lists of calls, over the definitions that the coders' contracts cite.
+//! Laws of the coders: theorems about lists of calls, in terms of the definitions that the coders' contracts cite.
 //!
 //! A law is a public function whose body is empty or calls the law from which it follows. Its `ensures` is the theorem.
 //! The theorem is about definitions alone (numbers, lists and tables), not about the code of a coder. The contract of a
@@ -14,7 +14,7 @@
 //! - [`lists`]: one law for all coders: if each step can be undone, a list of steps can be undone, from the last step
 //!   to the first.
 //! - [`queue`]: the range coder.
-//! - [`stack`]: the stack coder, with asymmetric numeral systems.
+//! - [`stack`]: the stack coder (asymmetric numeral systems).
 //! - [`symbol`]: bit coders and codebooks.
 #![tactic(auto)]
 

@@ -1,7 +1,7 @@
-//! Functions with a table of values, interpolated linearly between them.
+//! Functions given by a table of values, and interpolated linearly between the values.
 //!
-//! The division by the scale happens once, in `Scale::new`, which gives the `rate`. Steps of 1/32 of a
-//! standard deviation instead of 1/128 would cost 2e-6 bits a symbol.
+//! The division by the scale happens once, in `Scale::new`, which gives the `rate`. If the values were 1/32 of a
+//! standard deviation apart instead of 1/128, coding would cost 2e-6 bits a symbol more.
 
 ghost use Rattle.std.specs.Prelude.{◌≡◌, ◌+◌, ◌-◌, ◌*◌, ◌/◌, ◌<◌, ◌≤◌, length, ℤ, pos, ◌+ℤ◌, ◌-ℤ◌};
 ghost use Rattle.constriction_models.specs.Interpolation.{AreValues, value_at, located};

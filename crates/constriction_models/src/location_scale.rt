@@ -42,17 +42,17 @@ pub trait StandardDistribution: Copy {
     fn table() -> &'static [u64]
         ensures { result.now ≡ values };
 
-    /// Returns about where the distribution function reaches each multiple of `2^22`, in 65536ths of a step.
+    /// Returns approximate arguments at which the distribution function reaches 0, 1/1024, 2/1024, .., 1.
     ///
-    /// A step is the distance between neighbouring places of the table. Every list of 1025 numbers is allowed. Accurate
-    /// numbers make decoding fast.
+    /// Each number is the distance from the first of the 2049 grid points, in 65536ths of the spacing of the grid.
+    /// Every list of 1025 numbers is allowed. Accurate numbers make decoding fast.
     fn guesses() -> &'static [u32]
         ensures { length result.now ≡ 1025 };
 }
 
 /// The distribution of a family with a location and a scale, both multiples of `2^-16`.
 ///
-/// Its distribution function is the family's table, interpolated linearly.
+/// The type `D` is the family's standard distribution. The distribution function interpolates its table linearly.
 ///
 /// # Examples
 ///
@@ -66,7 +66,7 @@ pub trait StandardDistribution: Copy {
 pub struct LocationScale<D: StandardDistribution> {
     location: i64,
     scale: u32,
-    /// `2^36` times the number of 65536ths of a step of the table in one unit.
+    /// `2^36` times the number of 65536ths of the distance between neighbouring places of the table in one unit.
     rate: u64,
     standard: PhantomData<D>,
     ghost rated: { rate ≡ 9223372036854775808 / D.WIDTH / scale },

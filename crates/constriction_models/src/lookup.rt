@@ -1,7 +1,8 @@
 //! `ContiguousLookupDecoderModel`: a model with a row for each quantile.
 //!
-//! A row holds the symbol and its interval, so a decoder reads one place and not two. A symbol takes 16 bits of a row:
-//! with probabilities of type `u16` a row takes 6 bytes, and the rows of 12 bits of precision fit the first cache.
+//! A row holds the symbol and its interval, so decoding a symbol reads one entry of one list and not of two. A symbol
+//! takes 16 bits of a row. If probabilities are `u16`, a row takes 6 bytes, and at a precision of 12 bits all rows fit
+//! the first-level cache.
 
 ghost use Rattle.std.specs.Prelude.{◌≡◌, ◌+◌, ◌^◌, ◌<◌, ◌≤◌, IfOk, IsErrOf};
 ghost use Rattle.constriction_base.specs.Tables.{Has, Covers};
@@ -19,7 +20,7 @@ use thiserror::Error;
 /// ```
 /// match ContiguousLookupDecoderModel::new(alloc, model) {
 ///     Ok(lookup) => {}
-///     Err(LookupError::Symbol) => {} // `model` knows a symbol above 65535
+///     Err(LookupError::Symbol) => {} // `model` has a symbol above 65535
 ///     Err(LookupError::Memory) => {}
 /// }
 /// ```
@@ -41,7 +42,7 @@ struct Row<P: Copy + Drop, N: Copy + Drop> {
     weight: N,
 }
 
-/// A model of the symbols `0`, `1`, .. with a row for each quantile, so that a decoder finds its symbol in one step.
+/// A model of the symbols `0`, `1`, .. with a row for each quantile, so that one look-up finds a quantile's symbol.
 ///
 /// It has the same table as the model that it is made from. A row holds a symbol and its interval. A row takes 6 bytes
 /// if probabilities are `u16`, and 12 bytes if they are `u32`. At a precision of 12 bits, all rows together take 24 or

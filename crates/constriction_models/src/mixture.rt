@@ -53,7 +53,7 @@ pub enum MixtureError {
 /// # Examples
 ///
 /// ```
-/// // Two logistic distributions, at 0 and at 10, of which the first has three quarters.
+/// // Two logistic distributions, at 0 and at 10. The first has three quarters of the weight.
 /// if let (Some(low), Some(high)) = (Logistic::new(0, 65536), Logistic::new(655360, 65536)) {
 ///     let components = [
 ///         Component { weight: 3, distribution: low },
@@ -68,7 +68,7 @@ pub struct Mixture<'a, D: CumulativeDistribution> {
     components: &'a [Component<D>],
     /// The sum of the weights.
     total: u64,
-    /// `2^64 - 1` divided by it.
+    /// `2^64 - 1` divided by `total`.
     rate: u64,
     ghost summed: { total ≡ total_weight (weighted D.below components.now) },
     ghost some: { 0 < total_weight (weighted D.below components.now) },
@@ -184,7 +184,7 @@ impl<'a, D: CumulativeDistribution> CumulativeDistribution for Mixture<'a, D> {
         self.mean(sum)
     }
 
-    /// Returns about where the probability `below` is reached, by the guesses of the components.
+    /// Returns a place where the distribution function is about `below`, computed from the components' guesses.
     ///
     /// The result is the weighted mean of the guesses. A guess that is more than 32768 symbols from the first
     /// component's guess counts as a guess 32768 symbols away from it.

@@ -46,7 +46,7 @@ impl<Probability: WordOf<u32>, const PRECISION: usize> LeakyQuantizer<Probabilit
 
     /// Creates the quantizer of the symbols from `min` to `max`, both included.
     ///
-    /// The type has an example.
+    /// The caller proves that `PRECISION` is at least 1 and at most `Probability::BITS`. The type has an example.
     ///
     /// # Errors
     ///
@@ -290,7 +290,7 @@ fn between(low: u64, high: u64, wanted: u64) -> u64
     }
 }
 
-/// Returns how many symbols farther a search looks next: one at first, then as many as the mass of the last stride says.
+/// Returns how many symbols farther a search looks next: one at first, then as many as the last stride's mass says.
 ///
 /// Where a search has turned, it lies between two known symbols, and the answer leads past them, so that halves follow.
 #[inline(always)]

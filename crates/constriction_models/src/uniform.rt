@@ -38,7 +38,9 @@ pub struct UniformModel<Probability: WordOf<u32>, const PRECISION: usize> {
 }
 
 impl<Probability: WordOf<u32>, const PRECISION: usize> UniformModel<Probability, PRECISION> {
-    /// Creates the model of the symbols below `count`. The type has an example.
+    /// Creates the model of the symbols below `count`.
+    ///
+    /// The caller proves that `PRECISION` is at least 1 and at most `Probability::BITS`. The type has an example.
     ///
     /// # Errors
     ///

@@ -6,11 +6,11 @@ use constriction_base::backends::{Holds, Stack, Words};
 use constriction_words::BitArray;
 use std::alloc::Allocator;
 
-/// A backend that lends its words in the order in which they were written, last word last.
+/// A backend that lends its words in the order in which they were written.
 ///
-/// This bound guarantees that [`crate::RangeEncoder::iter_compressed`] returns the words of `into_compressed`. An
-/// implementor chooses nothing. It proves that the lent words, in reverse, are the words that the backend holds as a
-/// stack.
+/// If an encoder's backend implements this trait, [`crate::RangeEncoder::iter_compressed`] returns the words of
+/// `into_compressed`. An implementor chooses nothing. It proves that the lent words, in reverse, are the words that the
+/// backend holds as a stack.
 pub trait LendsAsWritten<Word>: Holds<Word, Stack> + Words<Word> {
     // The stack is what is lent, turned round.
     ghost written_law: { (b : Self) →

@@ -18,11 +18,11 @@ use std::marker::Model;
 ///
 /// The symbols form a queue: the symbol encoded first is decoded first.
 ///
-/// The width of `State` is a whole number of words, at least two. The decoder narrows the same intervals as the
-/// encoder. The words that it has read determine which part of the interval belongs to the next symbol. After the last
-/// word, the decoder uses zero words.
+/// The width of `State` is a whole number of words, at least two. The decoder narrows its interval by each symbol
+/// exactly as the encoder did. The words read so far determine which part of the interval, and so which symbol, is
+/// next. After the last word, the decoder uses zero words.
 ///
-/// The point is the number that the last words read form. It consists of as many words as a `State` has. The decoder
+/// The point is the number formed by the last words read. It consists of as many words as a `State` has. The decoder
 /// stores the distance of the point from the lower end of the interval, modulo 2 to the power of `State::BITS`.
 /// Contracts describe a decoder by a `Decoder`: the backend, the remaining words, the interval, and the point.
 ///

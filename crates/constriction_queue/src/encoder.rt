@@ -35,11 +35,13 @@ use std::marker::Model;
 /// The symbols form a queue: the symbol encoded first is decoded first.
 ///
 /// The width of `State` is a whole number of words, at least two. Each symbol narrows the interval, and the encoder
-/// writes the words that all numbers of the interval have in common. While the interval passes the greatest number of
-/// `State`, a carry may still change these words, so the encoder keeps them pending.
+/// writes the words that all numbers of the interval have in common. An interval that passes the greatest number of
+/// `State` continues at 0. Then a later symbol may still add 1 to the next words to be written (a carry), so the
+/// encoder keeps them pending.
 ///
 /// Contracts describe an encoder by an `Encoder`: the backend, the words written and pending, and the interval. The run
-/// of an encoder (`run_by`) describes it by one growing whole number, without pending words and without carries.
+/// of an encoder (`run_by`) replaces the interval's lower end by a whole number that grows by a word at each move. A
+/// run has no pending words and no carries.
 ///
 /// # Examples
 ///
@@ -122,7 +124,7 @@ impl<Word: WordOf<State>, State: BitArray, Backend: Holds<Word, Stack>> RangeEnc
     /// Makes an encoder without symbols that writes after the words of a backend.
     ///
     /// The backend's words stay before the encoder's own words. If the backend holds no words, the encoder starts in
-    /// the same way as an encoder of [`RangeEncoder::new`].
+    /// the same state as an encoder that [`RangeEncoder::new`] makes.
     ///
     /// # Examples
     ///
@@ -144,14 +146,14 @@ impl<Word: WordOf<State>, State: BitArray, Backend: Holds<Word, Stack>> RangeEnc
         }
     }
 
-    /// Returns whether an interval and a situation fit together, as [`RangeEncoder::from_raw_parts`] requires.
+    /// Returns whether an interval and pending words fit together, as [`RangeEncoder::from_raw_parts`] requires.
     ///
-    /// If no words are pending, the parts fit if the interval doesn't pass the greatest number of `State`. If words are
-    /// pending, the parts fit if all of these hold:
+    /// The situation states the pending words. If no words are pending, the parts fit if the interval doesn't pass the
+    /// greatest number of `State`. If words are pending, the parts fit if all of these hold:
     ///
     /// - The interval passes the greatest number of `State`.
     /// - The first pending word isn't all ones.
-    /// - The interval isn't the interval of an encoder without symbols.
+    /// - The interval isn't the interval of an encoder without symbols, which has all numbers but the greatest.
     /// - The number of pending words plus the words of a seal fits a `usize`.
     pub fn parts_fit(state: RangeCoderState<Word, State>, situation: EncoderSituation<Word>) -> bool
         ensures { IsTrue result
@@ -201,7 +203,9 @@ impl<Word: WordOf<State>, State: BitArray, Backend: Holds<Word, Stack>> RangeEnc
         }
     }
 
-    /// Splits the encoder into the backend with the words written so far, the interval, and the pending words.
+    /// Splits the encoder into its backend, its interval, and its pending words.
+    ///
+    /// The backend holds the words written so far.
     #[inline]
     pub fn into_raw_parts(
         self,
@@ -223,7 +227,7 @@ impl<Word: WordOf<State>, State: BitArray, Backend: Holds<Word, Stack>> RangeEnc
         (bulk, interval, held)
     }
 
-    /// Returns the backend with the words written so far. Pending words aren't among them.
+    /// Returns the backend, which holds the words written so far, without the pending words.
     #[inline]
     pub fn bulk(&self) -> &Backend
         ensures backend { result.now ≡ self.now.bulk }

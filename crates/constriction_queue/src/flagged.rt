@@ -36,8 +36,8 @@ use std::marker::Model;
 
 /// A decoder that uses a model of `P1` bits up to and including a flag symbol, and a model of `P2` bits after it.
 ///
-/// The module has an example. Contracts describe the switch by a `Switch`: the decoder, the flag, and whether the flag
-/// was decoded.
+/// The module has an example. Contracts describe it by a `Switch`: the decoder, the flag, and whether the flag was
+/// decoded.
 #[derive(Debug, Drop)]
 pub struct FlagSwitch<
     Word: WordOf<State>,
@@ -119,9 +119,9 @@ impl<
     /// # Errors
     ///
     /// - `Frontend(InvalidData)`: returned exactly if the words don't encode a symbol of any model with the precision
-    ///   in use. The switch is unchanged.
-    /// - `Backend(error)`: returned only if a word had to be read and the read returned `error`. What `switched`
-    ///   returns is unchanged. The decoder is as `decode_symbol` leaves it.
+    ///   in use: `P1` bits up to and including the flag, and `P2` bits after it. The switch is unchanged.
+    /// - `Backend(error)`: returned only if a word had to be read and the read returned `error`. The result of
+    ///   `switched` is unchanged. The decoder is in the state in which the failed `decode_symbol` left it.
     pub fn next_symbol<M1, M2>(
         &mut self,
         first: M1,
@@ -157,7 +157,7 @@ impl<
 
 /// Encodes symbols with `first` up to and including the first flag, and with `second` after it.
 ///
-/// The caller proves that the list has at most `symbols_left` symbols.
+/// The caller proves that `symbols` has at most as many symbols as `symbols_left` of the encoder returns.
 ///
 /// # Errors
 ///

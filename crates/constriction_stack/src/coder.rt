@@ -102,8 +102,9 @@ impl<Word: WordOf<State>, State: BitArray, Backend: Holds<Word, Stack>> AnsCoder
 > {
     /// Returns whether the coder is empty: whether its head is 0.
     ///
-    /// A new coder is empty, and it is empty again after all symbols encoded onto it are decoded. Encoding a symbol
-    /// whose interval begins at 0 leaves an empty coder empty. Decoding still returns that symbol.
+    /// A new coder is empty, and it is empty again after all symbols encoded onto it are decoded. An empty coder may
+    /// still hold symbols: encoding a symbol whose interval begins at 0 leaves an empty coder empty, and decoding
+    /// returns that symbol.
     #[inline]
     pub fn is_empty(&self) -> bool
         ensures { IsTrue result ↔ (self.now.state.head ≡ 0) }

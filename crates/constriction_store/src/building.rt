@@ -39,7 +39,7 @@ pub enum BuildError {
     ImpossibleSymbol {
         /// The number of the chunk, from 0.
         chunk: usize,
-        /// The index of the symbol in the chunk, from 0.
+        /// The number of the symbol in the chunk, from 0.
         index: usize,
     },
     /// There is no memory for the words or the index.
@@ -154,13 +154,15 @@ where
 {
     /// Makes a store of chunks.
     ///
-    /// A new range encoder encodes the chunks in order. Its seal is self-delimiting, so any words may follow.
+    /// A range encoder that starts empty encodes the chunks in order. Its seal is self-delimiting, so any words may
+    /// follow the store's words.
     ///
     /// # Errors
     ///
     /// - `TooLong` exactly if the chunks have more than [`MOST_SYMBOLS`] symbols together. This is checked before any
     ///   encoding.
-    /// - `ImpossibleSymbol` if the model has no entry for a symbol. Its fields say where the first of these symbols is.
+    /// - `ImpossibleSymbol` if the model has no entry for a symbol. The error's fields say where the first of these
+    ///   symbols is.
     /// - `Memory` if there is no memory for the words or the index.
     ///
     /// Encoding stops at the first `ImpossibleSymbol` or `Memory`. For an empty list of chunks the call returns

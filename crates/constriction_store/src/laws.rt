@@ -26,9 +26,10 @@ pub fn one_chunk_at_entry()
         IsModel w model → HoldsChunk w s model words entry symbols → HoldsNoChunk w s model words entry → ⊥ }
 {}
 
-/// A look-up depends only on the words of its chunk, and on as many words after them as a state has.
+/// A look-up depends only on the words of its chunk, and on the `s / w` words after them.
 ///
-/// If `others` has the same words in these places, decoding `others` from the chunk's entry returns the same symbols.
+/// If the list `others` has the same words at these positions, decoding it from the chunk's entry returns the same
+/// symbols.
 pub fn other_words_are_not_read()
     ensures { (w s : ℕ) (model : Model ℕ) (words others : List ℕ) (entry : Entry) (symbols : List ℕ) (last : Run) →
         IsSizes w s → AreWords w words → AreWords w others →
@@ -39,8 +40,8 @@ pub fn other_words_are_not_read()
 
 /// Looks up the chunks with the numbers `places`, in order.
 ///
-/// For a store from [`Store::build`], the call returns the given chunks with these numbers. For any store, it returns
-/// the symbols that the store's words encode at the entries with these numbers.
+/// For a store from [`Store::build`], the call returns the chunks that `build` was given, with these numbers. For any
+/// store, it returns the symbols that the store's words encode at the entries with these numbers.
 ///
 /// # Errors
 ///
@@ -89,9 +90,10 @@ pub enum ThroughStore {
     LookUp(ChunkError),
 }
 
-/// Builds a store of chunks, and looks up the chunks with the numbers `places`, in any order.
+/// Builds a store of chunks, and looks up the chunks with the numbers `places`.
 ///
-/// Returns the store and the chunks looked up. These equal the given chunks with the same numbers.
+/// `places` may list the numbers in any order. Returns the store and the chunks looked up, in the order of `places`.
+/// Each equals the given chunk with the same number.
 ///
 /// # Errors
 ///
@@ -130,7 +132,7 @@ where
 /// Builds a store, takes it apart, and looks up chunks in a store made from the parts.
 ///
 /// Calls `build`, `into_parts`, `from_parts`, and `chunk` for each number in `places`. Returns the store made from the
-/// parts and the chunks looked up. These equal the given chunks with the same numbers.
+/// parts, and the chunks looked up, in the order of `places`. Each chunk equals the given chunk with the same number.
 ///
 /// # Errors
 ///

@@ -77,8 +77,8 @@ impl<
 
     /// Returns the index, which has an entry for each chunk.
     ///
-    /// An entry is the number of words before the chunk, the range coder's state there, and the number of the chunk's
-    /// symbols.
+    /// An entry has three parts: the number of words before the chunk, the range coder's `lower` and `range` at the
+    /// chunk's start, and the number of symbols in the chunk.
     pub fn index(&self) -> &[(usize, RangeCoderState<Word, State>, usize)]
         ensures { map entry_at result.now ≡ self.now.index }
     {

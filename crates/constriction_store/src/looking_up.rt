@@ -27,7 +27,7 @@ pub enum ChunkError {
     /// The store has no chunk with this number.
     #[error("no such chunk")]
     NoSuchChunk,
-    /// The words encode no symbol of the model at some index of the chunk.
+    /// For one of the chunk's symbols, the words encode no symbol of the model.
     #[error("invalid chunk")]
     Invalid,
     /// There is no memory for the symbols.
@@ -105,8 +105,9 @@ where
 {
     /// Decodes the symbols of chunk `i`.
     ///
-    /// A new decoder seeks to the chunk's position and decodes as many symbols as the index says. It reads the
-    /// words of the chunk and the `State::BITS / Word::BITS` words after them, and no others.
+    /// A decoder of the store's words seeks to the chunk's position, and decodes the number of symbols that the index
+    /// gives for the chunk. It reads the words of the chunk and the `State::BITS / Word::BITS` words after them, and no
+    /// others.
     ///
     /// # Errors
     ///

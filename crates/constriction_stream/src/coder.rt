@@ -2,7 +2,7 @@
 
 use constriction_words::BitArray;
 
-/// A coder over words, with a state.
+/// A coder, which has words of compressed data and a state besides them.
 ///
 /// An implementor chooses what `shows` allows, and proves that `state` returns a value that `shows` allows.
 pub trait Code {

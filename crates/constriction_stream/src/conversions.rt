@@ -24,7 +24,7 @@ pub trait IntoDecoder<const PRECISION: usize>: Encode<PRECISION> {
 
     /// Relates the encoder to each error that `into_decoder` may return instead.
     ///
-    /// An implementor chooses this relation freely. It never holds if every encoder turns into a decoder.
+    /// An implementor chooses this relation freely. If every encoder turns into a decoder, the relation never holds.
     ghost fails: { Self → Self.Error → Type 0 };
 
     /// Turns the encoder into a decoder of the data that it holds.
@@ -48,7 +48,7 @@ pub trait AsDecoder<'a, const PRECISION: usize>: Encode<PRECISION> {
     /// Relates the encoder to each decoder that may read its data. An implementor chooses this relation freely.
     ghost reads: { Self → Self.AsDecoder → Type 0 };
 
-    /// Returns a decoder of the data that the encoder holds and keeps.
+    /// Returns a decoder that borrows the encoder's data. The encoder keeps the data.
     fn as_decoder(&'a self) -> Self::AsDecoder
         ensures { reads self.now result };
 }

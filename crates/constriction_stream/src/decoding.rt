@@ -18,7 +18,8 @@ use constriction_words::WordOf;
 ///
 /// An implementor chooses the ghost members and proves two facts:
 ///
-/// - `decode_symbol` makes the step of one entry of the model's table, or refuses as `decodes` and `halts` allow.
+/// - `decode_symbol` returns the symbol of an entry of the model's table, and makes the entry's step as `decodes`
+///   allows. Otherwise it returns an error that `decodes` or `halts` allows.
 /// - If `maybe_exhausted` returns `false`, then `has_data` holds, and the next step isn't refused for lack of data.
 ///
 /// Generic code can rely only on these clauses. If a caller needs stronger guarantees, it must name the coder's type.
@@ -35,27 +36,27 @@ pub trait Decode<const PRECISION: usize>: Code {
     ghost decodes: { Self → Step → Result (Unit {0}) (CoderError Self.FrontendError Self.BackendError)
         → Self → Type 0 };
 
-    /// Relates the coder, an error that is returned before the model is used, and the coder after it.
+    /// Relates the coder before a call, an error that the call returns before it uses the model, and the coder after.
     ///
-    /// An implementor chooses this relation freely. It never holds if every call uses the model.
+    /// An implementor chooses this relation freely. If every call uses the model, the relation never holds.
     ghost halts: { Self → CoderError Self.FrontendError Self.BackendError → Self → Type 0 };
 
-    /// The property that the coder has whenever `maybe_exhausted` returns `false`. An implementor chooses it freely.
+    /// Holds whenever `maybe_exhausted` returns `false`. An implementor chooses this property freely.
     ghost has_data: { Self → Type 0 };
 
     /// Holds for each error that means that the data ended. An implementor chooses these errors freely.
     ///
-    /// For a coder that continues past the end of its data, no error means this.
+    /// For a coder that continues past the end of its data, no error means that the data ended.
     ghost is_end_of_data: { CoderError Self.FrontendError Self.BackendError → Type 0 };
 
     /// Decodes a symbol under a model.
     ///
-    /// The coder makes the step of the decoded symbol's interval in the model's table.
+    /// The coder makes the step that the decoded symbol's interval in the model's table gives.
     ///
     /// # Errors
     ///
     /// - `Frontend(error)` or `Backend(error)`, as `halts` allows: the coder refuses before it uses the model.
-    /// - `Frontend(error)` or `Backend(error)`, as `decodes` allows: the coder refuses the step of the model's entry.
+    /// - `Frontend(error)` or `Backend(error)`, as `decodes` allows: the coder refuses the step of the decoded symbol.
     ///
     /// # Examples
     ///
@@ -102,7 +103,7 @@ pub trait Decode<const PRECISION: usize>: Code {
     /// Returns an iterator that decodes one symbol for each model, where an item may be an error instead of a model.
     ///
     /// For an item `Err(error)`, the iterator returns `InvalidEntropyModel(error)` and leaves the decoder unchanged.
-    /// For a model it decodes as the iterator of [`decode_symbols`](Decode::decode_symbols) does.
+    /// For a model, it decodes a symbol as the iterator of [`decode_symbols`](Decode::decode_symbols) does.
     final fn try_decode_symbols<I>(
         &mut self,
         models: I,

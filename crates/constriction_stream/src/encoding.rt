@@ -41,9 +41,10 @@ impl<Symbol> Lent<Symbol> for &Symbol {
 ///
 /// The models guarantee that `PRECISION` is at least 1 and at most the number of bits of a word.
 ///
-/// An implementor chooses the ghost members and proves that each call obeys them. It also proves two laws: `encodes`
-/// never allows an error that means an impossible symbol, and this error never means lack of room. Generic code can
-/// rely only on these clauses and laws. If a caller needs more, it must name the coder's type.
+/// An implementor chooses the ghost members and proves that each call obeys them. It also proves two laws about the
+/// errors that mean an impossible symbol. `encodes` allows none of them, because it describes only the steps of symbols
+/// that the model can code. None of them means lack of room. Generic code can rely only on these clauses and laws. If a
+/// caller needs stronger guarantees, it must name the coder's type.
 pub trait Encode<const PRECISION: usize>: Code {
     /// The error of a step that the coder itself refuses, for example because the symbol is impossible.
     type FrontendError;
@@ -59,12 +60,14 @@ pub trait Encode<const PRECISION: usize>: Code {
 
     /// Holds for each error that means an impossible symbol.
     ///
-    /// An implementor chooses these errors freely among the errors that `encodes` never allows (`never_impossible`).
+    /// An implementor may choose any errors, provided that `encodes` allows none of them. The law `never_impossible`
+    /// states this condition.
     ghost is_impossible_symbol: { Self.FrontendError → Type 0 };
 
     /// Holds if `symbols_left` limits the number of symbols that the coder may be asked to encode.
     ///
-    /// An implementor chooses it freely. If it doesn't hold, no caller has to prove that symbols are left.
+    /// An implementor chooses freely whether it holds. If it doesn't hold, no caller has to prove anything about
+    /// `symbols_left`.
     ghost counts_symbols: { Type 0 };
 
     /// The number of symbols that the coder may still be asked to encode.
@@ -74,11 +77,11 @@ pub trait Encode<const PRECISION: usize>: Code {
 
     /// Holds for each error that means that the coder is full.
     ///
-    /// An implementor chooses these errors freely, but the error of an impossible symbol is none of them
-    /// (`never_full`). If no error means that the coder is full, `maybe_full` guarantees nothing.
+    /// An implementor may choose any errors, provided that none of them means an impossible symbol. The law
+    /// `never_full` states this condition. If no error means that the coder is full, `maybe_full` guarantees nothing.
     ghost is_lack_of_room: { CoderError Self.FrontendError Self.BackendError → Type 0 };
 
-    /// Holds if `maybe_full` can determine whether there is room. An implementor chooses it freely.
+    /// Holds if `maybe_full` can determine whether there is room. An implementor chooses freely when it holds.
     ///
     /// Where `tells_room` doesn't hold, `maybe_full` guarantees nothing.
     ghost tells_room: { Self → Type 0 };
@@ -162,10 +165,10 @@ pub trait Encode<const PRECISION: usize>: Code {
     ///
     /// # Errors
     ///
-    /// The call stops at the first error. Exactly the symbols of the items before it are encoded.
+    /// The call stops at the first item that fails. Exactly the symbols of the items before this item are encoded.
     ///
-    /// - `InvalidEntropyModel(error)`: the item is `Err(error)`. The item doesn't change the coder.
-    /// - `CodingError(error)`: the coder refuses the step of the item.
+    /// - `InvalidEntropyModel(error)`: the item is `Err(error)`. It doesn't change the coder.
+    /// - `CodingError(error)`: the coder refuses the item's symbol.
     fn try_encode_symbols<S, M, E, I>(
         &mut self,
         symbols_and_models: I,

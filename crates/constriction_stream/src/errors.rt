@@ -6,7 +6,7 @@ ghost use Rattle.constriction_stream.specs.declared.errors.TryCodingError.TheVar
 use std::fmt::Display;
 use thiserror::Error;
 
-/// The error of a call that takes `Result`s: either an item is an error, or the coder refuses a step.
+/// The error of a call that takes items as `Result`s: either an item is an error, or the coder refuses a step.
 ///
 /// The `?` operator turns a coder's error into a `CodingError`.
 ///

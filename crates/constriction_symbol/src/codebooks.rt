@@ -26,7 +26,7 @@ pub trait Codebook: Drop {
     /// The codeword of a symbol in reading order (its prefix form). It is `None` if the symbol has no codeword.
     ghost codeword: { Self → Self.Symbol → Option (List Bool) };
 
-    /// Relates two symbols that mean the same.
+    /// Holds for two symbols that mean the same.
     ghost is_same: { Self → Self.Symbol → Self.Symbol → Type 0 };
 
     // Symbols that mean the same have the same codeword.
@@ -91,7 +91,7 @@ pub trait EncoderCodebook: Codebook {
     }
 }
 
-/// The order in which a stream with these semantics writes the bits of a codeword.
+/// The order in which a stream writes the bits of a codeword: a [`Queue`] or a [`Stack`].
 pub trait BitOrder: Semantics {
     /// The bits of a codeword in writing order, given its bits in reading order.
     ghost form: { List Bool → List Bool };
@@ -106,9 +106,10 @@ pub trait BitOrder: Semantics {
         ensures bits { bits_of count (Word.number result) ≡ form (reverse (bits_of count (Word.number bits))) }
         ensures small { Word.number result < 2 ^ count };
 
-    /// Returns the statement about the form that the stream writes.
+    /// Chooses between two statements by the form that the stream writes.
     ///
-    /// The first argument is a statement about the prefix form, the second one about the suffix form.
+    /// The first argument is a statement about the prefix form, the second argument about the suffix form. The result
+    /// is the first argument for a queue, and the second argument for a stack.
     ghost chosen: { Type 0 → Type 0 → Type 0 };
 
     /// Passes the bits of the symbol's codeword to `emit`, in writing order.
@@ -195,9 +196,9 @@ impl<InvalidCodeword> SymbolCodeError<InvalidCodeword> {
 /// A codebook for decoding: it reads symbols from bits.
 ///
 /// An implementor defines after which bits the codebook reads another bit (`reads_on`), and which bits are invalid
-/// (`is_invalid`). It proves two laws. The codebook reads on only while no codeword is complete. Invalid bits, whatever
-/// bits follow them, begin with no codeword. So if the bits begin with a codeword, a decode returns its symbol and
-/// reads exactly its bits.
+/// (`is_invalid`). It proves two laws. The codebook reads on only while no codeword is complete. Invalid bits begin
+/// with no codeword, whatever bits follow them. So if the bits begin with a codeword, a decode returns the codeword's
+/// symbol and reads exactly the codeword's bits.
 pub trait DecoderCodebook: Codebook {
     /// The error for bits that begin with no codeword.
     type InvalidCodeword;

@@ -52,7 +52,9 @@ pub struct SymbolCoder<Word: BitArray, S: Semantics, B: Holds<Word, Stack> = Vec
 /// A stack of bits: the last bit written is read first.
 pub type StackCoder<Word, B = Vec<Word>> = SymbolCoder<Word, Stack, B>;
 
-/// A queue of bits, for writing. A [`QueueDecoder`](crate::queue::QueueDecoder) of its words reads them first to last.
+/// A queue of bits, for writing.
+///
+/// A [`QueueDecoder`](crate::queue::QueueDecoder) over the encoder's words reads the bits from first to last.
 pub type QueueEncoder<Word, B = Vec<Word>> = SymbolCoder<Word, Queue, B>;
 
 /// A stack of bits over 32-bit words.

@@ -17,8 +17,9 @@ use thiserror::Error;
 
 /// The Exp-Golomb codebook. Every number of type `N` has a codeword.
 ///
-/// The codeword of `n` ends with `n + 1` in binary, highest bit first, without leading zeros. Before these bits stand
-/// zeros, one fewer than there are bits. The codeword of the greatest `N` is `N::BITS` zeros, a 1, and `N::BITS` zeros.
+/// The codeword of `n` ends with `n + 1` in binary, highest bit first, without leading zeros. If these are `b` bits,
+/// `b - 1` zeros stand before them. For the greatest number of type `N`, the codeword is `N::BITS` zeros, a 1, and
+/// `N::BITS` zeros.
 ///
 /// # Examples
 ///
@@ -136,7 +137,7 @@ impl<N: BitArray> EncoderCodebook for ExpGolomb<N> {
         }
     }
 
-    /// Returns the codeword if it has fewer bits than `Word`, and the symbol isn't the greatest `N`.
+    /// Returns the codeword if it has fewer bits than `Word`, and the symbol isn't the greatest number of type `N`.
     #[inline]
     fn codeword_at_once<Word: BitArray>(&self, symbol: &N) -> Option<(Word, u32)> {
         if !symbol.is_below(N::greatest()) {
@@ -152,7 +153,7 @@ impl<N: BitArray> EncoderCodebook for ExpGolomb<N> {
     }
 }
 
-/// The error for bits that begin with no codeword of the number type, such as 9 zeros for `u8`.
+/// The error for bits that begin with no codeword of an [`ExpGolomb`], such as 9 zeros for `ExpGolomb<u8>`.
 #[derive(Debug, Clone, PartialEq, Eq, Drop, Error)]
 #[error("Invalid Exp-Golomb codeword.")]
 pub struct InvalidCodeword;
@@ -211,7 +212,7 @@ impl<N: BitArray> DecoderCodebook for ExpGolomb<N> {
 
     /// Looks up the codeword that the `count` highest bits of `bits` begin with.
     ///
-    /// Returns `None` for the greatest `N`, and for codewords of `count` bits or more.
+    /// Returns `None` for the greatest number of type `N`, and for codewords of `count` bits or more.
     #[inline]
     fn symbol_at_once<Word: BitArray>(&self, bits: Word, count: u32) -> Option<(N, u32)> {
         let zeros = Word::BITS - bits.bit_length();

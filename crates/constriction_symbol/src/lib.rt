@@ -26,9 +26,13 @@
 //!
 //! # Definitions
 //!
-//! Contracts cite `specs/Bits.antt` (bits of words), `specs/Codewords.antt` (emitting, writing and reading codewords),
-//! `specs/Golomb.antt` (Exp-Golomb codewords), `specs/Huffman.antt` (the tree that merging the weights gives, and its
-//! codewords) and `specs/Merging.antt` (which weights make a tree, and the error for other weights).
+//! Contracts cite these files:
+//!
+//! - `specs/Bits.antt`: bits of words.
+//! - `specs/Codewords.antt`: emitting, writing and reading codewords.
+//! - `specs/Golomb.antt`: Exp-Golomb codewords.
+//! - `specs/Huffman.antt`: the tree that merging the weights gives, and the tree's codewords.
+//! - `specs/Merging.antt`: which weights make a tree, and the error for other weights.
 #![tactic(auto)]
 
 pub mod codebooks;

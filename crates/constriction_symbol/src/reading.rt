@@ -16,9 +16,10 @@ use std::marker::PhantomData;
 
 /// A stream of bits that decodes symbols.
 ///
-/// An implementor defines the list of unread bits (`unread`), which answer a read may give (`gives`), and whether reads
-/// return the bits of that list (`is_list`). It proves that each call follows these definitions. If `is_list` holds, it
-/// also proves that each read returns the first unread bit, `None` if no bit is unread, or an error.
+/// An implementor defines the list of unread bits (`unread`), and what a read may return (`gives`). It also defines
+/// whether reads return the bits of that list (`is_list`). It proves that each call follows these definitions. If
+/// `is_list` holds, it also proves that each read returns the first unread bit, `None` if no bit is unread, or an
+/// error.
 pub trait ReadBitStream<S: Semantics> {
     type ReadError;
 

@@ -1,7 +1,7 @@
 //! Reversing the bits of a word, and converting a number to another word type.
 //!
-//! Generic words have no operation for either, so both go bit by bit. The compiler turns loops of up to about twenty
-//! steps into a few masks and shifts, or a move. So each function goes over a word in four quarters.
+//! Generic words have no operation for either, so both go bit by bit. The compiler turns a loop of up to about twenty
+//! iterations into a few masks and shifts, or a move. So each function goes over a word in four quarters.
 
 ghost use Rattle.constriction_symbol.specs.Bits.{bits_of};
 ghost use Rattle.constriction_symbol.specs.Golomb.{number_after};

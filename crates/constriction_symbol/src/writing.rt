@@ -26,8 +26,8 @@ use std::alloc::AllocError;
 /// A queue gets codewords in prefix form, a stack in suffix form. Writing a codeword has the effect of writing its bits
 /// one by one.
 ///
-/// An implementor defines the list of bits (`bits`) and which answer a write may give (`puts`). It proves that each
-/// call follows these definitions.
+/// An implementor defines the list of bits (`bits`) and what a write may return (`puts`). It proves that each call
+/// follows these definitions.
 pub trait WriteBitStream<S: BitOrder> {
     type WriteError: From<AllocError>;
 
@@ -138,21 +138,21 @@ pub trait WriteBitStream<S: BitOrder> {
     }
 }
 
-/// What takes bits one after another, and no more.
+/// A receiver of bits, which takes them one by one.
 trait BitSink {
     type Refusal: From<AllocError>;
 
     /// The bits, in writing order.
     ghost bits: { Self → List Bool };
 
-    /// What a write of a bit answers, and what it leaves.
+    /// Relates the receiver before the write of a bit, the bit, what the write returns, and the receiver after it.
     ghost puts: { Self → Bool → Result (Unit {0}) Self.Refusal → Self → Type 0 };
 
     /// Appends a bit.
     ///
     /// # Errors
     ///
-    /// The sink's error if there is no room for the bit. The bits are unchanged.
+    /// The receiver's error if there is no room for the bit. The bits are unchanged.
     fn put_bit(&mut self, bit: bool) -> Result<(), Self::Refusal>
         ensures bits { PutsBit (bits self.old) bit result (bits self.new) }
         ensures puts { puts self.old bit result self.new };

@@ -17,12 +17,12 @@ mod of_usize;
 
 /// A word: an unsigned integer of `BITS` bits. `u8`, `u16`, `u32`, `u64`, `u128` and `usize` are words.
 ///
-/// Contracts describe a word by a natural number, `number`, and each method by what it does to these numbers. Nothing
-/// wraps or is cut off unless the method's name says so. By `number_law`, `number word < 2 ^ BITS` holds for every
-/// word. Generic code may rely on this law without a condition of its own.
+/// Contracts describe a word by a natural number, `number`, and each method by what it does to these numbers. A result
+/// wraps or loses bits only if the method's name says so. By `number_law`, `number word < 2 ^ BITS` holds for every
+/// word. Generic code may rely on this law, and its callers don't have to prove it.
 ///
-/// Some methods have a condition, for example that a sum fits the type. The caller proves the condition. Compiled code
-/// inlines each method as one or a few machine operations. The exceptions are quotients and remainders of `u128`, for
+/// Some methods have a condition, for example that a sum fits the type. The caller proves the condition. The compiler
+/// inlines each method as one or a few machine instructions. The exceptions are quotients and remainders of `u128`, for
 /// which the machine has no instruction.
 ///
 /// An implementor proves the contract of each method and three laws:
@@ -96,10 +96,10 @@ pub trait BitArray: Copy + Drop {
         requires { 0 < number other }
         ensures { number result ≡ number self / number other };
 
-    /// Returns the quotient by `other`, rounded down, computed from the reciprocal of `other`.
+    /// Returns the quotient by `other`, rounded down. An impl may use `reciprocal` to avoid the division.
     ///
-    /// The caller proves that `reciprocal` is the reciprocal of `other`. The impls of this crate compute a product and
-    /// a shift instead of a division, except the impl for `u128`. The default method divides.
+    /// The caller proves that `reciprocal` is the reciprocal of `other`. The default method ignores `reciprocal` and
+    /// divides. The impls of this crate, except the impl for `u128`, compute a product and a shift instead.
     fn quotient_by(self, other: Self, reciprocal: Reciprocal) -> Self
         requires { IsReciprocalOf reciprocal (number other) }
         ensures { number result ≡ number self / number other }
@@ -140,7 +140,8 @@ pub trait BitArray: Copy + Drop {
     fn wrapping_plus(self, other: Self) -> Self
         ensures { number result ≡ (number self + number other) % 2 ^ BITS };
 
-    /// Returns the difference modulo `2 ^ BITS`: if `other` is greater, `2 ^ BITS` is added.
+    /// Returns the difference modulo `2 ^ BITS`. If `other` is greater than `self`, this is the difference plus
+    /// `2 ^ BITS`.
     fn wrapping_minus(self, other: Self) -> Self
         ensures value { number result ≡ (number self + 2 ^ BITS - number other) % 2 ^ BITS }
         ensures back { (number result + number other) % 2 ^ BITS ≡ number self };
@@ -153,7 +154,7 @@ pub trait BitArray: Copy + Drop {
     fn from_nonzero(nonzero: Self::NonZero) -> Self
         ensures { number result ≡ nonzero_number nonzero };
 
-    /// Returns the same number as an index. The caller proves that the number is below `2 ^ 64`.
+    /// Returns the same number as a `usize`. The caller proves that the number is below `2 ^ 64`.
     fn to_index(self) -> usize
         requires { number self < 2 ^ 64 }
         ensures { result ≡ number self };

@@ -1,11 +1,12 @@
 //! `Reciprocal`: exact division by a fixed number, with a product instead of a division instruction.
 //!
-//! Let `k` be the place of the highest set bit of the divisor `p`. Let `q` and `r` be the quotient and the remainder of
-//! `2^(64+k) - 1` by `p`. The shift is `k`. If `r < 2^k`, multiplier and addend are both `q`. Otherwise the multiplier
-//! is `q + 1` and the addend is 0. Multiplier and addend fit 64 bits. Powers of two fall in the first case.
+//! Let `2^k` be the greatest power of two that is at most the divisor `p`. Let `q` and `r` be the quotient and the
+//! remainder of `2^(64+k) - 1` by `p`. The shift is `k`. If `r < 2^k`, multiplier and addend are both `q`. Otherwise
+//! the multiplier is `q + 1` and the addend is 0. Multiplier and addend fit 64 bits. If `p` is a power of two, then
+//! `r < 2^k`.
 //!
-//! A reciprocal of 64 bits serves every state of at most 64 bits, because a product of two 64-bit numbers is one
-//! machine instruction. A reciprocal of 32 bits would gain nothing.
+//! Reciprocals of 64 bits work for every state of at most 64 bits. A product of two 64-bit numbers is one machine
+//! instruction, so reciprocals of 32 bits would gain nothing.
 
 ghost use Rattle.std.specs.Prelude.{◌≡◌, ◌+◌, ◌*◌, ◌/◌, ◌<◌, ℕ};
 

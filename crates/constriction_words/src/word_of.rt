@@ -18,8 +18,8 @@ use crate::bit_array::BitArray;
 ///
 /// - `widen` keeps the number.
 /// - `narrow` keeps the lowest `BITS` bits.
-/// - `width_law`: the word's `BITS` is at most `T::BITS`. Generic code may rely on this law without a condition of its
-///   own.
+/// - `width_law`: the word's `BITS` is at most `T::BITS`. Generic code may rely on this law, and its callers don't have
+///   to prove it.
 ///
 /// # Examples
 ///

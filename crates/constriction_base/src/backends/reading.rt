@@ -7,10 +7,10 @@ use crate::backends::semantics::Semantics;
 
 /// A value that holds words in the reading order `S`.
 ///
-/// A type that is both a stack and a queue has one list for each order.
+/// A type that implements the trait for both orders has one list of words for each.
 ///
-/// An implementor chooses the list freely. Where `is_list` holds, the contracts of reading and writing state how each
-/// call changes the list.
+/// This trait doesn't restrict how an implementor defines `words`. Where `is_list` holds, the contracts of reading and
+/// writing state how each call changes the list.
 pub trait Holds<Word, S: Semantics> {
     /// The words that the next reads return, in order. Where `is_list` doesn't hold, the list has no meaning.
     ghost words: { Self → List Word };
@@ -23,9 +23,9 @@ pub trait Holds<Word, S: Semantics> {
 ///
 /// A `Stack` reads the word that was written last. A `Queue` reads the word that was written first.
 ///
-/// An implementor chooses what a read may return, which backend the read leaves, and when the backend seems exhausted.
-/// It then proves that every read obeys these choices. Where `is_list` holds, it also proves that a read takes the
-/// first word of the list.
+/// An implementor chooses what a read may return, how the read changes the backend, and when the backend seems
+/// exhausted. It then proves that the calls obey these choices. Where `is_list` holds, it also proves that a read takes
+/// the first word of the list.
 ///
 /// # Examples
 ///

@@ -1,8 +1,8 @@
 //! Positions in a backend or in a coder.
 //!
 //! For vectors and cursors, `can_seek` and `seek_fails` exclude each other: a seek succeeds exactly if `can_seek`
-//! holds, and a refused seek changes nothing. A coder that reads after its backend's seek, or that has two backends,
-//! may allow both at the same position. `stays` states what a refused seek leaves.
+//! holds, and a refused seek changes nothing. Some coders read after their backend's seek, or have two backends. For
+//! these coders, both may hold for the same position. `stays` states how a refused seek may change the value.
 
 ghost use Rattle.std.specs.Prelude.{◌≡◌, ℕ, length, IsOk, OnOk, OnErr};
 
@@ -68,7 +68,7 @@ pub trait Seek: PosSeek {
     /// Relates the value before a refused seek, the position, and the value after it.
     ghost stays: { Self → Self.Position → Self → Type 0 };
 
-    /// Goes to a position that was recorded earlier.
+    /// Goes to a position, for example one that `pos` returned earlier.
     ///
     /// # Errors
     ///

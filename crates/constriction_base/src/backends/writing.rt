@@ -37,7 +37,7 @@ use crate::backends::semantics::Stack;
 pub trait WriteWords<Word>: Holds<Word, Stack> {
     /// The error of a write and of `prepare`.
     ///
-    /// A vector's error is lack of memory. A cursor's error is lack of room.
+    /// For vectors, it means lack of memory. For cursors, it means lack of room.
     type WriteError;
 
     /// Relates the backend before a write, the word, what the write returns, and the backend after it.
@@ -59,7 +59,7 @@ pub trait WriteWords<Word>: Holds<Word, Stack> {
     /// Holds if a successful `prepare` makes room for the words that it was asked for.
     ghost makes_room: { Type 0 };
 
-    /// Holds for each error that means that the backend is full, as opposed to a lack of memory.
+    /// Holds for each error that means that the backend is full. Lack of memory is a different error.
     ghost is_lack_of_room: { Self.WriteError → Type 0 };
 
     /// The value that `maybe_full` returns.

@@ -1,4 +1,4 @@
-//! Mutably borrowed words as a buffer that can be written to.
+//! A mutably borrowed slice of words as a buffer that can be written to.
 //!
 //! `reverse_words` reverses the slice in place, so `into_reversed` of a cursor takes a single pass over the words.
 

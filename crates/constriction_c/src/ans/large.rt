@@ -78,7 +78,7 @@ pub extern "C" fn constriction_ans_encode_intervals_reverse_u32(
     code_of(answer, needed)
 }
 
-/// Encodes symbols from the last to the first, with a model of a family for each: its own location and scale.
+/// Encodes symbols from the last to the first, each under the model of its own location and scale ([`Families`]).
 #[unsafe(no_mangle)]
 pub extern "C" fn constriction_ans_encode_quantized_reverse_u32(
     alloc: Global,
@@ -101,7 +101,7 @@ pub extern "C" fn constriction_ans_encode_quantized_reverse_u32(
     code_of(answer, needed)
 }
 
-/// Encodes symbols from the last to the first, each under its own mixture of a family.
+/// Encodes symbols from the last to the first, each under its own mixture of a family's distributions ([`Mixtures`]).
 #[unsafe(no_mangle)]
 pub extern "C" fn constriction_ans_encode_mixture_reverse_u32(
     alloc: Global,
@@ -163,7 +163,7 @@ pub extern "C" fn constriction_ans_decode_each_u32(
     code_without_space(decode::<_, _, u32, _, 24>(alloc, head, words, len, &rows, symbols))
 }
 
-/// Decodes symbols with a model of a family for each: its own location and scale.
+/// Decodes symbols, each under the model of its own location and scale ([`Families`]).
 #[unsafe(no_mangle)]
 pub extern "C" fn constriction_ans_decode_quantized_u32(
     alloc: Global,
@@ -184,7 +184,7 @@ pub extern "C" fn constriction_ans_decode_quantized_u32(
     code_without_space(decode::<_, _, u32, _, 24>(alloc, head, words, len, &models, symbols))
 }
 
-/// Decodes symbols, each under its own mixture of a family.
+/// Decodes symbols, each under its own mixture of a family's distributions ([`Mixtures`]).
 #[unsafe(no_mangle)]
 pub extern "C" fn constriction_ans_decode_mixture_u32(
     alloc: Global,
@@ -210,7 +210,7 @@ pub extern "C" fn constriction_ans_decode_mixture_u32(
     code_without_space(decode::<_, _, u32, _, 24>(alloc, head, words, len, &mixtures, symbols))
 }
 
-/// Imports the state that exports the given words.
+/// Imports the state that `constriction_ans_into_compressed_u32` exports as `words`.
 #[unsafe(no_mangle)]
 pub extern "C" fn constriction_ans_from_compressed_u32(
     words: &[u32],
@@ -223,7 +223,7 @@ pub extern "C" fn constriction_ans_from_compressed_u32(
     code_without_space(from_compressed(words, len, head))
 }
 
-/// Imports a state from any words in binary form.
+/// Imports the state whose binary form is `words`. Every list of words is the binary form of a state.
 #[unsafe(no_mangle)]
 pub extern "C" fn constriction_ans_from_binary_u32(
     words: &[u32],
@@ -237,7 +237,7 @@ pub extern "C" fn constriction_ans_from_binary_u32(
     code_without_space(Ok(()))
 }
 
-/// Exports the state: appends the words of its head, without leading zero words, to the first `len` words.
+/// Exports the state: writes the words of its head, without leading zero words, after the first `len` words.
 #[unsafe(no_mangle)]
 pub extern "C" fn constriction_ans_into_compressed_u32(
     alloc: Global,
@@ -252,7 +252,7 @@ pub extern "C" fn constriction_ans_into_compressed_u32(
     code_of(into_compressed(alloc, head, words, len), needed)
 }
 
-/// Exports the state in binary form: appends the words of its head, without its leading 1, to the first `len` words.
+/// Exports the binary form: writes the bits of the head below its leading 1 after the first `len` words of `words`.
 #[unsafe(no_mangle)]
 pub extern "C" fn constriction_ans_into_binary_u32(
     alloc: Global,

@@ -79,7 +79,7 @@ pub extern "C" fn constriction_ans_encode_intervals_reverse_u16(
     code_of(answer, needed)
 }
 
-/// Encodes symbols from the last to the first, with a model of a family for each: its own location and scale.
+/// Encodes symbols from the last to the first, each under the model of its own location and scale ([`Families`]).
 #[unsafe(no_mangle)]
 pub extern "C" fn constriction_ans_encode_quantized_reverse_u16(
     alloc: Global,
@@ -102,7 +102,7 @@ pub extern "C" fn constriction_ans_encode_quantized_reverse_u16(
     code_of(answer, needed)
 }
 
-/// Encodes symbols from the last to the first, each under its own mixture of a family.
+/// Encodes symbols from the last to the first, each under its own mixture of a family's distributions ([`Mixtures`]).
 #[unsafe(no_mangle)]
 pub extern "C" fn constriction_ans_encode_mixture_reverse_u16(
     alloc: Global,
@@ -164,7 +164,7 @@ pub extern "C" fn constriction_ans_decode_each_u16(
     code_without_space(decode::<_, _, u16, _, 12>(alloc, head, words, len, &rows, symbols))
 }
 
-/// Decodes symbols with a model of a family for each: its own location and scale.
+/// Decodes symbols, each under the model of its own location and scale ([`Families`]).
 #[unsafe(no_mangle)]
 pub extern "C" fn constriction_ans_decode_quantized_u16(
     alloc: Global,
@@ -185,7 +185,7 @@ pub extern "C" fn constriction_ans_decode_quantized_u16(
     code_without_space(decode::<_, _, u16, _, 12>(alloc, head, words, len, &models, symbols))
 }
 
-/// Decodes symbols, each under its own mixture of a family.
+/// Decodes symbols, each under its own mixture of a family's distributions ([`Mixtures`]).
 #[unsafe(no_mangle)]
 pub extern "C" fn constriction_ans_decode_mixture_u16(
     alloc: Global,
@@ -211,7 +211,7 @@ pub extern "C" fn constriction_ans_decode_mixture_u16(
     code_without_space(decode::<_, _, u16, _, 12>(alloc, head, words, len, &mixtures, symbols))
 }
 
-/// Imports the state that exports the given words.
+/// Imports the state that `constriction_ans_into_compressed_u16` exports as `words`.
 #[unsafe(no_mangle)]
 pub extern "C" fn constriction_ans_from_compressed_u16(
     words: &[u16],
@@ -224,7 +224,7 @@ pub extern "C" fn constriction_ans_from_compressed_u16(
     code_without_space(from_compressed(words, len, head))
 }
 
-/// Imports a state from any words in binary form.
+/// Imports the state whose binary form is `words`. Every list of words is the binary form of a state.
 #[unsafe(no_mangle)]
 pub extern "C" fn constriction_ans_from_binary_u16(
     words: &[u16],
@@ -238,7 +238,7 @@ pub extern "C" fn constriction_ans_from_binary_u16(
     code_without_space(Ok(()))
 }
 
-/// Exports the state: appends the words of its head, without leading zero words, to the first `len` words.
+/// Exports the state: writes the words of its head, without leading zero words, after the first `len` words.
 #[unsafe(no_mangle)]
 pub extern "C" fn constriction_ans_into_compressed_u16(
     alloc: Global,
@@ -253,7 +253,7 @@ pub extern "C" fn constriction_ans_into_compressed_u16(
     code_of(into_compressed(alloc, head, words, len), needed)
 }
 
-/// Exports the state in binary form: appends the words of its head, without its leading 1, to the first `len` words.
+/// Exports the binary form: writes the bits of the head below its leading 1 after the first `len` words of `words`.
 #[unsafe(no_mangle)]
 pub extern "C" fn constriction_ans_into_binary_u16(
     alloc: Global,

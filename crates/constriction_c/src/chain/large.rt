@@ -28,7 +28,7 @@ pub struct ChainHeadsU32 {
 }
 
 impl ChainHeadsU32 {
-    /// Returns the heads in the form that the calls take.
+    /// Returns the heads as a value of the type that the calls of `constriction_calls` take.
     #[inline]
     pub fn parts(&self) -> ChainHeads<u32, u64>
         ensures { result ≡ large_heads self.now }
@@ -39,7 +39,7 @@ impl ChainHeadsU32 {
         }
     }
 
-    /// Makes the struct from the heads that a call returns.
+    /// Makes the struct from the heads that a call of `constriction_calls` sets.
     #[inline]
     pub fn of(heads: ChainHeads<u32, u64>) -> Self
         ensures { result ≡ record { remainders = heads.remainders; compressed = heads.compressed } }
@@ -104,7 +104,7 @@ pub extern "C" fn constriction_chain_decode_each_u32(
     code_of(answer, needed)
 }
 
-/// Decodes symbols with a model of a family for each: its own location and scale.
+/// Decodes symbols, each under the model of its own location and scale ([`Families`]).
 #[unsafe(no_mangle)]
 pub extern "C" fn constriction_chain_decode_quantized_u32(
     alloc: Global,
@@ -134,7 +134,7 @@ pub extern "C" fn constriction_chain_decode_quantized_u32(
     code_of(answer, needed)
 }
 
-/// Decodes symbols, each under its own mixture of a family.
+/// Decodes symbols, each under its own mixture of a family's distributions ([`Mixtures`]).
 #[unsafe(no_mangle)]
 pub extern "C" fn constriction_chain_decode_mixture_u32(
     alloc: Global,
@@ -221,7 +221,7 @@ pub extern "C" fn constriction_chain_encode_each_reverse_u32(
     code_of(answer, needed)
 }
 
-/// Encodes symbols from the last to the first, with a model of a family for each: its own location and scale.
+/// Encodes symbols from the last to the first, each under the model of its own location and scale ([`Families`]).
 #[unsafe(no_mangle)]
 pub extern "C" fn constriction_chain_encode_quantized_reverse_u32(
     alloc: Global,
@@ -251,7 +251,7 @@ pub extern "C" fn constriction_chain_encode_quantized_reverse_u32(
     code_of(answer, needed)
 }
 
-/// Encodes symbols from the last to the first, each under its own mixture of a family.
+/// Encodes symbols from the last to the first, each under its own mixture of a family's distributions ([`Mixtures`]).
 #[unsafe(no_mangle)]
 pub extern "C" fn constriction_chain_encode_mixture_reverse_u32(
     alloc: Global,
@@ -310,7 +310,7 @@ pub extern "C" fn constriction_chain_encode_intervals_reverse_u32(
     code_of(answer, needed)
 }
 
-/// Imports a coder from compressed words, with no remainders.
+/// Imports a coder from compressed words. The coder has no words of remainders below its heads.
 #[unsafe(no_mangle)]
 pub extern "C" fn constriction_chain_from_compressed_u32(
     alloc: Global,
@@ -327,7 +327,7 @@ pub extern "C" fn constriction_chain_from_compressed_u32(
     code_without_space(answer)
 }
 
-/// Imports a coder from words in binary form, with no remainders.
+/// Imports a coder from compressed words in binary form. The coder has no words of remainders below its heads.
 #[unsafe(no_mangle)]
 pub extern "C" fn constriction_chain_from_binary_u32(
     alloc: Global,
@@ -343,7 +343,7 @@ pub extern "C" fn constriction_chain_from_binary_u32(
     code_without_space(answer)
 }
 
-/// Imports a coder from remainders, with no compressed words.
+/// Imports a coder from the words of remainders. The coder has no compressed words below its heads.
 #[unsafe(no_mangle)]
 pub extern "C" fn constriction_chain_from_remainders_u32(
     alloc: Global,
@@ -359,7 +359,7 @@ pub extern "C" fn constriction_chain_from_remainders_u32(
     code_without_space(answer)
 }
 
-/// Appends the words of the remainders' head to the compressed words.
+/// Exports compressed words: writes the words of the remainders head after the compressed words in use.
 #[unsafe(no_mangle)]
 pub extern "C" fn constriction_chain_into_compressed_u32(
     alloc: Global,
@@ -375,7 +375,7 @@ pub extern "C" fn constriction_chain_into_compressed_u32(
     code_of(answer, needed)
 }
 
-/// Appends the words of the remainders' head, without its leading 1, to the compressed words.
+/// Exports the binary form: appends to the compressed words the remainders head's bits below its leading 1.
 #[unsafe(no_mangle)]
 pub extern "C" fn constriction_chain_into_binary_u32(
     alloc: Global,
@@ -391,7 +391,7 @@ pub extern "C" fn constriction_chain_into_binary_u32(
     code_of(answer, needed)
 }
 
-/// Appends both heads to the remainders.
+/// Exports remainders: writes the words of both heads after the remainders in use.
 #[unsafe(no_mangle)]
 pub extern "C" fn constriction_chain_into_remainders_u32(
     alloc: Global,

@@ -97,7 +97,7 @@ impl RangeDecoderU32 {
     }
 }
 
-/// Sets `encoder` to an encoder without symbols.
+/// Sets `encoder` to an encoder that starts from the initial interval, and so has encoded no symbols.
 #[unsafe(no_mangle)]
 pub extern "C" fn constriction_range_encoder_u32(encoder: &mut RangeEncoderU32) -> u32
     ensures done { result ≡ 0 }
@@ -175,7 +175,7 @@ pub extern "C" fn constriction_range_encode_intervals_u32(
     code_of(answer, needed)
 }
 
-/// Encodes symbols in order, with a model of a family for each: its own location and scale.
+/// Encodes symbols in order, each under the model of its own location and scale ([`Families`]).
 #[unsafe(no_mangle)]
 pub extern "C" fn constriction_range_encode_quantized_u32(
     alloc: Global,
@@ -200,7 +200,7 @@ pub extern "C" fn constriction_range_encode_quantized_u32(
     code_of(answer, needed)
 }
 
-/// Encodes symbols, each under its own mixture of a family.
+/// Encodes symbols in order, each under its own mixture of a family's distributions ([`Mixtures`]).
 #[unsafe(no_mangle)]
 pub extern "C" fn constriction_range_encode_mixture_u32(
     alloc: Global,
@@ -229,7 +229,7 @@ pub extern "C" fn constriction_range_encode_mixture_u32(
     code_of(answer, needed)
 }
 
-/// Appends the words that the encoder holds back, and a seal, to the buffer's first `len` words.
+/// Writes the words that the encoder holds back, and a seal, after the first `len` words of `words`.
 #[unsafe(no_mangle)]
 pub extern "C" fn constriction_range_into_compressed_u32(
     alloc: Global,
@@ -244,9 +244,9 @@ pub extern "C" fn constriction_range_into_compressed_u32(
     code_of(into_compressed(alloc, &encoder.parts(), words, len), needed)
 }
 
-/// Appends the words that the encoder holds back, and a self-delimiting seal, to the buffer's first `len` words.
+/// Writes the words that the encoder holds back, and a self-delimiting seal, after the first `len` words of `words`.
 ///
-/// For states of two words, this seal equals the one that `into_compressed` appends.
+/// A state is two words wide, so the function writes the same words as `constriction_range_into_compressed_u32`.
 #[unsafe(no_mangle)]
 pub extern "C" fn constriction_range_into_self_delimited_u32(
     alloc: Global,
@@ -262,7 +262,7 @@ pub extern "C" fn constriction_range_into_self_delimited_u32(
     code_of(answer, needed)
 }
 
-/// Sets `decoder` to a decoder of sealed words, before their first symbol.
+/// Sets `decoder` to a decoder of sealed words, positioned before the first symbol.
 #[unsafe(no_mangle)]
 pub extern "C" fn constriction_range_from_compressed_u32(
     words: &[u32],
@@ -314,7 +314,7 @@ pub extern "C" fn constriction_range_decode_each_u32(
     code_without_space(answer)
 }
 
-/// Decodes symbols in order, with a model of a family for each: its own location and scale.
+/// Decodes symbols in order, each under the model of its own location and scale ([`Families`]).
 #[unsafe(no_mangle)]
 pub extern "C" fn constriction_range_decode_quantized_u32(
     alloc: Global,
@@ -337,7 +337,7 @@ pub extern "C" fn constriction_range_decode_quantized_u32(
     code_without_space(answer)
 }
 
-/// Decodes symbols, each under its own mixture of a family.
+/// Decodes symbols in order, each under its own mixture of a family's distributions ([`Mixtures`]).
 #[unsafe(no_mangle)]
 pub extern "C" fn constriction_range_decode_mixture_u32(
     alloc: Global,
@@ -365,7 +365,7 @@ pub extern "C" fn constriction_range_decode_mixture_u32(
     code_without_space(answer)
 }
 
-/// Sets `decoder` to a decoder of the words at an encoder's recorded position.
+/// Sets `decoder` to a decoder of `words` at a position that was recorded during encoding.
 #[unsafe(no_mangle)]
 pub extern "C" fn constriction_range_seek_u32(
     decoder: &mut RangeDecoderU32,
@@ -383,7 +383,7 @@ pub extern "C" fn constriction_range_seek_u32(
     code_without_space(answer)
 }
 
-/// Sets `maybe` to 1 if the words may have ended at the decoder's position, and to 0 if not.
+/// Sets `maybe` to 1 if the encoded symbols may have ended at the decoder's position, and to 0 if not.
 #[unsafe(no_mangle)]
 pub extern "C" fn constriction_range_maybe_exhausted_u32(
     decoder: &RangeDecoderU32,

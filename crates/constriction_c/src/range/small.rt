@@ -98,7 +98,7 @@ impl RangeDecoderU16 {
     }
 }
 
-/// Sets `encoder` to an encoder without symbols.
+/// Sets `encoder` to an encoder that starts from the initial interval, and so has encoded no symbols.
 #[unsafe(no_mangle)]
 pub extern "C" fn constriction_range_encoder_u16(encoder: &mut RangeEncoderU16) -> u32
     ensures done { result ≡ 0 }
@@ -176,7 +176,7 @@ pub extern "C" fn constriction_range_encode_intervals_u16(
     code_of(answer, needed)
 }
 
-/// Encodes symbols in order, with a model of a family for each: its own location and scale.
+/// Encodes symbols in order, each under the model of its own location and scale ([`Families`]).
 #[unsafe(no_mangle)]
 pub extern "C" fn constriction_range_encode_quantized_u16(
     alloc: Global,
@@ -201,7 +201,7 @@ pub extern "C" fn constriction_range_encode_quantized_u16(
     code_of(answer, needed)
 }
 
-/// Encodes symbols, each under its own mixture of a family.
+/// Encodes symbols in order, each under its own mixture of a family's distributions ([`Mixtures`]).
 #[unsafe(no_mangle)]
 pub extern "C" fn constriction_range_encode_mixture_u16(
     alloc: Global,
@@ -230,7 +230,7 @@ pub extern "C" fn constriction_range_encode_mixture_u16(
     code_of(answer, needed)
 }
 
-/// Appends the words that the encoder holds back, and a seal, to the buffer's first `len` words.
+/// Writes the words that the encoder holds back, and a seal, after the first `len` words of `words`.
 #[unsafe(no_mangle)]
 pub extern "C" fn constriction_range_into_compressed_u16(
     alloc: Global,
@@ -245,9 +245,9 @@ pub extern "C" fn constriction_range_into_compressed_u16(
     code_of(into_compressed(alloc, &encoder.parts(), words, len), needed)
 }
 
-/// Appends the words that the encoder holds back, and a self-delimiting seal, to the buffer's first `len` words.
+/// Writes the words that the encoder holds back, and a self-delimiting seal, after the first `len` words of `words`.
 ///
-/// For states of two words, this seal equals the one that `into_compressed` appends.
+/// A state is two words wide, so the function writes the same words as `constriction_range_into_compressed_u16`.
 #[unsafe(no_mangle)]
 pub extern "C" fn constriction_range_into_self_delimited_u16(
     alloc: Global,
@@ -263,7 +263,7 @@ pub extern "C" fn constriction_range_into_self_delimited_u16(
     code_of(answer, needed)
 }
 
-/// Sets `decoder` to a decoder of sealed words, before their first symbol.
+/// Sets `decoder` to a decoder of sealed words, positioned before the first symbol.
 #[unsafe(no_mangle)]
 pub extern "C" fn constriction_range_from_compressed_u16(
     words: &[u16],
@@ -315,7 +315,7 @@ pub extern "C" fn constriction_range_decode_each_u16(
     code_without_space(answer)
 }
 
-/// Decodes symbols in order, with a model of a family for each: its own location and scale.
+/// Decodes symbols in order, each under the model of its own location and scale ([`Families`]).
 #[unsafe(no_mangle)]
 pub extern "C" fn constriction_range_decode_quantized_u16(
     alloc: Global,
@@ -338,7 +338,7 @@ pub extern "C" fn constriction_range_decode_quantized_u16(
     code_without_space(answer)
 }
 
-/// Decodes symbols, each under its own mixture of a family.
+/// Decodes symbols in order, each under its own mixture of a family's distributions ([`Mixtures`]).
 #[unsafe(no_mangle)]
 pub extern "C" fn constriction_range_decode_mixture_u16(
     alloc: Global,
@@ -366,7 +366,7 @@ pub extern "C" fn constriction_range_decode_mixture_u16(
     code_without_space(answer)
 }
 
-/// Sets `decoder` to a decoder of the words at an encoder's recorded position.
+/// Sets `decoder` to a decoder of `words` at a position that was recorded during encoding.
 #[unsafe(no_mangle)]
 pub extern "C" fn constriction_range_seek_u16(
     decoder: &mut RangeDecoderU16,
@@ -384,7 +384,7 @@ pub extern "C" fn constriction_range_seek_u16(
     code_without_space(answer)
 }
 
-/// Sets `maybe` to 1 if the words may have ended at the decoder's position, and to 0 if not.
+/// Sets `maybe` to 1 if the encoded symbols may have ended at the decoder's position, and to 0 if not.
 #[unsafe(no_mangle)]
 pub extern "C" fn constriction_range_maybe_exhausted_u16(
     decoder: &RangeDecoderU16,

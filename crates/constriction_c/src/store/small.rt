@@ -10,7 +10,7 @@ use crate::codes::{code_of, code_without_space};
 use constriction_calls::store::{build, chunk};
 use std::alloc::Global;
 
-/// Builds a store of chunks, and writes its words and its index.
+/// Builds a store of chunks, and writes its words and the three lists of its index.
 #[unsafe(no_mangle)]
 pub extern "C" fn constriction_store_build_u16(
     alloc: Global,
@@ -37,7 +37,7 @@ pub extern "C" fn constriction_store_build_u16(
     )
 }
 
-/// Decodes a chunk of a store into `symbols`. `pos`, `lower` and `range` are the chunk's items of the index.
+/// Decodes a chunk of a store into `symbols`. `pos`, `lower` and `range` are the chunk's items in the index's lists.
 #[unsafe(no_mangle)]
 pub extern "C" fn constriction_store_chunk_u16(
     alloc: Global,

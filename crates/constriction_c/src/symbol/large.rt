@@ -1,4 +1,4 @@
-//! Symbol codes with 32-bit words. A function changes `needed` only if the buffer is too short.
+//! Encoding and decoding with codebooks, over 32-bit words. A function sets `needed` only if the buffer is too short.
 
 ghost use Rattle.std.specs.Prelude.{map};
 ghost use Rattle.constriction_c.specs.Large.{large_word};

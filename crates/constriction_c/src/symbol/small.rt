@@ -1,5 +1,5 @@
 // Written by tools/sizes from large.rt.
-//! Symbol codes with 16-bit words. A function changes `needed` only if the buffer is too short.
+//! Encoding and decoding with codebooks, over 16-bit words. A function sets `needed` only if the buffer is too short.
 
 ghost use Rattle.std.specs.Prelude.{map};
 ghost use Rattle.constriction_c.specs.Small.{small_word};

@@ -1,4 +1,4 @@
-//! Decoding symbols from a caller's state. The words are only read.
+//! Decoding symbols from a state that the caller keeps. The calls read words, and write none.
 
 ghost use Rattle.std.specs.Prelude.{◌≡◌, ◌≤◌, length};
 ghost use Rattle.constriction_base.specs.Models.{pairs_of};
@@ -19,7 +19,7 @@ use std::alloc::Global;
 /// Fills `symbols` with decoded symbols, each under its own model.
 ///
 /// The state is `head` and the first `len` words of `words`. The call sets `head` and `len` to the state after the
-/// decodes. Decoding never runs out of words, because an empty state returns symbols too.
+/// decodes. The call can't fail for lack of words, because decoding from an empty state returns symbols too.
 ///
 /// # Errors
 ///

@@ -1,4 +1,6 @@
-//! Encoding symbols onto a caller's state, from the last to the first. Decoding returns them in order.
+//! Encoding symbols onto a state that the caller keeps.
+//!
+//! The calls encode a list from the last symbol to the first. So decoding returns the symbols in the order of the list.
 
 ghost use Rattle.std.specs.Prelude.{◌≡◌, ◌≤◌, [], length, map, reverse, IfSome};
 ghost use Rattle.constriction_base.specs.Models.{AreModels, pairs_of};
@@ -67,6 +69,8 @@ pub fn encode_reverse<
 }
 
 /// Encodes intervals from the last to the first. Interval `i` begins at `lefts[i]`, and its length is `ps[i]`.
+///
+/// The call changes `head`, `words` and `len` as [`encode_reverse`] does.
 ///
 /// # Errors
 ///

@@ -1,4 +1,4 @@
-//! Exporting the words of a caller's state, and importing a state from words.
+//! Exporting the words of a state that the caller keeps, and importing a state from words.
 
 ghost use Rattle.std.specs.Prelude.{Ok};
 ghost use Rattle.constriction_base.specs.Readings.{BeginsHigh};
@@ -15,10 +15,10 @@ use constriction_stack::coder::AnsCoder;
 use constriction_words::{BitArray, WordOf};
 use std::alloc::Global;
 
-/// Imports the state that exports these words.
+/// Imports the state that [`into_compressed`] exports as `words`.
 ///
-/// Sets `head`, and sets `len` to the number of words that stay below the head. [`into_compressed`] exports words of
-/// this form.
+/// The last words become the head. The call sets `head`, and sets `len` to the number of words that stay below the
+/// head.
 ///
 /// # Errors
 ///
@@ -42,10 +42,10 @@ pub fn from_compressed<Word: WordOf<State>, State: BitArray>(
     Ok(())
 }
 
-/// Imports a state from any words in binary form.
+/// Imports the state whose binary form is `words`. Every list of words is the binary form of a state.
 ///
-/// Sets `head`, and sets `len` to the number of words that stay below the head. [`into_binary`] exports words of this
-/// form.
+/// The last words become the head, with a leading 1 above their bits. The call sets `head`, and sets `len` to the
+/// number of words that stay below the head. [`into_binary`] exports the binary form.
 pub fn from_binary<Word: WordOf<State>, State: BitArray>(
     words: &[Word],
     len: &mut usize,
@@ -61,9 +61,9 @@ pub fn from_binary<Word: WordOf<State>, State: BitArray>(
     *len = cursor.into_buf_and_pos().1;
 }
 
-/// Exports the state: writes the words of its head, without leading zero words, after the first `len` words.
+/// Exports the state: writes the words of the head, without leading zero words, after the first `len` words of `words`.
 ///
-/// The call adds the number of these words to `len`.
+/// The call increases `len` by the number of words that it writes. The first `len` words are then the exported words.
 ///
 /// # Errors
 ///
@@ -88,13 +88,14 @@ pub fn into_compressed<Word: WordOf<State>, State: BitArray>(
     }
 }
 
-/// Exports the state in binary form: writes the words of its head, without its leading 1, after the first `len` words.
+/// Exports the binary form: writes the bits of the head below its leading 1 after the first `len` words of `words`.
 ///
-/// The call adds the number of these words to `len`.
+/// The call increases `len` by the number of words that it writes. The first `len` words are then the exported words.
 ///
 /// # Errors
 ///
-/// The errors of [`into_compressed`], and `InvalidData` if the bits of the head below its leading 1 aren't whole words.
+/// The errors of [`into_compressed`], and `InvalidData` if the bits of the head below its leading 1 don't make whole
+/// words.
 pub fn into_binary<Word: WordOf<State>, State: BitArray>(
     alloc: Global,
     head: State,

@@ -23,7 +23,7 @@ use constriction_stream::decoding::Decode;
 use constriction_words::{BitArray, WordOf};
 use std::alloc::Global;
 
-/// A coder over borrowed compressed words, which collects the remainders that it writes.
+/// A chain coder that reads borrowed compressed words, and writes remainders to a new vector.
 pub(crate) type Taking<'a, Word, State, const PRECISION: usize> = ChainCoder<
     Word,
     State,
@@ -34,7 +34,9 @@ pub(crate) type Taking<'a, Word, State, const PRECISION: usize> = ChainCoder<
 
 /// Fills `symbols` with decoded symbols, each under its own model.
 ///
-/// The call removes compressed words and appends remainders. It sets the heads and both numbers of words.
+/// The coder is `heads`, the first `compressed_len` words of `compressed`, and the first `remainders_len` words of
+/// `remainders`. The call reads compressed words from the last to the first, and writes words after the remainders in
+/// use. It sets `heads` and both numbers of words to the coder after the decodes.
 ///
 /// # Errors
 ///

@@ -25,7 +25,7 @@ use constriction_stream::encoding::Encode;
 use constriction_words::{BitArray, WordOf};
 use std::alloc::Global;
 
-/// A coder over borrowed remainders, which collects the compressed words that it writes.
+/// A chain coder that reads borrowed remainders, and writes compressed words to a new vector.
 pub(crate) type Putting<'a, Word, State, const PRECISION: usize> = ChainCoder<
     Word,
     State,
@@ -36,7 +36,9 @@ pub(crate) type Putting<'a, Word, State, const PRECISION: usize> = ChainCoder<
 
 /// Encodes symbols from the last to the first, each under its own model.
 ///
-/// The call removes remainders and appends compressed words. It sets the heads and both numbers of words.
+/// The coder is `heads`, the first `compressed_len` words of `compressed`, and the first `remainders_len` words of
+/// `remainders`. The call reads remainders from the last to the first, and writes words after the compressed words in
+/// use. It sets `heads` and both numbers of words to the coder after the encodes.
 ///
 /// # Errors
 ///
@@ -88,10 +90,12 @@ pub fn encode_reverse<
 
 /// Encodes intervals from the last to the first. Interval `i` begins at `lefts[i]`, and its length is `ps[i]`.
 ///
+/// The call changes the coder as [`encode_reverse`] does.
+///
 /// # Errors
 ///
 /// The errors of [`crate::chain`] except `WrongWeights` and `ImpossibleSymbol`. `WrongInterval` is returned if an
-/// interval is empty, or ends past `2 ^ PRECISION`.
+/// interval is empty or ends past `2 ^ PRECISION`.
 pub fn encode_intervals_reverse<
     Word: WordOf<State>,
     State: BitArray,

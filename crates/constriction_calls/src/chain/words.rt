@@ -1,4 +1,4 @@
-//! Importing chain coders from a caller's words, and exporting their words.
+//! Importing chain coders from a caller's words, and exporting the words of chain coders.
 ghost use Rattle.constriction_chain.specs.Chain.{IsSized};
 ghost use Rattle.constriction_calls.specs.ChainFits.{CoderFits};
 ghost use Rattle.constriction_calls.specs.ChainWords.{ChainBegins, ChainEnds, InBinary, InCompressed, InRemainders};
@@ -23,13 +23,14 @@ type Bare<Word, State, const PRECISION: usize> = ChainCoder<
     PRECISION,
 >;
 
-/// Imports a coder from compressed words, with no remainders.
+/// Imports a coder from compressed words. The coder has no words of remainders below its heads.
 ///
-/// Sets `heads`, and sets `len` to the number of words that stay below the heads.
+/// The call sets `heads`. It sets `len` to the number of entries of `words` that remain on the compressed side, below
+/// the heads.
 ///
 /// # Errors
 ///
-/// `InvalidData` exactly if no coder has these words: the last word is 0, or there are too few words.
+/// `InvalidData` exactly if the last word is 0, or if there are too few words for the heads.
 pub fn from_compressed<Word: WordOf<State>, State: BitArray, const PRECISION: usize>(
     alloc: Global,
     words: &[Word],
@@ -58,13 +59,14 @@ pub fn from_compressed<Word: WordOf<State>, State: BitArray, const PRECISION: us
     }
 }
 
-/// Imports a coder from words in binary form, with no remainders.
+/// Imports a coder from compressed words in binary form. The coder has no words of remainders below its heads.
 ///
-/// Sets `heads`, and sets `len` to the number of words that stay below the heads.
+/// The call sets `heads`. It sets `len` to the number of entries of `words` that remain on the compressed side, below
+/// the heads.
 ///
 /// # Errors
 ///
-/// `InvalidData` exactly if there are too few words for a coder.
+/// `InvalidData` exactly if there are too few words for the heads.
 pub fn from_binary<Word: WordOf<State>, State: BitArray, const PRECISION: usize>(
     alloc: Global,
     words: &[Word],
@@ -93,13 +95,13 @@ pub fn from_binary<Word: WordOf<State>, State: BitArray, const PRECISION: usize>
     }
 }
 
-/// Imports a coder from remainders, with no compressed words.
+/// Imports a coder from the words of remainders. The coder has no compressed words below its heads.
 ///
-/// Sets `heads`, and sets `len` to the number of words that stay below the heads.
+/// The call sets `heads`, and sets `len` to the number of words of `words` that stay remainders below the heads.
 ///
 /// # Errors
 ///
-/// `InvalidData` exactly if no coder has these words: one of the last two words is 0, or there are too few words.
+/// `InvalidData` exactly if one of the last two words is 0, or if there are too few words for the heads.
 pub fn from_remainders<Word: WordOf<State>, State: BitArray, const PRECISION: usize>(
     alloc: Global,
     words: &[Word],
@@ -128,17 +130,17 @@ pub fn from_remainders<Word: WordOf<State>, State: BitArray, const PRECISION: us
     }
 }
 
-/// Appends the words of the remainders' head to the compressed words, without leading zeros.
+/// Exports compressed words: writes the words of the remainders head after the compressed words in use.
 ///
-/// The call adds the number of these words to `compressed_len`. [`from_compressed`] imports the result. The remainders
-/// below the head aren't needed, and stay with the caller.
+/// The words are written without leading zero words. The call adds their number to `compressed_len`.
+/// [`from_compressed`] imports the first `compressed_len` words. The call doesn't use the remainders below the head.
 ///
 /// # Errors
 ///
-/// Checked in this order:
+/// The call checks for errors in this order:
 ///
 /// - `WrongLength` exactly if `compressed_len` is past the buffer's end.
-/// - `InvalidData` exactly if no coder has these heads, or bits are left over.
+/// - `InvalidData` exactly if no coder has these heads, or if bits are left over.
 /// - `NoSpace(needed)` if the buffer is too short. `needed` is the number of words that it has to hold.
 /// - `NoMemory` if there is no memory.
 pub fn into_compressed<Word: WordOf<State>, State: BitArray, const PRECISION: usize>(
@@ -171,14 +173,14 @@ pub fn into_compressed<Word: WordOf<State>, State: BitArray, const PRECISION: us
     }
 }
 
-/// Appends the words of the remainders' head, without the head's leading 1, to the compressed words.
+/// Exports the binary form: appends to the compressed words the remainders head's bits below its leading 1.
 ///
-/// The call adds the number of these words to `compressed_len`. [`from_binary`] imports the result. The remainders
-/// below the head aren't needed, and stay with the caller.
+/// The call increases `compressed_len` by the number of words that it writes. [`from_binary`] imports the first
+/// `compressed_len` words. The call doesn't use the remainders below the head.
 ///
 /// # Errors
 ///
-/// The errors of [`into_compressed`]. `InvalidData` is also returned if the bits below that leading 1 aren't whole
+/// The errors of [`into_compressed`]. `InvalidData` is also returned if the bits below that leading 1 don't make whole
 /// words.
 pub fn into_binary<Word: WordOf<State>, State: BitArray, const PRECISION: usize>(
     alloc: Global,
@@ -210,14 +212,14 @@ pub fn into_binary<Word: WordOf<State>, State: BitArray, const PRECISION: usize>
     }
 }
 
-/// Appends both heads to the remainders, the words of the remainders' head first.
+/// Exports remainders: writes the words of both heads after the remainders in use, the remainders head first.
 ///
-/// The call adds the number of these words to `remainders_len`. [`from_remainders`] imports the result. The compressed
-/// words aren't needed, and stay with the caller.
+/// The call increases `remainders_len` by the number of words that it writes. [`from_remainders`] imports the first
+/// `remainders_len` words. The call doesn't use the compressed words below the head.
 ///
 /// # Errors
 ///
-/// The errors of [`into_compressed`], for the buffer of the remainders. Bits that are left over are no error.
+/// The errors of [`into_compressed`], for the buffer of the remainders. If bits are left over, that is no error.
 pub fn into_remainders<Word: WordOf<State>, State: BitArray, const PRECISION: usize>(
     alloc: Global,
     heads: &ChainHeads<Word, State>,

@@ -16,11 +16,11 @@ use constriction_stream::decoding::Decode;
 use constriction_words::{BitArray, WordOf};
 use std::alloc::Global;
 
-/// Decodes `count` symbols under a list of models. Also returns the decoder.
+/// Decodes `count` symbols under a list of models. Returns the symbols, and the decoder after them.
 ///
 /// # Errors
 ///
-/// - `InvalidData` if the words from the decoder's place on are not those of `count` symbols.
+/// - `InvalidData` if the words from the decoder's position on don't encode that many symbols.
 /// - `NoMemory` if there is no memory.
 #[inline(never)]
 pub(crate) fn take_list<

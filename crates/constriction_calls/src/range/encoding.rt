@@ -82,16 +82,17 @@ fn put_by<
 
 /// Encodes symbols in order, each under its own model.
 ///
-/// The call writes new words after the buffer's first `len` words, and adds their number to `len`. It sets `encoder` to
-/// the encoder after these symbols.
+/// The call writes new words after the first `len` words of `buffer`, and adds the number of new words to `len`. It
+/// sets `encoder` to the encoder after these symbols.
 ///
 /// # Errors
 ///
 /// The errors of [`crate::range`], and then:
 ///
 /// - `ImpossibleSymbol` exactly if a model has no entry for its symbol.
-/// - `NoSpace(needed)` if the buffer is too short. `needed` is the number of words that it has to hold. If the buffer is
-///   too short for the words in use and the held words alone, `needed` is their number, and the call asks for no memory.
+/// - `NoSpace(needed)` if the buffer is too short. `needed` is the number of words that it has to hold. There is one
+///   exception: if the words in use and the held words alone don't fit the buffer, `needed` is the number of these
+///   words. The call then asks for no memory.
 /// - `NoMemory` if there is no memory.
 pub fn encode<
     Word: WordOf<State>,
@@ -148,6 +149,8 @@ pub fn encode<
 }
 
 /// Encodes intervals in order. Interval `i` begins at `lefts[i]`, and its length is `ps[i]`.
+///
+/// The call changes `encoder`, `buffer` and `len` as [`encode`] does.
 ///
 /// # Errors
 ///

@@ -36,9 +36,9 @@ pub struct EncoderParts<Word, State> {
 
 /// A range decoder between two calls: its interval, its point, and the number of words that it read from the buffer.
 ///
-/// `lower` is the lower end of the interval, modulo `2^State::BITS`, and `range` is the interval's length. `point` is a
-/// number made of the words that the decoder read last, as many words as a state has. `pos` is the number of words that
-/// the decoder read from the buffer.
+/// `lower` is the lower end of the interval, modulo `2^State::BITS`, and `range` is the interval's length. `point` is
+/// the number made of the last `State::BITS / Word::BITS` words that the decoder read. After the last word of the
+/// buffer it reads zero words. `pos` is the number of words that the decoder read from the buffer.
 ///
 /// # Examples
 ///
@@ -55,7 +55,7 @@ pub struct DecoderParts<State> {
     pub pos: usize,
 }
 
-/// Makes an encoder with an empty backend from the caller's numbers. This takes no memory.
+/// Makes an encoder with an empty backend from the caller's numbers. The call needs no memory.
 ///
 /// Returns `None` exactly if no encoder has the numbers, or if the encoder can't count `count` further symbols.
 pub fn encoder_for<Word: WordOf<State>, State: BitArray>(
@@ -86,7 +86,7 @@ pub fn encoder_for<Word: WordOf<State>, State: BitArray>(
     Some(RangeEncoder::from_raw_parts(Vec::new(alloc), state, situation))
 }
 
-/// Returns the words that an encoder wrote, and its numbers.
+/// Returns the words that an encoder wrote, and the numbers from which [`encoder_for`] makes the encoder again.
 pub fn parts_of<Word: WordOf<State>, State: BitArray>(
     encoder: RangeEncoder<Word, State, Vec<Word>>,
 ) -> (Vec<Word>, EncoderParts<Word, State>)
@@ -108,12 +108,12 @@ pub fn parts_of<Word: WordOf<State>, State: BitArray>(
     (words, parts)
 }
 
-/// A decoder over borrowed words.
+/// A range decoder that reads borrowed words.
 pub type Reading<'a, Word, State> = RangeDecoder<Word, State, Cursor<Word, &'a [Word]>>;
 
-/// Makes a decoder with these numbers, over the words from its position on.
+/// Makes a decoder from the caller's numbers, which next reads the word of `words` at the position `parts.pos`.
 ///
-/// Returns `None` exactly if no decoder has the numbers.
+/// Returns `None` exactly if no decoder has the numbers. The caller proves that the position isn't past the end.
 pub fn decoder_of<'a, Word: WordOf<State>, State: BitArray>(
     words: &'a [Word],
     parts: DecoderParts<State>,
@@ -137,7 +137,7 @@ pub fn decoder_of<'a, Word: WordOf<State>, State: BitArray>(
     }
 }
 
-/// Returns the numbers of a decoder over a buffer of `count` words.
+/// Returns the numbers from which [`decoder_of`] makes a decoder again. `count` is the length of the decoder's buffer.
 pub fn decoder_parts<'a, Word: WordOf<State>, State: BitArray>(
     decoder: Reading<'a, Word, State>,
     count: usize,

@@ -1,4 +1,4 @@
-//! Decoders at the beginning of words and at a position, and whether the words may have ended.
+//! Decoders at the beginning of words or at a recorded position, and whether the words may have ended.
 
 ghost use Rattle.std.specs.Prelude.{map};
 ghost use Rattle.constriction_base.specs.Steps.{IsSizes};
@@ -11,7 +11,7 @@ use constriction_queue::{RangeCoderState, RangeDecoder};
 use constriction_stream::decoding::Decode;
 use constriction_words::{BitArray, WordOf};
 
-/// Makes a decoder of sealed words, before its first symbol.
+/// Returns a decoder of sealed words, positioned before the first symbol.
 pub fn from_compressed<Word: WordOf<State>, State: BitArray>(words: &[Word]) -> DecoderParts<State>
     requires { IsSizes Word.BITS State.BITS }
     ensures call { RangeBegins Word.number State.number Word.BITS State.BITS words.now result }
@@ -23,10 +23,10 @@ pub fn from_compressed<Word: WordOf<State>, State: BitArray>(words: &[Word]) -> 
     }
 }
 
-/// Sets `decoder` to a decoder of the words at an encoder's recorded position.
+/// Sets `decoder` to a decoder of `words` at a position that was recorded during encoding.
 ///
-/// `pos` is the number of words that the encoder had written or held back there. `lower` and `range` are the lower end
-/// and the length of the encoder's interval there.
+/// `pos` is the number of words that the encoder had written or held back when the position was recorded. `lower` and
+/// `range` are the lower end and the length of the encoder's interval at that time.
 ///
 /// # Errors
 ///
@@ -59,10 +59,10 @@ pub fn seek<Word: WordOf<State>, State: BitArray>(
     Ok(())
 }
 
-/// Sets `maybe` to 1 if the words may have ended at the decoder's position, and to 0 if not.
+/// Sets `maybe` to 1 if the encoded symbols may have ended at the decoder's position, and to 0 if not.
 ///
-/// The words may have ended if no word is left, and either the decoder's point lies where a seal puts it, or the
-/// decoder has decoded no symbol.
+/// The symbols may have ended if no word is left to read, and one of two conditions holds. Either a seal could have led
+/// to the decoder's point, or the decoder has decoded no symbol.
 ///
 /// # Errors
 ///

@@ -12,9 +12,9 @@ use constriction_inputs::refusal::Refusal;
 use constriction_words::{BitArray, WordOf};
 use std::alloc::Global;
 
-/// Writes the words that an encoder holds back, and a seal, after the buffer's first `len` words.
+/// Writes the words that an encoder holds back, and a seal, after the first `len` words of `buffer`.
 ///
-/// The call adds the number of these words to `len`. A decoder then reads the buffer's first `len` words.
+/// The call increases `len` by the number of words that it writes. Pass the buffer's first `len` words to a decoder.
 ///
 /// # Errors
 ///
@@ -66,13 +66,13 @@ fn sealed_count<Word: WordOf<State>, State: BitArray>(
     parts.held - held + encoder.num_words()
 }
 
-/// Writes the words that an encoder holds back, and a self-delimiting seal, after the buffer's first `len` words.
+/// Writes the words that an encoder holds back, and a self-delimiting seal, after the first `len` words of `buffer`.
 ///
-/// The call adds the number of these words to `len`. A decoder of the buffer's first `len` words, whatever words follow
-/// them, returns the encoded symbols.
+/// The call increases `len` by the number of words that it writes. A decoder of the buffer's first `len` words returns
+/// the encoded symbols, and any words may follow these words.
 ///
-/// The caller proves that a state has two words. Then this seal has as many words as the seal of [`into_compressed`],
-/// and `num_words` counts them without memory. So the call checks the room before it asks for memory.
+/// The caller proves that `State` is two words wide. Then this call writes the same words as [`into_compressed`]. Their
+/// number is counted without memory, so the call checks the length of the buffer before it asks for memory.
 ///
 /// # Errors
 ///

@@ -1,4 +1,4 @@
-//! Encoding chunks to words and an index.
+//! Building a store: encoding chunks, and writing the words and the index.
 
 ghost use Rattle.std.specs.Prelude.{◌↔◌, ◌≤◌, length, map, sum, IfSome, IsTrue};
 ghost use Rattle.constriction_base.specs.Steps.{IsSizes};
@@ -67,18 +67,19 @@ fn stored<Word: WordOf<State>, State: BitArray, P: WordOf<Word>, const PRECISION
 
 /// Builds a store of chunks, and writes its words and its index into the caller's buffers.
 ///
+/// `symbols` has the symbols of all chunks, one chunk after another. `lengths` has the number of symbols of each chunk.
 /// The call writes the words at the beginning of `words`, and sets `len` to their number. It writes one item for each
-/// chunk to `positions`, `lowers` and `ranges`. `symbols` has the symbols of all chunks, one chunk after another.
-/// `lengths` has the number of symbols of each chunk.
+/// chunk to each list of the index: `positions`, `lowers` and `ranges`.
 ///
 /// # Errors
 ///
-/// The first of these errors that applies, but `NoMemory` may replace `NoSpace`. The call then changes nothing.
+/// The call returns the first of these errors that applies, but it may return `NoMemory` in place of `NoSpace`. A call
+/// that fails changes nothing.
 ///
-/// - `WrongLength`: a list of the index isn't as long as `lengths`, or `lengths` don't add up to the number of symbols,
-///   or there are more than 1048576 symbols.
+/// - `WrongLength`: a list of the index isn't as long as `lengths`, or the sum of `lengths` isn't the number of
+///   symbols, or there are more than 1048576 symbols.
 /// - `WrongWeights`: the weights don't add up to `2 ^ PRECISION`.
-/// - `ImpossibleSymbol`: a symbol has weight 0, or no weight.
+/// - `ImpossibleSymbol`: a symbol's weight is 0, or the symbol isn't an index of `weights`.
 /// - `NoSpace(needed)`: `words` is too short. `needed` is the number of words of the store.
 /// - `NoMemory`: there is no memory.
 pub fn build<Word: WordOf<State>, State: BitArray, P: WordOf<Word>, const PRECISION: usize>(

@@ -6,7 +6,7 @@ ghost use Rattle.constriction_calls.specs.StoreCalls.{chunks_by};
 
 use std::alloc::{AllocError, Global};
 
-/// Returns whether the lengths add up to `count`. The sum is exact, whatever the lengths.
+/// Returns whether the lengths add up to `count`. The result is exact, even if the sum doesn't fit a `usize`.
 pub fn add_up(lengths: &[usize], count: usize) -> bool
     ensures { IsTrue result ↔ (sum lengths.now ≡ count) }
 {
@@ -20,7 +20,11 @@ pub fn add_up(lengths: &[usize], count: usize) -> bool
     left == 0
 }
 
-/// Cuts the symbols into chunks of these lengths.
+/// Cuts the symbols into chunks of these lengths, in order. The caller proves that there are enough symbols.
+///
+/// # Errors
+///
+/// `AllocError` if there is no memory.
 pub fn cut(
     alloc: Global,
     symbols: &[usize],

@@ -1,4 +1,4 @@
-//! An index as three lists, beside the lengths of its chunks.
+//! Writing the index of a store as three lists.
 
 ghost use Rattle.std.specs.Prelude.{◌≡◌, length, map};
 ghost use Rattle.constriction_store.specs.Stores.{entry_at};
@@ -6,7 +6,10 @@ ghost use Rattle.constriction_store.specs.Stores.{entry_at};
 use constriction_queue::RangeCoderState;
 use constriction_words::{BitArray, WordOf};
 
-/// Writes the positions, and the lower ends and lengths of the intervals, of an index into a caller's lists.
+/// Writes each entry of an index into a caller's three lists.
+///
+/// An entry's position goes to `positions`. The lower end and the length of its interval go to `lowers` and `ranges`.
+/// The caller proves that each list is as long as the index.
 pub fn put_index<Word: WordOf<State>, State: BitArray>(
     index: &[(usize, RangeCoderState<Word, State>, usize)],
     positions: &mut [usize],

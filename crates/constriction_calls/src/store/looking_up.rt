@@ -42,14 +42,14 @@ fn decoder_at<'a, Word: WordOf<State>, State: BitArray>(
 
 /// Decodes a chunk of a store, and fills `symbols` with the chunk's symbols.
 ///
-/// `pos`, `lower` and `range` are the chunk's items of the index: its position and its interval. The length of
-/// `symbols` is the number of symbols to decode. The call reads only the words of the chunk, and as many words after
-/// them as a state has. The words, the position and the interval may come from anywhere.
+/// `pos`, `lower` and `range` are the chunk's items in the three lists of the index. The length of `symbols` is the
+/// number of symbols to decode. The call reads only the words of the chunk, and the `State::BITS / Word::BITS` words
+/// after them. The call doesn't rely on its arguments: they need not come from a store.
 ///
 /// # Errors
 ///
-/// The first of these errors that applies, but `NoMemory` may replace `InvalidData` for the words. The call then
-/// changes nothing.
+/// The call returns the first of these errors that applies. If the words don't encode that many symbols, it may return
+/// `NoMemory` in place of `InvalidData`. After an error `symbols` is unchanged.
 ///
 /// - `WrongLength`: the position is past the words.
 /// - `WrongWeights`: the weights don't add up to `2 ^ PRECISION`.

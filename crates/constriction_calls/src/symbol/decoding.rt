@@ -16,7 +16,7 @@ use constriction_symbol::reading::ReadBitStream;
 use constriction_words::BitArray;
 use std::alloc::Global;
 
-/// Fills `symbols` with symbols decoded from the words of a queue of bits.
+/// Fills `symbols` with symbols decoded from the words of a queue of bits. `codes` has the codebook.
 ///
 /// # Errors
 ///
@@ -37,7 +37,7 @@ pub fn decode_queue<Word: BitArray, C: Codes>(
     read_symbols::<Queue, _, C::Decoder>(alloc, &mut decoder, &codebook, symbols)
 }
 
-/// Fills `symbols` with symbols decoded from the words of a stack of bits.
+/// Fills `symbols` with symbols decoded from the words of a stack of bits. `codes` has the codebook.
 ///
 /// # Errors
 ///

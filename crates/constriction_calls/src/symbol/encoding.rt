@@ -14,9 +14,10 @@ use constriction_symbol::writing::WriteBitStream;
 use constriction_words::BitArray;
 use std::alloc::Global;
 
-/// Encodes symbols as a queue of bits.
+/// Encodes symbols as a queue of bits, in order.
 ///
-/// The call writes the words of the queue at the beginning of `words`, and sets `len` to their number.
+/// `codes` has the codebook. The call writes the words of the queue at the beginning of `words`, and sets `len` to the
+/// number of these words.
 ///
 /// # Errors
 ///
@@ -37,9 +38,10 @@ pub fn encode_queue<Word: BitArray, C: Codes>(
     }
 }
 
-/// Encodes symbols as a stack of bits, so that decoding returns them in the order of the list.
+/// Encodes symbols as a stack of bits, from the last to the first. Decoding returns them in the order of the list.
 ///
-/// The call writes the words of the stack at the beginning of `words`, and sets `len` to their number.
+/// `codes` has the codebook. The call writes the words of the stack at the beginning of `words`, and sets `len` to the
+/// number of these words.
 ///
 /// # Errors
 ///
@@ -103,11 +105,11 @@ fn stack_words<Word: BitArray, C: Codes>(
     }
 }
 
-/// Copies words to the beginning of a buffer, and sets `len` to their number.
+/// Copies the words of `all` to the beginning of `words`, and sets `len` to the number of words copied.
 ///
 /// # Errors
 ///
-/// `NoSpace` with this number if the buffer is shorter.
+/// `NoSpace(needed)` if `words` is shorter than `all`. `needed` is the length of `all`.
 pub(crate) fn put_words<Word: BitArray>(
     all: &[Word],
     words: &mut [Word],

@@ -1,4 +1,4 @@
-//! Exp-Golomb codewords, which exist for all numbers.
+//! The implementation of [`crate::symbol::Codes`] for Exp-Golomb codewords. Every number has a codeword.
 
 ghost use Rattle.constriction_calls.specs.SymbolCalls.{OfNumbers};
 

@@ -1,4 +1,4 @@
-//! Codewords of the Huffman tree of a caller's weights.
+//! [`Tree`]: the codewords of the Huffman tree of a caller's weights.
 
 ghost use Rattle.std.specs.Prelude.{◌↔◌, ◌<◌, All, IsTrue, map};
 ghost use Rattle.constriction_calls.specs.SymbolCalls.{MakesCode, OfWeights};

@@ -41,7 +41,7 @@ fn encode<M: EncoderModel<PRECISION, Symbol = usize, Probability = u32>>(
     Ok(coder.into_compressed()?)
 }
 
-/// Encodes the symbols in the input `text`, and returns the compressed words as one line.
+/// Encodes the symbols in the input `text`, and returns a line of the words.
 ///
 /// Line 1 of the input has the weights, and line 2 has the symbols.
 pub fn answer(alloc: Global, text: &[u8]) -> Result<Vec<u8>, Fault>

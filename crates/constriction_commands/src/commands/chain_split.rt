@@ -1,6 +1,6 @@
 //! The command `chain-split`, which decodes symbols with a chain coder.
 //!
-//! It also writes the compressed words left and the remainders.
+//! The command also writes the compressed words that no decode used, and the words of the remainders.
 
 ghost use Rattle.std.specs.Prelude.{◌≡◌, ◌%◌, ◌^◌, ◌++◌, length, map, IfOk, IfErr};
 ghost use Rattle.constriction_commands.specs.Lines.{line_of};
@@ -71,9 +71,10 @@ fn three_lines(
     Ok(lines)
 }
 
-/// Decodes the words in the input `text`. Returns three lines: symbols, compressed words left, and remainders.
+/// Decodes the words in the input `text`, and returns three lines.
 ///
-/// Line 1 of the input has the weights. Line 2 has the number of symbols, followed by the words.
+/// Line 1 of the input has the weights. Line 2 has the number of symbols, followed by the words. The lines returned
+/// have the symbols, the words that no decode used, and the words of the remainders.
 pub fn answer(alloc: Global, text: &[u8]) -> Result<Vec<u8>, Fault>
     ensures ok { IfOk result (λ answer. IsChainSplit text.now answer.items) }
     ensures err { IfErr result (ChainSplitFails text.now) }

@@ -1,4 +1,6 @@
-//! The command `golomb`, which writes numbers as Exp-Golomb codewords, as digits and in the words of a queue of bits.
+//! The command `golomb`, which encodes numbers with Exp-Golomb codewords.
+//!
+//! The command writes the codewords as binary digits, and the words of a queue of bits that holds the codewords.
 
 ghost use Rattle.std.specs.Prelude.{◌≡◌, ◌%◌, ◌^◌, ◌++◌, map, flat_map, IfOk, IfErr, OnOk};
 ghost use Rattle.constriction_symbol.specs.Bits.{IsQueueWords};
@@ -54,7 +56,10 @@ fn queue_of(alloc: Global, numbers: &[u32]) -> Result<Vec<u32>, AllocError>
     coder.into_compressed()
 }
 
-/// Returns a line of the codewords of the numbers in the input `text`, and a line of the words of these bits.
+/// Encodes the numbers in line 1 of the input `text`, and returns two lines.
+///
+/// The first line has the codewords as binary digits. The second line has the words of the queue that holds the
+/// codewords' bits.
 pub fn answer(alloc: Global, text: &[u8]) -> Result<Vec<u8>, Fault>
     ensures ok { IfOk result (λ answer. IsGolomb text.now answer.items) }
     ensures err { IfErr result (GolombFails text.now) }

@@ -1,4 +1,4 @@
-//! The command `huffman`, which writes the codewords of the Huffman tree of weights as digits.
+//! The command `huffman`, which writes the codewords of a Huffman tree as binary digits.
 
 ghost use Rattle.std.specs.Prelude.{IfErr, IfOk, OnOk, length, ◌++◌, ◌≡◌};
 ghost use Rattle.constriction_symbol.specs.Huffman.{IsHuffman, book_of, leaves, path};
@@ -58,7 +58,10 @@ fn line_of_codewords(alloc: Global, tree: &EncoderHuffmanTree) -> Result<Vec<u8>
     Ok(line)
 }
 
-/// Returns a line of the codewords of the symbols whose weights are in the input `text`.
+/// Makes the Huffman tree of the weights in the input `text`, and returns a line of its codewords.
+///
+/// Line 1 of the input has the weights of the symbols 0, 1, .. in order. The line returned has the codewords in the
+/// same order, as binary digits. A hyphen stands for the empty codeword.
 pub fn answer(alloc: Global, text: &[u8]) -> Result<Vec<u8>, Fault>
     ensures ok { IfOk result (λ answer. IsHuffmanLine text.now answer.items) }
     ensures err { IfErr result (HuffmanFails text.now) }

@@ -1,8 +1,8 @@
 //! The command `range-encode`, which encodes symbols with a range coder.
 //!
-//! The command returns the fault `out of memory` if the encoder can't count the symbols. This doesn't happen: the
-//! encoder counts up to `2^64 - 18` symbols, and each symbol is in memory. But the language guarantees only that the
-//! length of a list is below `2^64`.
+//! The code returns the fault `out of memory` if there are more symbols than the encoder can count, which is
+//! `2^64 - 18`. No machine has the memory for so many symbols. But the language guarantees only that the length of a
+//! list is below `2^64`, so the case needs a fault.
 
 ghost use Rattle.std.specs.Prelude.{◌≡◌, ◌%◌, ◌^◌, map, IfOk, IfErr};
 ghost use Rattle.constriction_base.specs.Models.{items_of};

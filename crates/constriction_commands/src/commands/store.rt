@@ -1,4 +1,6 @@
-//! The command `store`, which writes the words of an indexed store, and chunks that it looks up.
+//! The command `store`, which builds a store of chunks and looks up some of them.
+//!
+//! The command writes the words of the store, and the symbols of each chunk that it looks up.
 
 ghost use Rattle.std.specs.Prelude.{◌≡◌, ◌++◌, List, ℕ, length, IfOk, IfErr, OnOk};
 ghost use Rattle.constriction_base.specs.WeightTables.{entries, model_of};
@@ -62,10 +64,11 @@ fn push_chunks(
     Ok(())
 }
 
-/// Builds a store. Returns a line of its words, and a line for each chunk that is looked up.
+/// Builds a store from the input `text`, looks up chunks, and returns lines of words and of symbols.
 ///
-/// Line 1 of the input `text` has the weights. Line 2 has the numbers of the chunks to look up. Each further line is a
-/// chunk.
+/// Line 1 of the input has the weights. Line 2 has the indices of the chunks to look up. The index of the first chunk
+/// is 0. Each further line has the symbols of one chunk. The first line returned has the words of the store. Each
+/// further line has the symbols of one chunk that was looked up, in the order of line 2.
 pub fn answer(alloc: Global, text: &[u8]) -> Result<Vec<u8>, Fault>
     ensures ok { IfOk result (λ answer. IsStored text.now answer.items) }
     ensures err { IfErr result (StoreFails text.now) }

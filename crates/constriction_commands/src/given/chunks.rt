@@ -10,10 +10,10 @@ use crate::weights::{PRECISION, Table, make_table};
 use constriction_base::model::EntropyModel;
 use std::alloc::Global;
 
-/// The parts of an input for `store`: a table, the numbers of the chunks to look up, and all chunks.
+/// The parts of an input for `store`: a table, the indices of the chunks to look up, and all chunks.
 pub type Given = (Table, Vec<usize>, Vec<Vec<usize>>);
 
-/// Parses line 1 as weights, line 2 as the numbers of the chunks to look up, and each further line as a chunk.
+/// Parses line 1 as weights, line 2 as the indices of the chunks to look up, and each further line as a chunk.
 pub fn table_and_chunks(alloc: Global, text: &[u8]) -> Result<Given, Fault>
     ensures ok { IfOk result (λ given. GivesChunks text.now (⟦<Table as EntropyModel<PRECISION>>⟧.table given.0)
         given.1.items (lists_of given.2.items)) }

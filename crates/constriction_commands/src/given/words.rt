@@ -33,7 +33,7 @@ fn take_count(numbers: &mut Vec<u32>) -> Result<u32, Fault>
     Ok(count)
 }
 
-/// Parses line 1 as the weights of a table, and line 2 as a count and words.
+/// Parses line 1 as the weights of a table, and line 2 as a count of symbols followed by words.
 pub fn table_and_words(alloc: Global, text: &[u8]) -> Result<(Table, u32, Vec<u32>), Fault>
     ensures ok { IfOk result
         (λ given. GivesWords text.now (⟦<Table as EntropyModel<PRECISION>>⟧.table given.0) given.1 given.2.items) }

@@ -5,7 +5,7 @@ ghost use Rattle.std.specs.Prelude.{◌≡◌};
 use constriction::backends::{BothWays, CountsWords, Holds, IntoReadWords, WriteWords};
 use constriction::{Pos, PosSeek, Queue, Semantics, Stack};
 
-/// A backend, and the number of words written to it. The number is `u64::MAX` if there were more words.
+/// A backend, and the number of words written to it. The count stops at `u64::MAX`.
 #[derive(Drop)]
 pub struct Counted<B> {
     pub inner: B,
@@ -13,7 +13,7 @@ pub struct Counted<B> {
 }
 
 impl<B> Counted<B> {
-    /// Wraps a backend, and counts from 0.
+    /// Wraps a backend, with a count of 0. Words that the backend already holds aren't counted.
     pub fn new(inner: B) -> Self
         ensures inner { result.inner ≡ inner }
         ensures none { result.written ≡ 0 }

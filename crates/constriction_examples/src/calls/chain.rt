@@ -9,7 +9,7 @@ use std::iter;
 
 type Table = WeightTable<u32, 24>;
 
-/// Encodes lists from their last symbol to their first.
+/// Encodes lists of symbols, each list from its last symbol to its first.
 fn put_from_the_end(coder: &mut DefaultChainCoder, table: &Table) -> Result<()> {
     coder.encode_symbols_reverse([(&1usize, table), (&2, table)])?;
     coder.encode_iid_symbols_reverse([0usize, 2].as_slice(), table)?;
@@ -22,7 +22,7 @@ fn put_from_the_end(coder: &mut DefaultChainCoder, table: &Table) -> Result<()> 
     Ok(())
 }
 
-/// Decodes two symbols with one model, and two symbols with a model each.
+/// Decodes two symbols under one model, then two symbols each under its own model, and prints all four.
 fn take(rt: &impl Print, coder: &mut DefaultChainCoder, table: &Table) -> Result<()> {
     for symbol in coder.decode_iid_symbols(2, table) {
         let symbol = symbol?;
@@ -35,14 +35,14 @@ fn take(rt: &impl Print, coder: &mut DefaultChainCoder, table: &Table) -> Result
     Ok(())
 }
 
-/// Encodes lists from their first symbol to their last.
+/// Encodes lists of symbols, each list from its first symbol to its last.
 fn put_forth(coder: &mut DefaultChainCoder, table: &Table) -> Result<()> {
     coder.encode_symbols([(&1usize, table), (&0, table)])?;
     coder.encode_iid_symbols([2usize, 0].iter().rev(), table)?;
     Ok(())
 }
 
-/// Makes each call, and prints the results.
+/// Decodes symbols from words, changes the precision, encodes and decodes symbols, and prints all symbols decoded.
 pub fn run(rt: &impl Print, alloc: Global) -> Result<()> {
     let table = WeightTable::<u32, 24>::new(alloc, &[8388608, 4194304, 4194304])?;
     let words = [1, 2, 3, 4, 5, 6, 7, 0x9abcdef0, 0x12345678, 256].to_vec(alloc)?;

@@ -10,7 +10,7 @@ use std::iter;
 
 type Table = WeightTable<u32, 24>;
 
-/// Encodes lists from their last symbol to their first.
+/// Encodes lists of symbols, each list from its last symbol to its first.
 fn put_from_the_end(coder: &mut DefaultAnsCoder, table: &Table) -> Result<()> {
     coder.encode_iid_symbols_reverse([2usize, 0].as_slice(), table)?;
     coder.encode_symbols_reverse([(&1usize, table), (&2, table)])?;
@@ -23,7 +23,7 @@ fn put_from_the_end(coder: &mut DefaultAnsCoder, table: &Table) -> Result<()> {
     Ok(())
 }
 
-/// Encodes lists from their first symbol to their last.
+/// Encodes lists of symbols, each list from its first symbol to its last.
 fn put_forth(coder: &mut DefaultAnsCoder, table: &Table) -> Result<()> {
     let symbols = [0usize, 1];
     coder.encode_symbols(symbols.iter().zip(iter::repeat_n(table, 2)))?;
@@ -37,7 +37,7 @@ fn put_forth(coder: &mut DefaultAnsCoder, table: &Table) -> Result<()> {
     Ok(())
 }
 
-/// Decodes three symbols with one model, and two symbols with a model each.
+/// Decodes three symbols under one model, then two symbols each under its own model, and prints all five.
 fn take(rt: &impl Print, coder: &mut DefaultAnsCoder, table: &Table) -> Result<()> {
     for symbol in coder.decode_iid_symbols(3, table) {
         let symbol = symbol?;
@@ -50,7 +50,9 @@ fn take(rt: &impl Print, coder: &mut DefaultAnsCoder, table: &Table) -> Result<(
     Ok(())
 }
 
-/// Seeks to a recorded position in a decoder over the coder's words, and prints the symbol there.
+/// Records a position, encodes a symbol, and seeks back to the position with a decoder over the coder's words.
+///
+/// Prints the symbol that the decoder returns there. It is the last symbol encoded before the position was recorded.
 fn seek(rt: &impl Print, coder: &mut DefaultAnsCoder, table: &Table) -> Result<()> {
     let position = coder.pos();
     coder.encode_symbol(&1, table)?;
@@ -63,7 +65,9 @@ fn seek(rt: &impl Print, coder: &mut DefaultAnsCoder, table: &Table) -> Result<(
     Ok(())
 }
 
-/// Prints whether a coder is empty, and compares its first exported word with the first word that a guard lends.
+/// Prints whether a coder's head is above 0, whether the coder is empty, and whether two ways to export words agree.
+///
+/// The two ways are an iterator over the words, and a guard that lends them. The function compares the first word.
 fn show(rt: &impl Print, coder: &mut DefaultAnsCoder) -> Result<()> {
     let is_some = coder.state() > 0;
     println!(rt; "{is_some} {}", coder.is_empty())?; // true false
@@ -75,7 +79,9 @@ fn show(rt: &impl Print, coder: &mut DefaultAnsCoder) -> Result<()> {
     Ok(())
 }
 
-/// Turns a coder into decoders, decodes from borrowed words, and imports and exports words in binary form.
+/// Decodes a symbol with each kind of decoder, and imports and exports words in binary form.
+///
+/// The decoders are one over a borrowed coder, one made from the coder, and one over a borrowed list of words.
 fn hand_on(rt: &impl Print, alloc: Global, table: &Table) -> Result<()> {
     let mut coder = DefaultAnsCoder::new(alloc);
     coder.encode_symbol(&1, table)?;
@@ -98,7 +104,7 @@ fn hand_on(rt: &impl Print, alloc: Global, table: &Table) -> Result<()> {
     Ok(())
 }
 
-/// Encodes and decodes a symbol with a coder of 16-bit words.
+/// Encodes and decodes a symbol with a coder of 16-bit words, and decodes another symbol from the empty coder.
 fn small(rt: &impl Print, alloc: Global) -> Result<()> {
     let table = WeightTable::<u16, 12>::new(alloc, &[4000, 96])?;
     let mut coder = SmallAnsCoder::new(alloc);
@@ -110,7 +116,7 @@ fn small(rt: &impl Print, alloc: Global) -> Result<()> {
     Ok(())
 }
 
-/// Makes each call, and prints the results.
+/// Runs all functions of this file, and prints the results.
 pub fn run(rt: &impl Print, alloc: Global) -> Result<()> {
     let table = WeightTable::<u32, 24>::new(alloc, &[3, 2, 16777211])?;
     let mut coder = DefaultAnsCoder::new(alloc);

@@ -1,4 +1,4 @@
-//! The calls of bit coders, and of a store, at concrete types.
+//! The calls of bit coders and of stores at concrete types.
 
 use anyhow::{Result, bail};
 use constriction::store::Store;
@@ -7,7 +7,7 @@ use constriction::symbol::exp_golomb::ExpGolomb;
 use constriction::symbol::{DefaultQueueEncoder, DefaultStackCoder, ReadBitStream, WriteBitStream};
 use std::alloc::Global;
 
-/// Writes numbers into a queue of bits, and reads them again.
+/// Encodes two numbers into a queue of bits, decodes them in the same order, and prints them.
 fn queue(rt: &impl Print, alloc: Global, golomb: &ExpGolomb<u32>) -> Result<()> {
     let mut encoder = DefaultQueueEncoder::new(alloc);
     encoder.encode_symbols([(&5u32, golomb), (&7, golomb)])?;
@@ -25,7 +25,7 @@ fn queue(rt: &impl Print, alloc: Global, golomb: &ExpGolomb<u32>) -> Result<()> 
     Ok(())
 }
 
-/// Encodes numbers onto a stack of bits from the last to the first, and decodes them.
+/// Encodes three numbers onto a stack of bits, decodes them, and prints them. The number encoded last is decoded first.
 fn stack(rt: &impl Print, alloc: Global, golomb: &ExpGolomb<u32>) -> Result<()> {
     let mut coder = DefaultStackCoder::new(alloc);
     coder.encode_iid_symbols_reverse([5u32, 7].as_slice(), golomb)?;
@@ -37,7 +37,7 @@ fn stack(rt: &impl Print, alloc: Global, golomb: &ExpGolomb<u32>) -> Result<()> 
     Ok(())
 }
 
-/// Builds a store of two chunks, and looks up the second chunk.
+/// Builds a store of two chunks, looks up the second chunk, and prints its symbols.
 fn store(rt: &impl Print, alloc: Global) -> Result<()> {
     let table = WeightTable::<u32, 24>::new(alloc, &[3, 2, 16777211])?;
     let chunks = [[2usize, 1].to_vec(alloc)?, [0, 2, 2].to_vec(alloc)?];
@@ -47,7 +47,7 @@ fn store(rt: &impl Print, alloc: Global) -> Result<()> {
     Ok(())
 }
 
-/// Makes each call, and prints the results.
+/// Runs all functions of this file, and prints the results.
 pub fn run(rt: &impl Print, alloc: Global) -> Result<()> {
     let golomb = ExpGolomb::<u32>::new();
     queue(rt, alloc, &golomb)?;

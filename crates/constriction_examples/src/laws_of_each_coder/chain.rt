@@ -1,4 +1,4 @@
-//! Laws of the chain coder, and the room of its backends after a refused step.
+//! A law of the chain coder, and the room of its backends after a decode or an encode that fails.
 
 ghost use Rattle.std.specs.Bool.{OnFalse};
 ghost use Rattle.std.specs.Prelude.{IfErr, IfNone, IfOk, IfSome, [], ◌≡◌, ◌≤◌};
@@ -12,10 +12,13 @@ use constriction::stream::model::{DecoderModel, EncoderModel, EntropyModel};
 use constriction::stream::{Decode, Encode};
 use constriction::{CoderError, Stack, WordOf};
 
-/// Decodes a symbol from each of two coders, after a symbol of another model and a change of the precision.
+/// Decodes two symbols from each of two coders, and returns the second symbol of each.
 ///
-/// If the coders begin with equal compressed heads and words, the two symbols returned are equal. The models before the
-/// change may have different types. Returns `None` if a call fails.
+/// Between the two symbols, the precision of each coder changes from 24 to 16 bits. The first symbols are decoded with
+/// different models, `first` and `other`. The second symbols are decoded with the same model, `later`. If `coder` and
+/// `same` begin with equal compressed heads and equal compressed words, the two symbols returned are equal.
+///
+/// Returns `None` if a call fails.
 pub fn isolated_across_a_change<
     A: DecoderModel<24, Symbol = usize, Probability = u32>,
     B: DecoderModel<24, Symbol = usize, Probability = u32>,
@@ -54,10 +57,10 @@ pub fn isolated_across_a_change<
     Some((symbol, again))
 }
 
-/// Decodes the next symbol, or returns `None` if no compressed word is left.
+/// Decodes the next symbol, or returns `None` if the decode needs a compressed word and the backend returns none.
 ///
-/// If `is_list` of the compressed backend holds, `None` means that there are no compressed words. If the call returns
-/// no symbol, the remainders have at least as much room as before.
+/// If `is_list` of the backend `C` holds, `None` means that no compressed words were left. If the call returns no
+/// symbol, the backend of the remainders has at least as much room as before.
 pub fn decode_to_the_end<
     C: ReadWords<u32, Stack>,
     R: WriteWords<u32>,
@@ -81,9 +84,11 @@ where
     }
 }
 
-/// Encodes a symbol, or returns `false` if it needs a word of the remainders and none is left.
+/// Encodes a symbol, or returns `false` if the encode needs a word of the remainders and the backend returns none.
 ///
-/// Returns `true` if the symbol was encoded. If it wasn't, the compressed words have at least as much room as before.
+/// Returns `true` if the symbol was encoded. If `is_list` of the backend `R` holds, `false` means that no words of the
+/// remainders were left. If the symbol wasn't encoded, the backend of the compressed words has at least as much room as
+/// before.
 pub fn encode_to_the_end<
     C: WriteWords<u32>,
     R: ReadWords<u32, Stack>,

@@ -1,11 +1,11 @@
-//! Exp-Golomb codewords, one after another in words.
+//! Exp-Golomb coding: the codewords of numbers, one after another in a queue of bits.
 
 use anyhow::Result;
 use constriction::symbol::exp_golomb::ExpGolomb;
 use constriction::symbol::{DefaultQueueEncoder, ReadBitStream, WriteBitStream};
 use std::alloc::Global;
 
-/// Encodes four numbers, and prints the numbers decoded.
+/// Encodes four numbers, decodes them, and prints the numbers decoded.
 pub fn run(rt: &impl Print, alloc: Global) -> Result<()> {
     // Each number is a list of bits, its codeword, and no codeword begins another: 0 is 1, 5 is 00110, 7 is 0001000.
     let golomb = ExpGolomb::<u32>::new();

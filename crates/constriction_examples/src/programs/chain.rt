@@ -1,4 +1,4 @@
-//! Chain coding: symbols decoded from any words, and the words restored from the symbols and the remainders.
+//! Chain coding: decodes symbols from any words, and restores the words from the symbols and the remainders.
 
 use anyhow::{Result, bail};
 use constriction::stream::Decode;
@@ -6,7 +6,7 @@ use constriction::stream::chain::DefaultChainCoder;
 use constriction::stream::model::WeightTable;
 use std::alloc::Global;
 
-/// Decodes two symbols from words, encodes them back, and prints the words restored.
+/// Decodes two symbols from words and prints them, then encodes them back and prints the words restored.
 pub fn run(rt: &impl Print, alloc: Global) -> Result<()> {
     let table = WeightTable::<u32, 24>::new(alloc, &[8388608, 4194304, 4194304])?;
     let words = [1, 2, 0x9abcdef0, 0x12345678, 256].to_vec(alloc)?; // the last one is read first

@@ -1,11 +1,11 @@
-//! Huffman coding: the trees of weights for encoding and for decoding.
+//! Huffman coding: one tree for encoding and one for decoding, both made from the same weights.
 
 use anyhow::Result;
 use constriction::symbol::huffman::{DecoderHuffmanTree, EncoderHuffmanTree};
 use constriction::symbol::{DefaultQueueEncoder, ReadBitStream, WriteBitStream};
 use std::alloc::Global;
 
-/// Encodes three symbols with a tree, and prints the symbols decoded.
+/// Encodes three symbols with a Huffman tree, decodes them, and prints the symbols decoded.
 pub fn run(rt: &impl Print, alloc: Global) -> Result<()> {
     // The codewords 00, 01, 11, 100 and 101.
     let weights = [2u32, 2, 4, 1, 1];

@@ -1,4 +1,4 @@
-//! A model for each symbol, computed in whole numbers.
+//! Gaussian models: each symbol has its own mean and deviation. All numbers are integers.
 
 use anyhow::{Result, bail};
 use constriction::stream::model::{Gaussian, LeakyQuantizer};
@@ -6,7 +6,7 @@ use constriction::stream::stack::DefaultAnsCoder;
 use constriction::stream::{Decode, Encode};
 use std::alloc::Global;
 
-/// Encodes two symbols, each under its own Gaussian, and prints the symbols decoded.
+/// Encodes two symbols, each under its own Gaussian, decodes them, and prints the symbols decoded.
 pub fn run(rt: &impl Print, alloc: Global) -> Result<()> {
     let quantizer = LeakyQuantizer::<u32, 24>::new(-100, 100)?;
 

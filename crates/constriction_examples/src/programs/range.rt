@@ -1,4 +1,4 @@
-//! Range coding: symbols are decoded in the order of encoding.
+//! Range coding: the symbol encoded first is decoded first.
 
 use anyhow::Result;
 use constriction::stream::model::WeightTable;
@@ -6,7 +6,7 @@ use constriction::stream::queue::DefaultRangeEncoder;
 use constriction::stream::{Decode, Encode};
 use std::alloc::Global;
 
-/// Encodes three symbols, and prints the symbols decoded.
+/// Encodes three symbols, decodes them, and prints the symbols decoded.
 pub fn run(rt: &impl Print, alloc: Global) -> Result<()> {
     let table = WeightTable::<u32, 24>::new(alloc, &[3, 2, 16777211])?;
 

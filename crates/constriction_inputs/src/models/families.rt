@@ -16,7 +16,7 @@ use constriction_models::quantizer::{IndexedDistribution, LeakyQuantizer};
 use constriction_words::{BitArray, WordOf};
 use std::alloc::{AllocError, Global};
 
-/// A model from a distribution of one of the families. Its symbols are indices into a range of integers.
+/// The model of a distribution of one of the families. Its symbols are indices into a range of integers.
 pub type FamilyModel<P, const PRECISION: usize> = IndexedDistribution<
     FamilyDistribution,
     P,
@@ -25,8 +25,9 @@ pub type FamilyModel<P, const PRECISION: usize> = IndexedDistribution<
 
 /// Models of one family of distributions. Each symbol has its own location and scale, in multiples of `2^-16`.
 ///
-/// Symbols are indices into the range from `min` to `max`: the index 0 stands for `min`. The number of the family is 0
-/// for `Gaussian`, 1 for `Laplace` and 2 for `Logistic`.
+/// Item `i` of `locations` and item `i` of `scales` belong to symbol `i` of the list to encode or decode. A symbol is
+/// passed as its index in the range of integers from `min` to `max`. The index 0 stands for `min`. `family` is 0 for
+/// `Gaussian`, 1 for `Laplace` and 2 for `Logistic`.
 ///
 /// # Examples
 ///
@@ -86,7 +87,7 @@ impl<'a, P: WordOf<u32>, const PRECISION: usize> Models<P, PRECISION> for Famili
 }
 
 impl<'a> Families<'a> {
-    /// Makes the models of the family with the number `family`, for the symbols from `min` to `max`.
+    /// Collects the arguments for models of a family. The arguments aren't checked here.
     #[inline]
     pub fn new(family: u32, min: i32, max: i32, locations: &'a [i64], scales: &'a [u32]) -> Self
         ensures numbers { (result.family ≡ family) × (result.min ≡ min) × (result.max ≡ max) }
@@ -101,11 +102,11 @@ impl<'a> Families<'a> {
         }
     }
 
-    /// Returns the family and the quantizer of the range. The call needs no memory.
+    /// Returns the family, and the quantizer of the range from `min` to `max`. The call needs no memory.
     ///
     /// # Errors
     ///
-    /// Checked in this order, and each is returned exactly in its case:
+    /// The call checks for errors in this order. Each error is returned exactly in its case.
     ///
     /// - `WrongLength`: the numbers of scales and of locations differ.
     /// - `WrongInterval`: the range has fewer than two or more than `2 ^ PRECISION` symbols.

@@ -22,11 +22,15 @@ use mixed::{fill_from_row, first_component};
 use std::alloc::Global;
 use weighing::are_mixable;
 
-/// Mixtures of a family: each symbol has a row of `width` components, each with a location, a scale and a weight.
+/// Mixtures of distributions of one family, with one mixture for each symbol.
 ///
-/// Rows stand one behind another, one for each symbol. The locations and scales are those of `components`, in
-/// multiples of `2^-16`, and its symbols are indices in its range. The weights of a row are shares: they add up to
-/// more than 0, and to `2^32` at most. A component of weight 0 changes nothing.
+/// A mixture has `width` components, and each component has a location, a scale and a weight. The weights are in
+/// `weights`. The locations and scales are in `components`, in multiples of `2^-16`. Each of the three lists has the
+/// items of the first symbol, then the items of the second symbol, and so on. A symbol is passed as its index in the
+/// range of `components`.
+///
+/// The weights of a mixture are relative. Their sum has to be at least 1 and at most `2^32`. A component of weight 0
+/// doesn't change the mixture.
 ///
 /// # Examples
 ///
@@ -43,16 +47,16 @@ use weighing::are_mixable;
 /// ```
 #[derive(Clone, Copy, Drop)]
 pub struct Mixtures<'a> {
-    /// The components of all symbols, as a family with a location and a scale for each.
+    /// The family and the range, and the location and the scale of each component.
     pub components: Families<'a>,
     /// The weight of each component.
     pub weights: &'a [u32],
-    /// How many components each symbol has.
+    /// The number of components of each mixture.
     pub width: usize,
 }
 
 impl<'a> Mixtures<'a> {
-    /// Creates mixtures of `width` components each. The type has an example.
+    /// Collects the arguments for mixtures. The arguments aren't checked here. [`Mixtures`] has an example.
     #[inline]
     pub fn new(components: Families<'a>, weights: &'a [u32], width: usize) -> Self
         ensures { (result.components ≡ components.entry) × (result.weights.now ≡ weights.now) × (result.width ≡ width) }
@@ -125,7 +129,9 @@ impl<'a, P: WordOf<u32>, const PRECISION: usize> Models<P, PRECISION> for Mixtur
     }
 }
 
-/// The models of mixtures. It has memory for one row of components, which each symbol fills anew.
+/// The list of the models of mixtures. It has memory for the components of one mixture only.
+///
+/// Each call of `turn_to` replaces these components by those of the selected mixture.
 ///
 /// # Examples
 ///

@@ -11,7 +11,9 @@ use crate::rows::{Row, total_rows};
 use constriction_words::BitArray;
 use std::alloc::Global;
 
-/// Rows of `width` weights, one after another, with one row for each symbol. Each row adds up to `2 ^ PRECISION`.
+/// Rows of `width` weights, one after another in `weights`, with one row for each symbol to encode or decode.
+///
+/// Each row has the weights of `0`, `1`, .. and has to add up to `2 ^ PRECISION`.
 ///
 /// # Examples
 ///

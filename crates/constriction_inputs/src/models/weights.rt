@@ -13,9 +13,10 @@ use constriction_base::weights::WeightTable;
 use constriction_words::BitArray;
 use std::alloc::Global;
 
-/// The weights of the symbols `0`, `1`, .., which add up to `2 ^ PRECISION`.
+/// The weights of the symbols `0`, `1`, .., under which all symbols of a list are coded.
 ///
-/// A symbol of weight 0 and a number past the end of the list are impossible symbols.
+/// The weights have to add up to `2 ^ PRECISION`. A symbol of weight 0 and a number past the end of the list are
+/// impossible symbols.
 ///
 /// # Examples
 ///
@@ -66,7 +67,7 @@ impl<'a, P: BitArray, const PRECISION: usize> Models<P, PRECISION> for Weights<'
     }
 }
 
-/// Returns the table of weights, with the reciprocals of the weights if `divides` is true.
+/// Returns the table of the symbols `0`, `1`, .. with these weights. If `divides` is true, it keeps their reciprocals.
 ///
 /// Returns `None` if the weights don't add up to `2 ^ PRECISION` or there is no memory.
 pub fn table_by<P: BitArray, const PRECISION: usize>(

@@ -8,9 +8,10 @@ use constriction_models::counts::{CountsError, weights_of_counts};
 use constriction_words::{BitArray, WordOf};
 use std::alloc::Global;
 
-/// Writes weights in proportion to counts into `weights`. The weights add up to `2 ^ PRECISION`.
+/// Writes a weight for each count into `weights`. The weights add up to `2 ^ PRECISION`.
 ///
-/// Each count above 0 gets a weight of at least 1, and a count of 0 gets the weight 0.
+/// The weights are in proportion to the counts, apart from rounding. Each count above 0 gets a weight of at least 1,
+/// and a count of 0 gets the weight 0.
 ///
 /// # Errors
 ///

@@ -1,7 +1,8 @@
-//! The start and the length of each symbol's interval, in the table of the symbol's own location and scale.
+//! The start and the length of each symbol's interval, under a model with the symbol's own location and scale.
 //!
-//! If a caller passes all symbols in order, with the same location and scale for each, the intervals make a whole
-//! table. So a caller in another language can inspect a model, or code with the model's intervals.
+//! A caller in another language can inspect a model's table: it passes the indices of all symbols in order, with the
+//! same location and scale for each. The intervals returned are then the whole table. The caller can also encode these
+//! intervals.
 
 ghost use Rattle.std.specs.Prelude.{◌≡◌, ◌<◌, ◌≤◌, Some, length, map};
 ghost use Rattle.std.specs.List.{AllByRecursion};
@@ -17,15 +18,18 @@ use constriction_models::families::Family;
 use constriction_models::quantizer::LeakyQuantizer;
 use constriction_words::{BitArray, WordOf};
 
-/// Writes the start of each symbol's interval into `lefts` and its length into `ps`. The call needs no memory.
+/// Writes the start of each symbol's interval into `lefts`, and the interval's length into `ps`.
+///
+/// `families` has a model for each symbol. The call needs no memory.
 ///
 /// # Errors
 ///
-/// Checked in this order, and each is returned exactly in its case. Nothing changes after an error.
+/// The call checks for errors in this order. Each error is returned exactly in its case. After an error `lefts` and
+/// `ps` are unchanged.
 ///
 /// - `WrongLength`: `lefts` or `ps` doesn't have one item for each symbol.
-/// - The errors of [`Models::check`] of `families`.
-/// - `ImpossibleSymbol`: a symbol is no index into the range.
+/// - The error that [`Models::check`] returns for `families` and `symbols`.
+/// - `ImpossibleSymbol`: a symbol isn't an index into the range of `families`.
 pub fn intervals_of_quantized<P: WordOf<u32>, const PRECISION: usize>(
     families: &Families<'_>,
     symbols: &[usize],

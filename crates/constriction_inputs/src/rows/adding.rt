@@ -31,7 +31,7 @@ pub fn is_total<P: BitArray, const PRECISION: usize>(weights: &[P]) -> bool
     is_reached
 }
 
-/// Returns the sum of the weights before a symbol. The caller proves that it fits `P`.
+/// Returns the sum of the weights before index `symbol`. The caller proves that the sum fits `P`.
 pub fn sum_before<P: BitArray>(weights: &[P], symbol: usize) -> P
     requires within { symbol ≤ length weights.now }
     requires fits { sum_by P.number (take symbol weights.now) < 2 ^ P.BITS }
@@ -57,6 +57,8 @@ pub fn is_product(number: usize, first: usize, second: usize) -> bool
 }
 
 /// Returns whether each of `count` rows of `width` weights adds up to `2 ^ PRECISION`.
+///
+/// `weights` has the rows one after another. The caller proves that it has `count` rows.
 pub fn are_totals<P: BitArray, const PRECISION: usize>(
     weights: &[P],
     width: usize,

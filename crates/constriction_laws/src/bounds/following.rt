@@ -1,4 +1,4 @@
-//! Words that follow a range encoder's sealed words. If a state is two words wide, any words may follow.
+//! Words that follow a range encoder's sealed words. If `State` is two words wide, any words may follow.
 
 ghost use Rattle.std.specs.Prelude.{◌≡◌, ◌/◌, ◌<◌, ◌++◌, ℕ, List};
 ghost use Rattle.constriction_base.specs.Models.{Item, AreModels};

@@ -1,4 +1,4 @@
-//! An exchange of two symbols on a stack coder, with a bound on the number of words.
+//! An exchange on a stack coder: one symbol is decoded, then another is encoded. A bound limits the words that it adds.
 //!
 //! The bound is proved from the coder's public contract and the laws of [`bounds`](crate::bounds) alone.
 
@@ -31,10 +31,10 @@ fn is_low<Word: WordOf<State>, State: BitArray>(head: State) -> bool
     head.shifted_right(State::BITS - Word::BITS).is_nothing()
 }
 
-/// The reason why an exchange of symbols ended early.
+/// The reason why [`exchange`] ended early.
 #[derive(Debug, Clone, Copy, PartialEq, Eq)]
 pub enum ExchangeError {
-    /// The head is low before the exchange, or after the first symbol was decoded.
+    /// The head is below `2^(s-w)` before the exchange, or after the decode.
     LowHead,
     /// The model for encoding has no entry for the symbol.
     ImpossibleSymbol,
@@ -44,14 +44,16 @@ pub enum ExchangeError {
 
 /// Decodes a symbol with the model `off`, and encodes `symbol` with the model `on`, as bits-back coding does.
 ///
-/// If the call succeeds, the clause `net` bounds the words that it adds. A head is low if it is below `2^(s-w)`.
+/// Returns the decoded symbol. If the call succeeds, the clause `net` bounds the words that it adds. A head is low if
+/// it is below `2^(s-w)`.
 ///
 /// # Errors
 ///
 /// - `LowHead`: the head is low before the exchange, and the coder is unchanged.
-/// - `LowHead`: the head is low after the first symbol was decoded.
-/// - `ImpossibleSymbol`: the model `on` has no entry for `symbol`. The first symbol was decoded.
-/// - `Refused`: the backend refused a word. Either the state is unchanged, or the first symbol was decoded.
+/// - `LowHead`: the head is low after the decode. The decode isn't undone, and its symbol is lost.
+/// - `ImpossibleSymbol`: the model `on` has no entry for `symbol`. The decode isn't undone, and its symbol is lost.
+/// - `Refused`: the backend refused a word. If the decode failed, the state is unchanged. If the encode failed, the
+///   decode isn't undone, and its symbol is lost.
 pub fn exchange<
     Word: WordOf<State>,
     State: BitArray,

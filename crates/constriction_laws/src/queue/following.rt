@@ -1,4 +1,4 @@
-//! Self-delimiting seals, which any words may follow. A state may have any number of words.
+//! Self-delimiting seals, which any words may follow. `State` may be any number of words wide.
 
 ghost use Rattle.std.specs.Prelude.{◌≡◌, ◌/◌, ◌<◌, ◌++◌, ◌∷◌, ℕ, List};
 ghost use Rattle.constriction_base.specs.Models.{Item, AreModels};
@@ -11,7 +11,7 @@ use crate::queue::lists::decodes_undo_encodes;
 
 /// A run has only one list of self-delimiting words.
 ///
-/// If a state is two words wide, the list equals the sealed words. A decoder of the list may be exhausted after the
+/// If `State` is two words wide, the list equals the sealed words. A decoder of the list may be exhausted after the
 /// run's last symbol. Both facts are about encoders that start from the initial interval.
 pub fn self_delimiting_words<Symbol>()
     ensures one { (w s : ℕ) (last : Run) (words others : List ℕ) → SelfDelimits w s last words →

@@ -2,6 +2,9 @@
 //!
 //! Each symbol has its own table, with any allowed precision. The laws follow from the laws of one step by
 //! [`lists_undo`]. The steps of that law take encodes back, from the last to the first.
+//!
+//! Words lie within a run if their number lies in the run's interval. The digits of this number are the first
+//! `n + s / w` words, where `n` is the run's count of moves. Digits past the last word are 0.
 
 ghost use Rattle.std.specs.Prelude.{◌≡◌, ◌↔◌, ◌∷◌, ℕ, List};
 ghost use Rattle.constriction_base.specs.Models.{Item, IsModel, models, AreModels, AreKnown};
@@ -13,7 +16,7 @@ ghost use Rattle.constriction_laws.specs.queue.Undone.{Reading, TakesBack, read_
 use crate::lists::{StepsUndo, lists_undo};
 use std::marker::PhantomData;
 
-/// An implementor of [`StepsUndo`]. Its steps take encodes of symbols back, and its inverse steps are decodes.
+/// An implementor of [`StepsUndo`]. Each step undoes the encode of a symbol; its inverse is a decode.
 pub struct Encoding<Symbol> {
     symbols: PhantomData<Symbol>,
 }
@@ -36,7 +39,7 @@ impl<Symbol> StepsUndo for Encoding<Symbol> {
     ghost one_undone = { λ g item new old allowed valid does. read_back g item new old allowed valid does };
 }
 
-/// Symbols with entries in their tables can be encoded on each run in exactly one way.
+/// Encoding symbols that have entries in their tables leads from any run to exactly one run.
 pub fn one_list_of_encodes<Symbol>()
     ensures exists { (w s : ℕ) (items : List (Item Symbol)) (old : Run) → AreKnown items →
         (new : Run) × NarrowsAll w s items old new }
@@ -64,7 +67,8 @@ pub fn decodes_undo_encodes<Symbol>()
     lists_undo::<Encoding<Symbol>>()
 }
 
-/// Words decode to a nonempty list of symbols exactly if they lie within the run after encoding that list.
+/// Words decode to a nonempty list of symbols exactly if, read as a number, they lie in the encoder's interval after it
+/// has encoded that list.
 ///
 /// The encoder and the decoder start from the initial interval.
 pub fn symbols_of_any_words<Symbol>()

@@ -18,7 +18,8 @@ use constriction_words::{BitArray, WordOf};
 
 /// Seeking to the position of a run leads a decoder to that run.
 ///
-/// The decoder reads `s / w` words from the position on, as many as a state has. These words make its point.
+/// The decoder reads the `s / w` words from the position on, with zeros past the last word. Read as one number, these
+/// words are its point.
 pub fn position_leads_there()
     ensures { (w s : ℕ) (words rest : List ℕ) (there : Run) (place lower range point : ℕ) → IsSizes w s →
         AreWords w words → IsPosition s there place lower range →
@@ -47,7 +48,7 @@ pub fn symbols_after_a_position<Symbol>()
     decodes_undo_encodes::<Symbol>()
 }
 
-/// The run of any encoder is an interval, whatever words were written before.
+/// Proves that the lower end and the range of any encoder are an interval, whatever words were written before.
 ///
 /// So the clause `anywhere` of [`symbols_after_a_position`] covers each position of the encoder: decoding from the
 /// position returns the symbols encoded since then.

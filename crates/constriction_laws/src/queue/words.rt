@@ -6,7 +6,7 @@ ghost use Rattle.constriction_queue.specs.Range.{Run, ReadAs, Within, run, seale
 
 /// A decoder reads the encoded steps from sealed words.
 ///
-/// The encoder starts from the initial interval. If a state is two words wide, any words may follow the sealed words.
+/// The encoder starts from the initial interval. If `State` is two words wide, any words may follow the sealed words.
 pub fn sealed_words_are_read()
     ensures alone { (w s : ℕ) (steps : List Step) → IsSizes w s → AreSteps w steps →
         ReadAs w s (sealed w s (run w s steps (initial s))) steps (initial s) }
@@ -18,7 +18,8 @@ pub fn sealed_words_are_read()
 
 /// A decoder reads a nonempty list of steps from words exactly if the words lie within the run after these steps.
 ///
-/// Encoder and decoder start from the initial interval.
+/// Encoder and decoder start from the initial interval. The head of [`lists`](crate::queue::lists) says when words lie
+/// within a run.
 pub fn words_within_are_read()
     ensures { (w s : ℕ) (words : List ℕ) (first : Step) (others : List Step) → IsSizes w s →
         AreWords w words → AreSteps w (first ∷ others) →

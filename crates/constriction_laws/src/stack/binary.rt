@@ -1,7 +1,7 @@
 //! Binary forms of the stack coder's states.
 //!
-//! A binary form may be any list of words, also with zeros at the top. In the state, the head has a leading 1 above
-//! these words. The binary form leaves out this 1.
+//! A binary form may be any list of words, even if the first word in reading order is 0. In the state, the head has a
+//! leading 1 above these words. The binary form leaves out this 1.
 
 ghost use Rattle.std.specs.Prelude.{◌≡◌, ◌≤◌, ℕ, List, reverse};
 ghost use Rattle.constriction_base.specs.Steps.{IsSizes, AreWords};

@@ -22,9 +22,10 @@ pub fn shown_words_are_exported()
         binary_state w s shown.words ≡ state }
 {}
 
-/// Removing the words that a guard appended restores the state, in both forms.
+/// Removing the words that a guard appended restores the state.
 ///
-/// These are the words of the head.
+/// The appended words are those of the head. The clause `compressed` is about a guard that lends the exported words,
+/// and the clause `binary` about a guard that lends the binary form.
 pub fn shown_words_go()
     ensures compressed { (w : ℕ) (state shown : AnsState) →
         shown ≡ record { head = state.head; words = exported w state } →

@@ -106,7 +106,7 @@ pub fn encodes_undo_decodes<Symbol>()
     lists_undo::<Decoding<Symbol>>()
 }
 
-/// Decoding the words that a coder exports returns the symbols encoded onto it, if the coder was empty before.
+/// Decoding the words that a coder exports returns the symbols encoded onto it, if the coder started empty.
 ///
 /// Encode any symbols, each under its own table. Export the words, import them, and decode with the same tables in
 /// reverse order. The symbols are the same, last symbol first, and the coder is empty.
@@ -144,7 +144,8 @@ pub fn words_come_back<Symbol>()
 
 /// Pops in reverse order undo pushes of the same steps, and pushes in reverse order undo pops.
 ///
-/// The steps need no tables. A list of steps can be pushed onto each valid state in exactly one way.
+/// The law is about steps alone, without tables. A list of steps can be pushed onto each valid state in exactly one
+/// way.
 pub fn lists_of_entries_undo()
     ensures pushes { (w s : ℕ) (steps : List Step) (old : AnsState) → IsSizes w s →
         AreSteps w steps → IsValid w s old →

@@ -16,11 +16,11 @@ use constriction_words::BitArray;
 use std::alloc::Global;
 use std::convert::Infallible;
 
-/// Makes the Huffman tree of weights for encoding, which costs at most as much as any other codebook.
+/// Makes a Huffman tree for encoding from `weights`. No other codebook costs less under these weights.
 ///
-/// The cost of the tree is the cost of the codewords of the symbols `0`, `1`, .., one for each weight. The other
-/// codebook may have any type of symbols. Its cost is the cost of the codewords of equally many symbols, no two of
-/// which mean the same.
+/// The tree's cost is the sum of weight times length over the codewords of the symbols `0`, `1`, .., one for each
+/// weight. For another codebook, the sum is over the codewords of any list with one symbol for each weight. No two
+/// symbols of the list may mean the same. The other codebook may have any type of symbols.
 ///
 /// # Errors
 ///

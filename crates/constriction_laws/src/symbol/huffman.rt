@@ -4,7 +4,7 @@ ghost use Rattle.constriction_laws.specs.symbol.Cost.{AreCodewordsOf, AreLawful,
 ghost use Rattle.constriction_symbol.specs.Huffman.{Book, IsHuffman, Tree, huffman, merge};
 ghost use Rattle.std.specs.Prelude.{Bool, List, None, Option, Some, [], ◌++◌, ◌∷◌, ◌<◌, ◌≡◌, ◌≤◌, length, ℕ};
 
-/// Merging weights gives exactly one tree, if there is a weight.
+/// Merging a nonempty list of weights gives exactly one tree.
 pub fn one_tree()
     ensures { (weights : List ℕ) → 0 < length weights → (tree : Tree) × (merge weights ≡ tree ∷ []) }
 {}
@@ -15,7 +15,7 @@ pub fn huffman_is_prefix_free()
         huffman weights s ≡ Some bits → huffman weights t ≡ Some (bits ++ tail) → s ≡ t }
 {}
 
-/// The symbols with a codeword are the numbers below the number of weights.
+/// In a Huffman tree of `n` weights, exactly the numbers below `n` have a codeword.
 pub fn huffman_knows_its_symbols()
     ensures known { (weights : List ℕ) (s : ℕ) → s < length weights →
         (bits : List Bool) × (huffman weights s ≡ Some bits) }

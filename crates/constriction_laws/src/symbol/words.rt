@@ -10,13 +10,13 @@ pub fn one_stack_of_words()
         HasStackWords w bits words → HasStackWords w others words → bits ≡ others }
 {}
 
-/// A stack of bits has only one list of words, so a guard lends the words that an export returns.
+/// The bits of a stack determine its list of words, so a guard lends the words that an export returns.
 pub fn one_list_of_stack_words()
     ensures { (w : ℕ) (bits : List Bool) (words others : List ℕ) → AreWords w words → AreWords w others →
         IsStackWords w bits words → IsStackWords w bits others → words ≡ others }
 {}
 
-/// A queue of bits has only one list of words.
+/// The bits of a queue determine its list of words.
 pub fn one_list_of_queue_words()
     ensures { (w : ℕ) (bits : List Bool) (words others : List ℕ) → AreWords w words → AreWords w others →
         IsQueueWords w bits words → IsQueueWords w bits others → words ≡ others }

@@ -1,6 +1,6 @@
 //! Made by `tools/distribution_tables gaussian`.
 
-/// `2^32` times the distribution function at each step, rounded to the nearest.
+/// The distribution function at 2049 evenly spaced places, in units of `2^-32`, rounded to the nearest integer.
 #[rattlefmt::skip]
 pub static VALUES: [u64; 2049] = [
     0, 0, 0, 0, 0, 0, 0, 0,
@@ -262,7 +262,10 @@ pub static VALUES: [u64; 2049] = [
     4294967296, // all
 ];
 
-/// About where each 1024th of all is reached, in 65536ths of a step. Nothing is proved of these: a search begins there.
+/// Approximate arguments at which the distribution function reaches 0, 1/1024, 2/1024, .., 1.
+///
+/// Each number is the distance from the first of the 2049 grid points, in 65536ths of the spacing of the grid. A
+/// decoder's search begins there, and no proof depends on these numbers.
 #[rattlefmt::skip]
 pub static GUESSES: [u32; 1025] = [
     32131761, 41126891, 42902233, 43993499, 44794430, 45432414, 45965207, 46424329,

@@ -25,7 +25,7 @@ use std::marker::PhantomData;
 #[derive(Drop, Copy)]
 pub struct Scale<D: StandardDistribution> {
     scale: u32,
-    /// `2^36` times the number of 65536ths of a step of the table in one unit.
+    /// `2^36` times the number of 65536ths of the distance between neighbouring places of the table in one unit.
     rate: u64,
     standard: PhantomData<D>,
     ghost rated: { rate ≡ 9223372036854775808 / D.WIDTH / scale },

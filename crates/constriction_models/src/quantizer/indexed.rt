@@ -13,7 +13,7 @@ use std::marker::PhantomData;
 
 /// A distribution cut halfway between symbols, as a model of indices: 0 is the first symbol of the range, 1 the next.
 ///
-/// It serves callers whose symbols have to be of type `usize`, as in weight tables and in
+/// It is for callers whose symbols have to be of type `usize`, as in weight tables and in
 /// [`crate::lookup::ContiguousLookupDecoderModel`].
 ///
 /// # Examples
@@ -36,9 +36,9 @@ pub struct IndexedDistribution<
 impl<Probability: WordOf<u32>, const PRECISION: usize> LeakyQuantizer<Probability, PRECISION> {
     ghost use Rattle.constriction_models.specs.Quantizers.{first_symbol, symbol_count};
 
-    /// Returns the model of a distribution, cut halfway between symbols, whose symbols are indices.
+    /// Returns the model of a distribution, cut halfway between symbols, with indices as symbols.
     ///
-    /// The symbol `min` has the index 0.
+    /// The first symbol of the range has the index 0.
     pub fn quantize_indexed<D: CumulativeDistribution>(
         &self,
         distribution: D,

@@ -50,6 +50,7 @@ where
     /// # Errors
     ///
     /// Returns `Err(())` if the backend refuses the seek, or refuses a read. The interval and the point are unchanged.
+    /// If a read was refused, the backend has already moved.
     ///
     /// # Examples
     ///

@@ -75,7 +75,8 @@ impl<
     /// - `Frontend(InvalidData)`: returned exactly if the words don't encode a symbol of any model with this precision.
     ///   The decoder is unchanged.
     /// - `Backend(error)`: returned only if a word had to be read and the read returned `error`. The interval and the
-    ///   point are unchanged. If `is_list` holds for the backend, the words are unchanged too.
+    ///   point are unchanged. If `Holds::is_list` holds for the backend, as for vectors and cursors, the words are
+    ///   unchanged too.
     #[inline]
     fn decode_symbol<M>(
         &mut self,
@@ -122,8 +123,8 @@ impl<
     ///
     /// It returns `true` exactly if both conditions hold:
     ///
-    /// - The backend may be exhausted.
-    /// - The point lies where a seal puts it, or no symbol was decoded.
+    /// - The backend's `maybe_exhausted` returns `true`.
+    /// - No symbol was decoded, or the point lies close above the interval's lower end, as after a seal.
     #[inline]
     fn maybe_exhausted(&self) -> bool
         ensures value { IsTrue result ↔ MayBeExhausted Word.BITS State.BITS Backend.seems_exhausted self.now }

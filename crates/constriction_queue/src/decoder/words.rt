@@ -130,7 +130,7 @@ impl<Word: WordOf<State>, State: BitArray, Backend: Holds<Word, Queue>> RangeDec
 > {
     /// Makes a decoder from a backend with the remaining words, an interval, and a point.
     ///
-    /// The point is the number that the last words read form. It consists of as many words as a `State` has.
+    /// The point is the number formed by the last words read. It consists of as many words as a `State` has.
     ///
     /// # Errors
     ///
@@ -167,7 +167,9 @@ impl<Word: WordOf<State>, State: BitArray, Backend: Holds<Word, Queue>> RangeDec
         })
     }
 
-    /// Splits the decoder into the backend with the remaining words, the interval, and the point.
+    /// Splits the decoder into its backend, its interval, and its point.
+    ///
+    /// The backend holds the remaining words.
     #[inline]
     pub fn into_raw_parts(self) -> (Backend, RangeCoderState<Word, State>, State)
         ensures parts { self ≡ decoder_of Word.number Backend.Holds
@@ -182,7 +184,7 @@ impl<Word: WordOf<State>, State: BitArray, Backend: Holds<Word, Queue>> RangeDec
         (bulk, state, distance.wrapping_plus(state.lower()))
     }
 
-    /// Returns the backend with the remaining words. The words of the point aren't among them.
+    /// Returns the backend, which holds the remaining words, without the words of the point.
     #[inline]
     pub fn bulk(&self) -> &Backend
         ensures backend { result.now ≡ self.now.bulk }

@@ -61,7 +61,7 @@ impl<Word: WordOf<State>, State: BitArray, Backend: WriteWords<Word>> RangeEncod
     /// seal is one word, followed by the least number of zero words for which this holds. There are at most
     /// `State::BITS / Word::BITS - 1` zero words. If no symbol was encoded, there is no seal.
     ///
-    /// If a state is two words wide, the words are those of [`RangeEncoder::into_compressed`]. For wider states, the
+    /// If `State` is two words wide, [`RangeEncoder::into_compressed`] returns the same words. For a wider `State`, the
     /// words of `into_compressed` are sure to decode to the symbols only if no word follows them.
     ///
     /// Before it writes any word, the encoder asks the backend for room for all words that it still has to write.
@@ -106,7 +106,7 @@ impl<Word: WordOf<State>, State: BitArray, Backend: BoundedReadWords<Word, Stack
     State,
     Backend,
 > {
-    /// Returns whether the number of bits of the encoder's words fits a `usize`.
+    /// Returns whether the number of bits that the encoder would export fits a `usize`.
     ///
     /// [`RangeEncoder::num_words`] and [`RangeEncoder::num_bits`] require this.
     pub fn sizes_fit(&self) -> bool

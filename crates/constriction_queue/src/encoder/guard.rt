@@ -16,8 +16,8 @@ use std::fmt;
 
 /// A guard that keeps an encoder's pending words and seal in the encoder's vector until the guard is dropped.
 ///
-/// [`RangeEncoder::get_compressed`] returns it, and has an example. The drop takes no memory. If a guard is forgotten
-/// instead of dropped, its words stay in the vector.
+/// [`RangeEncoder::get_compressed`] returns a guard, and has an example. Dropping a guard takes no memory. If a guard
+/// is forgotten instead of dropped, the words that it wrote stay in the vector.
 pub struct EncoderGuard<'a, Word: WordOf<State>, State: BitArray, A: Allocator = Global> {
     pub(crate) inner: &'a mut RangeEncoder<Word, State, Vec<Word, A>>,
     pub(crate) count: usize,
@@ -53,7 +53,7 @@ impl<Word: WordOf<State>, State: BitArray, A: Allocator> Drop for EncoderGuard<'
 
 impl<Word: WordOf<State> + fmt::Debug, State: BitArray, A: Allocator> fmt::Debug
     for EncoderGuard<'_, Word, State, A> {
-    /// Formats the list of the words.
+    /// Formats the words that the guard lends, as a list.
     fn fmt<W: fmt::Write>(&self, f: &mut fmt::Formatter<W>) -> fmt::Result {
         f.debug_list().entries(self.words().iter()).finish()
     }

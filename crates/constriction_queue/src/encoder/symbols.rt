@@ -64,8 +64,8 @@ impl<
 
     /// Returns how many more symbols the encoder can encode.
     ///
-    /// The number of pending words plus the words of a seal, at most 16, has to fit a `usize`. A step adds at most one
-    /// pending word.
+    /// The pending words limit this number. Their count plus the words of a seal has to fit a `usize`. A seal has at
+    /// most 16 words, and a step adds at most one pending word.
     #[inline]
     fn symbols_left(&self) -> usize {
         match self.situation {
@@ -76,9 +76,9 @@ impl<
 
     /// Encodes the next symbol with a model of `PRECISION` bits.
     ///
-    /// `PRECISION` is at most the number of bits of a word. If words have to be written, the encoder first asks the
-    /// backend for room for all of them. It then writes the words, and updates its interval last. The caller proves
-    /// that `symbols_left` is at least 1.
+    /// `PRECISION` is at most the number of bits of a word. If the step has to write words, the encoder first asks the
+    /// backend for room for all of them. It then writes them, and updates its interval last. The caller proves that
+    /// `symbols_left` is at least 1.
     ///
     /// # Errors
     ///

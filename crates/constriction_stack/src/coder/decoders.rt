@@ -1,7 +1,7 @@
 //! Coders for reading: over other backends, over borrowed words, over words in reading order, and with seeking.
 //!
-//! `into_reversed` goes through the trait `IntoReversed`, because separate methods for cursors and for reversed cursors
-//! have no proved callers.
+//! `into_reversed` goes through the trait `IntoReversed`. With separate methods for cursors and for reversed cursors,
+//! code that calls them couldn't be proved.
 
 ghost use Rattle.constriction_base.specs.Readings.{BeginsHigh};
 ghost use Rattle.constriction_base.specs.Iterators.{FusedRead};
@@ -147,7 +147,9 @@ impl<'a, Word: WordOf<State> + 'a, State: BitArray> AnsCoder<
         }
     }
 
-    /// Makes a coder that borrows arbitrary words, in the form that [`AnsCoder::into_binary`] returns.
+    /// Makes a coder that borrows words in the form that [`AnsCoder::into_binary`] returns.
+    ///
+    /// Every list of words has this form.
     ///
     /// # Examples
     ///
@@ -207,12 +209,14 @@ impl<Word: WordOf<State>, State: BitArray, Buf: Words<Word> + Drop> AnsCoder<
         }
     }
 
-    /// Makes a coder from arbitrary words, in the reverse of the order of [`AnsCoder::into_binary`].
+    /// Makes a coder from words in the form of [`AnsCoder::into_binary`], in reverse order.
+    ///
+    /// Every list of words has this form.
     ///
     /// # Examples
     ///
     /// ```
-    /// // The same coder as that of `from_binary_slice` from [5, 0].
+    /// // The same state as `from_binary_slice` makes from [5, 0].
     /// let coder = DefaultAnsCoder::from_reversed_binary([0u32, 5].as_slice());
     /// ```
     pub fn from_reversed_binary(binary: Buf) -> Self
@@ -246,7 +250,7 @@ impl<
     /// Returns the iterator as the reads left it, in exactly two cases:
     ///
     /// - The first word is zero.
-    /// - An item that the call took is an error.
+    /// - An item that the call took is an `Err`.
     ///
     /// # Examples
     ///
@@ -272,14 +276,14 @@ impl<
         }
     }
 
-    /// Makes a coder from an iterator over arbitrary words, in the reverse of the order of [`AnsCoder::into_binary`].
+    /// Makes a coder from an iterator over words in the form of [`AnsCoder::into_binary`], in reverse order.
     ///
-    /// The call takes words into the head until the head is full. Decoding takes the other words when it needs them.
-    /// The caller proves that the iterator's `next` may be called.
+    /// Every list of words has this form. The call takes words into the head until the head is full. Decoding takes
+    /// the other words when it needs them. The caller proves that the iterator's `next` may be called.
     ///
     /// # Errors
     ///
-    /// Returns the error of an item that the call took. The iterator is consumed.
+    /// If an item that the call takes is `Err(error)`, the call returns `error`. The iterator is consumed.
     pub fn from_reversed_binary_iter(binary: Iter) -> Result<Self, ReadError>
         requires sizes { IsSizes Word.BITS State.BITS }
         requires can { Iter.can_next binary }
@@ -302,9 +306,9 @@ impl<Word: WordOf<State>, State: BitArray, Backend: IntoReversed<Word>> AnsCoder
 > {
     /// Reverses the buffer below the head and keeps the state.
     ///
-    /// This converts between a cursor and a reversed cursor. In a cursor, the words below the head stand before the
-    /// position, and the last of them is read first. In a reversed cursor, they stand from the position on, in reading
-    /// order.
+    /// The call turns a coder over a cursor into a coder over a reversed cursor, or the other way round. In a cursor,
+    /// the words below the head lie before the position, and the last of them is read first. In a reversed cursor, they
+    /// lie from the position on, in reading order.
     pub fn into_reversed(self) -> AnsCoder<Word, State, Backend::IntoReversed>
         ensures state { result.state ≡ self.state }
         ensures turned { Backend.turns self.backend result.backend }
@@ -379,6 +383,8 @@ impl<Word: WordOf<State>, State: BitArray, Backend: Holds<Word, Stack> + Pos> Po
     ghost can_tell = { λ coder. Backend.can_tell coder.backend };
 
     /// Returns the backend's position and the head.
+    ///
+    /// The caller proves `can_tell` for the backend. It always holds for vectors and cursors.
     fn pos(&self) -> (Backend::Position, State)
         requires { Backend.can_tell self.now.backend }
         ensures place { Backend.stands_at self.now.backend result.0 }

@@ -29,8 +29,9 @@ use std::fmt;
 /// [`AnsCoder::get_compressed`] returns a guard with `SEALED` 0, and has an example. [`AnsCoder::get_binary`] returns a
 /// guard with `SEALED` 1.
 ///
-/// The drop reads back as many words as the guard wrote, so it takes no memory. It stops at a read that fails. If a
-/// guard is forgotten instead of dropped, its words stay on the backend, below the head.
+/// Dropping a guard only reads back as many words as the guard wrote, so the drop allocates no memory. The drop stops at
+/// the first read that fails.
+/// If a guard is forgotten instead of dropped, the words that it wrote stay on the backend, below the head.
 pub struct CoderGuard<'a, Word: WordOf<State>, State: BitArray, Backend, const SEALED: usize>
 where
     Backend: WriteWords<Word> + ReadWords<Word, Stack>,
@@ -153,7 +154,7 @@ where
     ///
     /// While the guard lives, the backend holds the words below the head and then the words of the head. The head's
     /// words are written lowest first, without leading zero words. The coder first asks the backend for room for the
-    /// head's words. A head of 0 has no words. Dropping the guard restores the coder.
+    /// head's words. A head of 0 has no words. Dropping the guard restores the coder, unless a read fails.
     ///
     /// # Errors
     ///
@@ -193,7 +194,7 @@ where
     ///
     /// While the guard lives, the backend holds the words below the head and then the head's words below its leading 1,
     /// lowest first. Zero words at the top are included. The coder first asks the backend for room for the head's
-    /// words. A head of 1 has no words below its leading 1. Dropping the guard restores the coder.
+    /// words. A head of 1 has no words below its leading 1. Dropping the guard restores the coder, unless a read fails.
     ///
     /// # Errors
     ///

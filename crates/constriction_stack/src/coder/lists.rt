@@ -54,10 +54,11 @@ impl<Word: WordOf<State>, State: BitArray, Backend: WriteWords<Word>> AnsCoder<
     ///
     /// # Errors
     ///
-    /// The call stops at the first error. Exactly the symbols of the items after it in the list are encoded.
+    /// The call goes from the last item to the first, and stops at an item that fails. Exactly the symbols of the items
+    /// after this item in the list are encoded.
     ///
-    /// - `InvalidEntropyModel(error)`: the item is `Err(error)`. The item doesn't change the coder.
-    /// - `CodingError(error)`: the coder refuses the step of the item.
+    /// - `InvalidEntropyModel(error)`: the item is `Err(error)`. It doesn't change the coder.
+    /// - `CodingError(error)`: the coder refuses the item's symbol.
     pub fn try_encode_symbols_reverse<S, M, E, I, const PRECISION: usize>(
         &mut self,
         symbols_and_models: I,

@@ -153,7 +153,7 @@ impl<
     /// # Errors
     ///
     /// Returns `Backend(error)` only if a word had to be read and the read returned `error`. The head is unchanged. If
-    /// `is_list` holds for the backend, the words are unchanged too.
+    /// `Holds::is_list` holds for the backend, as for vectors and cursors, the words are unchanged too.
     #[inline]
     fn decode_symbol<M>(
         &mut self,

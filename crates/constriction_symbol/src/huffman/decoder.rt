@@ -70,8 +70,12 @@ impl Clone for DecoderHuffmanTree {
 
     /// Returns the same tree.
     ///
-    /// The clone isn't derived, because it would then have to prove the invariant of fields that are only known to be
-    /// clones.
+    /// The clone isn't derived, because a derived clone would have to prove the tree's invariant from the clones of its
+    /// fields alone.
+    ///
+    /// # Errors
+    ///
+    /// `AllocError` if there is no memory for the tree.
     fn clone(&self) -> Result<Self, AllocError> {
         let nodes = self.nodes.clone()?;
         let places = self.places.clone()?;
@@ -101,11 +105,13 @@ fn tree_of<P: BitArray, E>(
 }
 
 impl DecoderHuffmanTree {
-    /// Makes a tree with one symbol for each of the lent weights, in memory of `alloc`.
+    /// Makes a tree with one symbol for each weight, in memory of `alloc`.
     ///
-    /// At first each symbol is a tree of its own. Each step joins the two trees of least weight, until one tree is
+    /// The items of `probabilities` lend the weights ([`Lent`]). They may be references to weights.
+    ///
+    /// At first each symbol is a tree of its own. Each merge joins the two trees of least weight, until one tree is
     /// left. Of two trees with equal weights, the tree with the lower index is the lesser. The index of a symbol's tree
-    /// is the symbol, and each joined tree gets the next index. The lesser tree of a join gets bit 0.
+    /// is the symbol, and each joined tree gets the next index. The lesser of the two joined trees gets bit 0.
     ///
     /// # Errors
     ///
@@ -150,7 +156,8 @@ impl DecoderHuffmanTree {
     ///
     /// Checked in this order:
     ///
-    /// - `Iterator(error)` if an item is `Err(error)`. `Memory` if there is no memory for a weight before that item.
+    /// - At the first failing item: `Iterator(error)` if the item is `Err(error)`, or `Memory` if there is no memory
+    ///   for the item's weight.
     /// - The errors of [`DecoderHuffmanTree::from_probabilities`].
     ///
     /// # Examples

@@ -1,8 +1,8 @@
 //! The table of a decoding tree: where the first bits of a codeword lead from the root.
 //!
-//! The index of an entry is a leading 1 followed by the bits. The entry of `n` is one step from the entry of `n / 2`,
-//! so one loop fills the table. The table looks up one bit more than the longest codeword would have if all weights
-//! were equal, and at most 9 bits. So a small tree has a small table.
+//! The index of an entry is a leading 1 followed by the bits. Entry `n` follows from entry `n / 2` and one more bit, so
+//! one loop fills the table. The table looks up one bit more than the longest codeword would have if all weights were
+//! equal, and at most 9 bits. So a small tree has a small table.
 
 ghost use Rattle.constriction_symbol.specs.DecoderTree.{HasPlaces, HoldsTree, IsPlace, LeadsTo, tree_of_pairs};
 ghost use Rattle.constriction_symbol.specs.Bits.{top_bits};

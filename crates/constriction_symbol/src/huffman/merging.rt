@@ -1,7 +1,8 @@
 //! Huffman's algorithm: joining the two least weights until one is left.
 //!
-//! The leaves are sorted, and no union weighs less than an earlier union. So the least tree is the first leaf or the
-//! first union. On equal weights it is the leaf, because leaves have the lower indices.
+//! A leaf is the tree of one symbol, and a union is a tree that a merge joined. The leaves are sorted, and no union
+//! weighs less than an earlier union. So the least tree is the first leaf or the first union that is left. If both have
+//! the same weight, it is the leaf, because leaves have the lower indices.
 //!
 //! Weights are collected before the merge, because the merge requires that their sum fits. Collecting lent weights may
 //! fail with `Memory` at each weight.

@@ -1,4 +1,4 @@
-//! `MixedDistribution`: a mixture that holds its components, as a model of indices.
+//! [`MixedDistribution`]: the model of a mixture that owns its components.
 
 ghost use Rattle.std.specs.Prelude.{◌≡◌, ℕ, ◌+◌, ◌*◌, ◌<◌, ◌≤◌, Some, get_or, length, vec_capacity};
 ghost use Rattle.constriction_models.specs.Mixtures.{mixed, total_weight, weighted};
@@ -15,7 +15,7 @@ use constriction_models::mixture::{Component, Mixture};
 use constriction_models::quantizer::{IndexedDistribution, LeakyQuantizer};
 use constriction_words::{BitArray, WordOf};
 
-/// A mixture cut halfway between symbols, as a model of the indices in a range. It holds its components.
+/// The model of a mixture, which owns its components. Its symbols are indices into a quantizer's range of integers.
 #[derive(Drop)]
 pub struct MixedDistribution<D: CumulativeDistribution, P: WordOf<u32>, const PRECISION: usize> {
     pub(super) components: Vec<Component<D>>,
@@ -29,7 +29,9 @@ impl<D: CumulativeDistribution, P: WordOf<u32>, const PRECISION: usize> MixedDis
     P,
     PRECISION,
 > {
-    /// Creates the model of a mixture over the range of a quantizer.
+    /// Creates the model of a mixture of `components`, over the range of `quantizer`.
+    ///
+    /// The caller proves that the weights of the components add up to at least 1 and at most `2^32`.
     pub(super) fn new(
         components: Vec<Component<D>>,
         quantizer: LeakyQuantizer<P, PRECISION>,

@@ -1,6 +1,6 @@
 //! Isolation through the calls: other models for some symbols don't change the other symbols.
 //!
-//! The law [`symbols_are_isolated`] says the same of runs that change the precision.
+//! The law [`symbols_are_isolated`] says the same of decodes with changes of the precision between them.
 
 ghost use Rattle.std.specs.Prelude.{◌≡◌, ◌⊎◌, length, IfErr, IfOk};
 ghost use Rattle.constriction_base.specs.Models.{pairs_of};
@@ -22,13 +22,14 @@ use std::alloc::Global;
 
 /// Decodes from two coders over the same words, each with its own list of models.
 ///
-/// Calls `decode_symbols` on `coder` with `models`, and on `same` with `others`. If both coders have the same
-/// compressed head and words, then equal tables at an index give equal symbols at that index, whatever the other tables
-/// are. The two lists may have models of different types.
+/// Calls `decode_symbols` on `coder` with `models`, and on `same` with `others`. Suppose that both coders have the same
+/// compressed head and compressed words. Then equal tables at an index give equal symbols at that index, whatever the
+/// other tables are. The two lists may have models of different types. Returns the symbols of `coder`, then those of
+/// `same`.
 ///
 /// # Errors
 ///
-/// If `coder` stops, `same` is unchanged. If `same` stops, `coder` has decoded all its symbols.
+/// If a decode of `coder` fails, `same` is unchanged. If a decode of `same` fails, `coder` has decoded all its symbols.
 ///
 /// - `OutOfData(count)`: after `count` symbols one of the coders needs a word, and none is left.
 /// - `Refused`: a read or a write failed, or there was no memory.

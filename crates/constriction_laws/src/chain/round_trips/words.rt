@@ -60,7 +60,7 @@ where
 
 /// Makes a coder from remainders, and encodes symbols onto it from last to first, each with its own model.
 ///
-/// Calls `from_remainders` and `encode_symbols_reverse`. There have to be as many models as symbols.
+/// Calls `from_remainders` and `encode_symbols_reverse`. Returns the coder.
 ///
 /// # Errors
 ///

@@ -20,7 +20,7 @@ use constriction_stack::coder::AnsCoder;
 use constriction_words::{BitArray, WordOf};
 use std::alloc::Global;
 
-/// Decodes one symbol for each model from any words, and returns the symbols and the coder.
+/// Decodes one symbol for each model from any words in binary form. Returns the symbols and the coder.
 ///
 /// Calls `from_binary` and `decode_symbols`.
 ///
@@ -57,8 +57,8 @@ where
 
 /// Encodes symbols from last to first, each with its own model, and returns the coder's words in binary form.
 ///
-/// Calls `encode_symbols_reverse` and `into_binary`. If the symbols were decoded from words with these models, the call
-/// returns those words.
+/// Calls `encode_symbols_reverse` and `into_binary`. If decoding `symbols` with these models from words in binary form
+/// led to the state of `coder`, the call returns those words.
 ///
 /// # Errors
 ///

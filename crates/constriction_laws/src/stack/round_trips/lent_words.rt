@@ -23,7 +23,7 @@ use std::alloc::{Allocator, Global};
 ///
 /// # Errors
 ///
-/// - `InvalidData`: the last word that the coder would export is 0. A valid state has no last word of 0.
+/// - `InvalidData`: the last word that the coder would export is 0. In a valid state this never happens.
 /// - `Refused`: there was no memory.
 pub fn decode_lent_words<
     Word: WordOf<State>,

@@ -17,8 +17,9 @@ use std::alloc::Global;
 
 /// Decodes one symbol for each model, from a recorded position of a coder.
 ///
-/// Calls `as_seekable_decoder`, `seek` and `decode_symbols`. If the coder has only written words since the position was
-/// recorded, the call returns the symbols encoded before that.
+/// Calls `as_seekable_decoder`, `seek` and `decode_symbols`. Suppose that the position was recorded after encoding one
+/// symbol with each model, from last to first. If the coder still has all words that were then below its head, the call
+/// returns these symbols in order.
 ///
 /// # Errors
 ///

@@ -27,7 +27,7 @@ use std::alloc::Global;
 
 /// Decodes one symbol for each model from words in reverse order.
 ///
-/// Calls `from_reversed_compressed` and `decode_symbols`.
+/// Calls `from_reversed_compressed` and `decode_symbols`. The first word of `words` is read first.
 ///
 /// # Errors
 ///
@@ -66,7 +66,7 @@ where
 
 /// Decodes one symbol for each model from an iterator over words in reverse order.
 ///
-/// Calls `from_reversed_compressed_iter` and `decode_symbols`.
+/// Calls `from_reversed_compressed_iter` and `decode_symbols`. The iterator's first word is read first.
 ///
 /// # Errors
 ///

@@ -30,8 +30,8 @@ use std::alloc::{AllocError, Global};
 ///
 /// - `Frontend(ImpossibleSymbol)`: a codebook has no codeword for its symbol. The codewords of the symbols before it
 ///   are written.
-/// - `Backend(error)`: the backend refused a word, or there was no memory. The stream then has the codewords of all
-///   symbols before the failing symbol, and the bits of its codeword before the bit at which the write failed.
+/// - `Backend(error)`: the backend refused a word, or there was no memory. The codewords of the symbols before the
+///   failing symbol are written, and the bits of its own codeword before the refused bit.
 pub fn encode_pairs<W: WriteBitStream<Queue>, C: EncoderCodebook>(
     stream: &mut W,
     symbols: &[C::Symbol],
@@ -50,8 +50,8 @@ pub fn encode_pairs<W: WriteBitStream<Queue>, C: EncoderCodebook>(
 
 /// Encodes symbols from last to first, each with its own codebook, onto a stack.
 ///
-/// Calls `encode_symbols_reverse`. Read from its end, the stack then has the codewords in the order of the list,
-/// followed by the bits that it had before the call.
+/// Calls `encode_symbols_reverse`. After the call, reading the stack gives the codewords in the order of the list. Then
+/// come the bits that the stack had before the call.
 ///
 /// # Errors
 ///
@@ -80,8 +80,8 @@ where
 
 /// Decodes one symbol for each codebook, with [`ReadBitStream::decode_symbols`].
 ///
-/// If the bits begin with the codewords of that many symbols, the call returns the symbols and reads exactly their
-/// codewords.
+/// Suppose that the stream's `is_list` holds, and that the unread bits begin with one codeword of each codebook, in
+/// order. Then the call returns the codewords' symbols and reads exactly these codewords.
 ///
 /// # Errors
 ///
