@@ -1,6 +1,6 @@
 //! Upper bounds on the number of words, for any list of steps with any precisions.
 //!
-//! The bounds are inequalities of products of whole numbers. `w` and `s` are the widths in bits of a word and of a
+//! The bounds are inequalities between products of whole numbers. `w` and `s` are the widths in bits of a word and of a
 //! head. `k = s - w - P` is the number of spare bits: the bits that a head has beyond a word and a precision of `P`
 //! bits. In logarithms, a step of probability `p / 2^P` costs at most `log2(2^P / p) + log2(1 + 2^-k)` bits. The first
 //! term is the step's information content, the second term is due to rounding.

@@ -14,7 +14,7 @@ use constriction_symbol::writing::WriteBitStream;
 use constriction_words::BitArray;
 use std::alloc::Global;
 
-/// Encodes symbols as a queue of bits, in order.
+/// Encodes symbols in order as a queue of bits.
 ///
 /// `codes` has the codebook. The call writes the words of the queue at the beginning of `words`, and sets `len` to the
 /// number of these words.
@@ -38,7 +38,7 @@ pub fn encode_queue<Word: BitArray, C: Codes>(
     }
 }
 
-/// Encodes symbols as a stack of bits, from the last to the first. Decoding returns them in the order of the list.
+/// Encodes symbols from the last to the first as a stack of bits. Decoding returns them in the order of the list.
 ///
 /// `codes` has the codebook. The call writes the words of the stack at the beginning of `words`, and sets `len` to the
 /// number of these words.
@@ -62,7 +62,9 @@ pub fn encode_stack<Word: BitArray, C: Codes>(
     }
 }
 
-/// Returns the words of a queue, or `None` for any error but `NoSpace`.
+/// Returns the words of the queue that [`encode_queue`] writes.
+///
+/// Returns `None` if the weights make no tree, if a symbol has no codeword, or if there is no memory.
 fn queue_words<Word: BitArray, C: Codes>(
     alloc: Global,
     codes: &C,
@@ -84,7 +86,9 @@ fn queue_words<Word: BitArray, C: Codes>(
     }
 }
 
-/// Returns the words of a stack, or `None` for any error but `NoSpace`.
+/// Returns the words of the stack that [`encode_stack`] writes.
+///
+/// Returns `None` if the weights make no tree, if a symbol has no codeword, or if there is no memory.
 fn stack_words<Word: BitArray, C: Codes>(
     alloc: Global,
     codes: &C,

@@ -35,7 +35,7 @@ use weighing::are_mixable;
 /// # Examples
 ///
 /// ```
-/// // Two symbols from 0 to 255, each under two logistic distributions, the first of which has three quarters.
+/// // Two symbols from 0 to 255, each under two logistic distributions with the weights 3 and 1.
 /// let components = Families::new(
 ///     2,
 ///     0,
@@ -56,7 +56,7 @@ pub struct Mixtures<'a> {
 }
 
 impl<'a> Mixtures<'a> {
-    /// Collects the arguments for mixtures. The arguments aren't checked here. [`Mixtures`] has an example.
+    /// Collects the arguments for mixtures. The call doesn't check the arguments. [`Mixtures`] has an example.
     #[inline]
     pub fn new(components: Families<'a>, weights: &'a [u32], width: usize) -> Self
         ensures { (result.components ≡ components.entry) × (result.weights.now ≡ weights.now) × (result.width ≡ width) }
@@ -131,7 +131,7 @@ impl<'a, P: WordOf<u32>, const PRECISION: usize> Models<P, PRECISION> for Mixtur
 
 /// The list of the models of mixtures. It has memory for the components of one mixture only.
 ///
-/// Each call of `turn_to` replaces these components by those of the selected mixture.
+/// Each call of `turn_to` replaces these components by the components of the selected mixture.
 ///
 /// # Examples
 ///

@@ -1,7 +1,7 @@
 //! Coders over backends without a list of words, such as iterators.
 //!
-//! For these backends `is_list` doesn't hold. But suppose that a function lists the words of each state of the backend,
-//! and that reads return these words one by one. Then a decode that reads from the backend (a decode by reads) equals a
+//! For these backends `is_list` doesn't hold. Suppose that a function lists the words of each value of the backend, and
+//! that reads return these words one by one. Then a decode that reads from the backend (a decode by reads) equals a
 //! decode from the list.
 
 ghost use Rattle.std.specs.Prelude.{◌≡◌, ℕ, List, reverse};
