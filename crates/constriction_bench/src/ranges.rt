@@ -65,7 +65,7 @@ where
 
 /// Encodes symbols as [`encode_range`] does, and copies the words to `out`, as many as fit.
 ///
-/// Returns the number of all words, or 0 if [`encode_range`] returns `None`.
+/// Returns how many words there are, or 0 if [`encode_range`] returns `None`.
 pub fn encode_range_out<
     Word: WordOf<State>,
     State: BitArray,

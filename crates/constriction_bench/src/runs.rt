@@ -75,7 +75,7 @@ pub fn reload_all<Word: WordOf<State>, State: BitArray>(words: Vec<Word>) -> Opt
 
 /// Encodes symbols as [`encode_all`] does, and copies the words to `out`, as many as fit.
 ///
-/// Returns the number of all words, or 0 if [`encode_all`] returns `None`.
+/// Returns how many words there are, or 0 if [`encode_all`] returns `None`.
 pub fn encode_out<
     Word: WordOf<State>,
     State: BitArray,
@@ -113,7 +113,7 @@ where
 
 /// Imports a copy of `words` into a coder, exports it again, and copies the words to `out`, as many as fit.
 ///
-/// Returns the number of all words, or 0 if the last word is 0 or there is no memory.
+/// Returns how many words there are, or 0 if the last word is 0 or there is no memory.
 pub fn reload_out<Word: WordOf<State>, State: BitArray>(
     alloc: Global,
     words: &[Word],
@@ -130,7 +130,7 @@ pub fn reload_out<Word: WordOf<State>, State: BitArray>(
     }
 }
 
-/// Copies `words` to `out`, as many as fit. Returns the number of all words.
+/// Copies `words` to `out`, as many as fit. Returns how many there are.
 pub fn copy_out<Word: BitArray>(words: &[Word], out: &mut [Word]) -> usize
     ensures count { result ≡ length words.now }
     ensures copied { out.new ≡ take (length out.old) words.now ++ drop (length words.now) out.old }

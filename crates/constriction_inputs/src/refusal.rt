@@ -2,7 +2,7 @@
 
 use thiserror::Error;
 
-/// The error of a call that refuses its arguments. The call left the caller's buffers and numbers unchanged.
+/// The error of a call that refuses its arguments. The call leaves the caller's coder and buffers unchanged.
 ///
 /// # Examples
 ///

@@ -167,7 +167,7 @@ pub trait Encode<const PRECISION: usize>: Code {
     ///
     /// The call stops at the first item that fails. Exactly the symbols of the items before this item are encoded.
     ///
-    /// - `InvalidEntropyModel(error)`: the item is `Err(error)`. The item doesn't change the coder.
+    /// - `InvalidEntropyModel(error)`: the item is `Err(error)`.
     /// - `CodingError(error)`: the coder refuses the item's symbol.
     fn try_encode_symbols<S, M, E, I>(
         &mut self,

@@ -212,9 +212,10 @@ impl<N: BitArray> DecoderCodebook for ExpGolomb<N> {
         }
     }
 
-    /// Looks up the codeword that the `count` highest bits of `bits` begin with.
+    /// Decodes the codeword that the `count` highest bits of `bits` begin with.
     ///
-    /// Returns `None` for the greatest number of type `N`, and for codewords of `count` bits or more.
+    /// Returns the number, and the length of its codeword in bits. Returns `None` for the greatest number of type `N`,
+    /// and for codewords of `count` bits or more.
     #[inline]
     fn symbol_at_once<Word: BitArray>(&self, bits: Word, count: u32) -> Option<(N, u32)> {
         let zeros = Word::BITS - bits.bit_length();

@@ -14,7 +14,9 @@ pub fn ones<Word: BitArray>(count: usize) -> Word
     Word::greatest().shifted_right(Word::BITS - count as u32)
 }
 
-/// Returns the number of weights up to the last weight above 0, or `None` if the sum isn't `2 ^ PRECISION`.
+/// Returns the number of weights up to and including the last nonzero weight.
+///
+/// Returns `None` if the weights don't add up to `2 ^ PRECISION`.
 pub fn known_symbols<Probability: BitArray, const PRECISION: usize>(
     weights: &[Probability],
 ) -> Option<usize>

@@ -28,7 +28,7 @@ fn coder_back(alloc: Global, remainders: &[u32]) -> Option<DefaultChainCoder> {
 
 /// Copies the words of the coder's remainders, with both heads on top, to `out`, as many as fit.
 ///
-/// Returns the number of all these words, or 0 if there is no memory.
+/// Returns how many these are, or 0 if there is no memory.
 fn give_remainders(coder: DefaultChainCoder, out: &mut [u32]) -> usize {
     match coder.into_remainders() {
         Ok((_, remainders)) => copy_out(&remainders, out),
@@ -38,7 +38,7 @@ fn give_remainders(coder: DefaultChainCoder, out: &mut [u32]) -> usize {
 
 /// Copies the coder's compressed words in binary form to `out`, as many as fit.
 ///
-/// Returns the number of all these words, or 0 if the coder has no binary form or there is no memory.
+/// Returns how many these are, or 0 if the coder has no binary form or there is no memory.
 fn give_words(coder: DefaultChainCoder, out: &mut [u32]) -> usize {
     match coder.into_binary() {
         Ok((_, words)) => copy_out(&words, out),
@@ -48,7 +48,7 @@ fn give_words(coder: DefaultChainCoder, out: &mut [u32]) -> usize {
 
 /// Fills `symbols` with symbols decoded from the coder `found`, and copies the remainders to `out`, as many as fit.
 ///
-/// Returns the number of all words of the remainders, or 0 if `found` is `None`, a decode fails or there is no memory.
+/// Returns how many words the remainders have, or 0 if `found` is `None`, a decode fails or there is no memory.
 #[inline(never)]
 fn decode_out<M: DecoderModel<24, Symbol = usize>>(
     found: Option<DefaultChainCoder>,
@@ -71,7 +71,7 @@ where
 
 /// Encodes symbols from the last to the first on the coder `found`, and copies its words to `out`, as many as fit.
 ///
-/// The words are in binary form. Returns the number of all words, or 0 if `found` is `None`, if an encode fails, or if
+/// The words are in binary form. Returns how many there are, or 0 if `found` is `None`, if an encode fails, or if
 /// [`give_words`] returns 0.
 #[inline(never)]
 fn encode_out<M: EncoderModel<24, Symbol = usize>>(
@@ -95,7 +95,7 @@ where
 
 /// Fills `symbols` with symbols decoded from `words` in binary form, with a table of weights.
 ///
-/// Copies the remainders to `out`, as many words as fit. Returns the number of all words, or 0 after a failure.
+/// Copies the remainders to `out`, as many words as fit. Returns how many there are, or 0 after a failure.
 #[unsafe(no_mangle)]
 pub extern "C" fn constriction_bench_chain_decode_u32u64p24_table(
     alloc: Global,
@@ -112,7 +112,7 @@ pub extern "C" fn constriction_bench_chain_decode_u32u64p24_table(
 
 /// Encodes symbols from the last to the first onto `remainders`, with a table of weights.
 ///
-/// Copies the words in binary form to `out`, as many as fit. Returns the number of all words, or 0 after a failure.
+/// Copies the compressed words to `out`, in binary form, as many as fit. Returns how many there are, or 0 after a failure.
 #[unsafe(no_mangle)]
 pub extern "C" fn constriction_bench_chain_encode_u32u64p24_table(
     alloc: Global,
@@ -129,7 +129,7 @@ pub extern "C" fn constriction_bench_chain_encode_u32u64p24_table(
 
 /// Fills `symbols` with symbols below `2^bits`, decoded from `words` in binary form with equal weights.
 ///
-/// Copies the remainders to `out`, as many words as fit. Returns the number of all words, or 0 after a failure.
+/// Copies the remainders to `out`, as many words as fit. Returns how many there are, or 0 after a failure.
 #[unsafe(no_mangle)]
 pub extern "C" fn constriction_bench_chain_decode_u32u64p24_flat(
     alloc: Global,
@@ -146,7 +146,7 @@ pub extern "C" fn constriction_bench_chain_decode_u32u64p24_flat(
 
 /// Encodes symbols below `2^bits` from the last to the first onto `remainders`, with equal weights.
 ///
-/// Copies the words in binary form to `out`, as many as fit. Returns the number of all words, or 0 after a failure.
+/// Copies the compressed words to `out`, in binary form, as many as fit. Returns how many there are, or 0 after a failure.
 #[unsafe(no_mangle)]
 pub extern "C" fn constriction_bench_chain_encode_u32u64p24_flat(
     alloc: Global,
@@ -163,7 +163,7 @@ pub extern "C" fn constriction_bench_chain_encode_u32u64p24_flat(
 
 /// Fills `symbols` with symbols decoded from `words`, with a table that lists a symbol for each part of the quantiles.
 ///
-/// `words` are in binary form. Copies the remainders to `out`, as many words as fit. Returns the number of all words,
+/// `words` are in binary form. Copies the remainders to `out`, as many words as fit. Returns how many words these are,
 /// or 0 after a failure.
 #[unsafe(no_mangle)]
 pub extern "C" fn constriction_bench_chain_decode_u32u64p24_bucket(

@@ -29,7 +29,7 @@ fn coder_back(alloc: Global, remainders: &[u16]) -> Option<SmallChainCoder> {
 
 /// Copies the words of the coder's remainders, with both heads on top, to `out`, as many as fit.
 ///
-/// Returns the number of all these words, or 0 if there is no memory.
+/// Returns how many these are, or 0 if there is no memory.
 fn give_remainders(coder: SmallChainCoder, out: &mut [u16]) -> usize {
     match coder.into_remainders() {
         Ok((_, remainders)) => copy_out(&remainders, out),
@@ -39,7 +39,7 @@ fn give_remainders(coder: SmallChainCoder, out: &mut [u16]) -> usize {
 
 /// Copies the coder's compressed words in binary form to `out`, as many as fit.
 ///
-/// Returns the number of all these words, or 0 if the coder has no binary form or there is no memory.
+/// Returns how many these are, or 0 if the coder has no binary form or there is no memory.
 fn give_words(coder: SmallChainCoder, out: &mut [u16]) -> usize {
     match coder.into_binary() {
         Ok((_, words)) => copy_out(&words, out),
@@ -49,7 +49,7 @@ fn give_words(coder: SmallChainCoder, out: &mut [u16]) -> usize {
 
 /// Fills `symbols` with symbols decoded from the coder `found`, and copies the remainders to `out`, as many as fit.
 ///
-/// Returns the number of all words of the remainders, or 0 if `found` is `None`, a decode fails or there is no memory.
+/// Returns how many words the remainders have, or 0 if `found` is `None`, a decode fails or there is no memory.
 #[inline(never)]
 fn decode_out<M: DecoderModel<12, Symbol = usize>>(
     found: Option<SmallChainCoder>,
@@ -72,7 +72,7 @@ where
 
 /// Encodes symbols from the last to the first on the coder `found`, and copies its words to `out`, as many as fit.
 ///
-/// The words are in binary form. Returns the number of all words, or 0 if `found` is `None`, if an encode fails, or if
+/// The words are in binary form. Returns how many there are, or 0 if `found` is `None`, if an encode fails, or if
 /// [`give_words`] returns 0.
 #[inline(never)]
 fn encode_out<M: EncoderModel<12, Symbol = usize>>(
@@ -96,7 +96,7 @@ where
 
 /// Fills `symbols` with symbols decoded from `words` in binary form, with a table of weights.
 ///
-/// Copies the remainders to `out`, as many words as fit. Returns the number of all words, or 0 after a failure.
+/// Copies the remainders to `out`, as many words as fit. Returns how many there are, or 0 after a failure.
 #[unsafe(no_mangle)]
 pub extern "C" fn constriction_bench_chain_decode_u16u32p12_table(
     alloc: Global,
@@ -113,7 +113,7 @@ pub extern "C" fn constriction_bench_chain_decode_u16u32p12_table(
 
 /// Encodes symbols from the last to the first onto `remainders`, with a table of weights.
 ///
-/// Copies the words in binary form to `out`, as many as fit. Returns the number of all words, or 0 after a failure.
+/// Copies the compressed words to `out`, in binary form, as many as fit. Returns how many there are, or 0 after a failure.
 #[unsafe(no_mangle)]
 pub extern "C" fn constriction_bench_chain_encode_u16u32p12_table(
     alloc: Global,
@@ -130,7 +130,7 @@ pub extern "C" fn constriction_bench_chain_encode_u16u32p12_table(
 
 /// Fills `symbols` with symbols below `2^bits`, decoded from `words` in binary form with equal weights.
 ///
-/// Copies the remainders to `out`, as many words as fit. Returns the number of all words, or 0 after a failure.
+/// Copies the remainders to `out`, as many words as fit. Returns how many there are, or 0 after a failure.
 #[unsafe(no_mangle)]
 pub extern "C" fn constriction_bench_chain_decode_u16u32p12_flat(
     alloc: Global,
@@ -147,7 +147,7 @@ pub extern "C" fn constriction_bench_chain_decode_u16u32p12_flat(
 
 /// Encodes symbols below `2^bits` from the last to the first onto `remainders`, with equal weights.
 ///
-/// Copies the words in binary form to `out`, as many as fit. Returns the number of all words, or 0 after a failure.
+/// Copies the compressed words to `out`, in binary form, as many as fit. Returns how many there are, or 0 after a failure.
 #[unsafe(no_mangle)]
 pub extern "C" fn constriction_bench_chain_encode_u16u32p12_flat(
     alloc: Global,
@@ -164,7 +164,7 @@ pub extern "C" fn constriction_bench_chain_encode_u16u32p12_flat(
 
 /// Fills `symbols` with symbols decoded from `words`, with a table that lists the symbol of each quantile.
 ///
-/// `words` are in binary form. Copies the remainders to `out`, as many words as fit. Returns the number of all words,
+/// `words` are in binary form. Copies the remainders to `out`, as many words as fit. Returns how many words these are,
 /// or 0 after a failure.
 #[unsafe(no_mangle)]
 pub extern "C" fn constriction_bench_chain_decode_u16u32p12_lookup(

@@ -384,7 +384,7 @@ pub extern "C" fn constriction_chain_from_remainders_u16(
     code_without_space(answer)
 }
 
-/// Exports compressed words: writes the words of the remainders head after the compressed words in use.
+/// Exports compressed words: writes the words of the remainders head after the first `count` words of `compressed`.
 ///
 /// Calls [`into_compressed`] and returns the code of its result ([`code_of`]).
 #[unsafe(no_mangle)]
@@ -420,7 +420,7 @@ pub extern "C" fn constriction_chain_into_binary_u16(
     code_of(answer, needed)
 }
 
-/// Exports remainders: writes the words of both heads after the remainders in use.
+/// Exports remainders: writes the words of both heads after the first `rest` words of `remainders`.
 ///
 /// Calls [`into_remainders`] and returns the code of its result ([`code_of`]).
 #[unsafe(no_mangle)]

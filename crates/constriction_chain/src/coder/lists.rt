@@ -56,7 +56,7 @@ impl<
     /// The call stops at the first failing item, counted from the end of the list. The coder has encoded exactly the
     /// symbols after that item in the list.
     ///
-    /// - `InvalidEntropyModel(error)` if the item is `Err(error)`. The item doesn't change the coder.
+    /// - `InvalidEntropyModel(error)` if the item is `Err(error)`.
     /// - `CodingError(error)` if encoding the item's symbol fails with this error.
     pub fn try_encode_symbols_reverse<S, M, E, I>(
         &mut self,

@@ -106,7 +106,7 @@ impl<'a> Families<'a> {
     ///
     /// # Errors
     ///
-    /// The call checks for errors in this order, and returns each error exactly in its case.
+    /// The call returns the first of these errors whose condition holds, and no other error.
     ///
     /// - `WrongLength`: the numbers of scales and of locations differ.
     /// - `WrongInterval`: the range has fewer than two or more than `2 ^ PRECISION` symbols.

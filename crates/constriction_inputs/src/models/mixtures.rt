@@ -25,9 +25,9 @@ use weighing::are_mixable;
 /// Mixtures of distributions of one family, with one mixture for each symbol.
 ///
 /// A mixture has `width` components, and each component has a location, a scale and a weight. The weights are in
-/// `weights`. The locations and scales are in `components`, in multiples of `2^-16`. Each of the three lists has the
-/// items of the first symbol, then the items of the second symbol, and so on. A symbol is passed as its index in the
-/// range of `components`.
+/// `weights`. The locations and scales are in `components`, in multiples of `2^-16`. Each of the three lists has
+/// `width` numbers for the first symbol, then `width` numbers for the second symbol, and so on. The caller passes each
+/// symbol as its distance from the least symbol of `components`.
 ///
 /// The weights of a mixture are relative. Their sum has to be at least 1 and at most `2^32`. A component of weight 0
 /// doesn't change the mixture.

@@ -24,7 +24,7 @@ use constriction_words::{BitArray, WordOf};
 ///
 /// # Errors
 ///
-/// The call checks for errors in this order, and returns each error exactly in its case. After an error, `lefts` and
+/// The call returns the first of these errors whose condition holds, and no other error. After an error, `lefts` and
 /// `ps` are unchanged.
 ///
 /// - `WrongLength`: `lefts` or `ps` doesn't have one item for each symbol.

@@ -65,7 +65,7 @@ pub trait EncodeReverse<const PRECISION: usize>: Encode<PRECISION> {
     /// The call goes from the last item to the first, and stops at an item that fails. Exactly the symbols of the items
     /// after this item in the list are encoded.
     ///
-    /// - `InvalidEntropyModel(error)`: the item is `Err(error)`. The item doesn't change the coder.
+    /// - `InvalidEntropyModel(error)`: the item is `Err(error)`.
     /// - `CodingError(error)`: the coder refuses the item's symbol.
     final fn try_encode_symbols_reverse<S, M, E, I>(
         &mut self,
