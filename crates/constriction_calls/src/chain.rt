@@ -7,7 +7,7 @@
 //!
 //! # Errors
 //!
-//! A call that fails changes nothing. A call returns the first of these errors whose condition holds. No contract states
+//! A call that fails changes nothing. It returns the first of these errors whose condition holds. No contract states
 //! when there is no memory.
 //!
 //! - `WrongLength`: a number of words in use is past its buffer's end, or the arguments of the models don't match the

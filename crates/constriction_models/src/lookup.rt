@@ -52,7 +52,7 @@ struct Row<P: Copy + Drop, N: Copy + Drop> {
 /// ```
 /// let model = UniformModel::<u8, 8>::new(10)?;
 /// let lookup = ContiguousLookupDecoderModel::new(alloc, model)?;
-/// lookup.quantile_function(60) // (2, 50, 25), as the weights are 25
+/// lookup.quantile_function(60) // (2, 50, 25): symbol 2 has the quantiles from 50 to 74
 /// ```
 #[derive(Drop)]
 pub struct ContiguousLookupDecoderModel<

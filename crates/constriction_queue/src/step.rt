@@ -178,7 +178,7 @@ pub fn grow<Word: WordOf<State>, State: BitArray>(
     }
 }
 
-/// Performs an encoder's step: writes the step's words, and returns the new interval and situation.
+/// Encodes a step: writes the words that it completes, and returns the new interval and situation.
 #[inline(always)]
 pub fn step_onto<Word: WordOf<State>, State: BitArray, Backend: WriteWords<Word>>(
     bulk: &mut Backend,

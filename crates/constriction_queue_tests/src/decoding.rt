@@ -28,7 +28,7 @@ pub type Lent<'a, Word, State> = RangeDecoder<Word, State, Cursor<Word, &'a [Wor
 
 /// A decoder that owns its words.
 ///
-/// Scripts use this type, because the checker has no proof of a generic call that returns a text on a borrowing decoder.
+/// Scripts use this type, because the checker has no proof of a generic call on a borrowing decoder that returns text.
 pub type Owning<Word, State> = RangeDecoder<Word, State, Cursor<Word, Vec<Word>>>;
 
 /// Returns whether the decoder's interval, point and number of words left are the numbers of `act`.

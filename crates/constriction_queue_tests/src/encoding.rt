@@ -1,8 +1,8 @@
 //! The interpreter of scripts on encoders over vectors. Besides the acts of `constriction_scripts::putting`, it runs
 //! these acts:
 //!
-//! - `clear` clears the encoder. `of` makes an encoder over words. `parts` makes an encoder from an interval, a number of
-//!   held words, the first held word, and words. `again` takes the encoder apart and puts it together again.
+//! - `clear` clears the encoder. `of` makes an encoder over words. `parts` makes an encoder from an interval, a number
+//!   of held words, the first held word, and words. `again` takes the encoder apart and puts it together again.
 //! - `sealed`, `shown` and `lent` compare the sealed words, which an iterator returns, a guard lends, or
 //!   `with_compressed` lends. `export` and `delimited` compare the words of either seal, and leave a new encoder.
 //! - `written` compares the words written. `held` compares the number of held words and the first held word. `at`

@@ -1,9 +1,9 @@
 //! Reading a script.
 //!
 //! A script is a text of acts. An act is a verb and the numbers after it. The verb names a call that uses the numbers,
-//! or a check that expects them. `put 1 head 255` encodes the symbol 1, and then expects the head 255. If an act expects
-//! a refusal, the answer follows the verb after a `!`, as in `list!full 1 1`. Among the items of a list, `bad7` stands
-//! for the error 7. Spaces and line ends separate the words of a script.
+//! or a check that expects them. `put 1 head 255` encodes the symbol 1, and then expects the head 255. If an act
+//! expects a refusal, the answer follows the verb after a `!`, as in `list!full 1 1`. Among the items of a list, `bad7`
+//! stands for the error 7. Spaces and line ends separate the words of a script.
 
 use std::alloc::{AllocError, Global};
 

@@ -10,7 +10,7 @@ use std::marker::Model;
 /// A list of at most `Word::BITS` bits.
 ///
 /// The bits are the highest bits of `word`, last bit highest. The lowest `room` bits of `word` are unspecified.
-/// Contracts describe the value by the list.
+/// Contracts describe a `TopBits` by this list.
 #[derive(Debug, Drop)]
 pub struct TopBits<Word: BitArray> {
     word: Word,

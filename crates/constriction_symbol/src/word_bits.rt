@@ -11,7 +11,7 @@ use std::marker::Model;
 /// A list of at most `Word::BITS` bits, which are removed from the first to the last.
 ///
 /// The bits are stored in reverse order, so that the first bit is the highest of the stored word. Contracts describe
-/// the value by the list.
+/// a `WordBits` by this list.
 #[derive(Debug, Drop)]
 pub struct WordBits<Word: BitArray> {
     turned: TopBits<Word>,

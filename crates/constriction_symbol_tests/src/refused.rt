@@ -39,8 +39,8 @@ enum Call {
     PairsBack,
 }
 
-/// A call, its name, the bits before the call, the bits that the call writes, and the number of bits that a refused call
-/// writes at least.
+/// A call, its name, the bits before the call, the bits that the call writes, and the least number of bits that a
+/// refused call writes.
 type Row = (Call, &'static str, &'static [u8], &'static [u8], usize);
 
 /// Three full words of bits.

@@ -48,7 +48,7 @@ pub trait ReadWords<Word, S: Semantics>: Holds<Word, S> {
 
     /// Takes the next word and returns it, or returns `Ok(None)` if no word is left.
     ///
-    /// Where `is_list` holds, only a read that returns a word changes the list of words.
+    /// Where `is_list` holds, a read that returns `Ok(None)` leaves the list of words unchanged.
     ///
     /// # Errors
     ///

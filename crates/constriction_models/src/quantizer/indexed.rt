@@ -13,8 +13,9 @@ use std::marker::PhantomData;
 
 /// A distribution cut halfway between symbols, as a model of the symbols `0`, `1`, ..
 ///
-/// The symbol `k` of the model stands for the symbol `k` above the first symbol of the range. The type is for callers
-/// who need symbols of type `usize`, as in weight tables and in [`crate::lookup::ContiguousLookupDecoderModel`].
+/// Symbol `k` of the model stands for the symbol `first + k`, where `first` is the first symbol of the range. The type
+/// is for callers who need symbols of type `usize`, as in weight tables and in
+/// [`crate::lookup::ContiguousLookupDecoderModel`].
 ///
 /// # Examples
 ///
@@ -38,7 +39,7 @@ impl<Probability: WordOf<u32>, const PRECISION: usize> LeakyQuantizer<Probabilit
 
     /// Cuts `distribution` halfway between the symbols of the range, and returns a model with symbols from 0 on.
     ///
-    /// The symbol `k` of the model stands for the symbol `k` above the first symbol of the range.
+    /// Symbol `k` of the model stands for the symbol `first + k`, where `first` is the first symbol of the range.
     pub fn quantize_indexed<D: CumulativeDistribution>(
         &self,
         distribution: D,

@@ -184,7 +184,7 @@ impl<Word: WordOf<State>, State: BitArray, Backend: Holds<Word, Queue>> RangeDec
         (bulk, state, distance.wrapping_plus(state.lower()))
     }
 
-    /// Returns the backend, which holds the remaining words, without the words of the point.
+    /// Returns the backend. It holds the words that the decoder has not read yet.
     #[inline]
     pub fn bulk(&self) -> &Backend
         ensures backend { result.now ≡ self.now.bulk }

@@ -330,11 +330,11 @@ impl<Word: WordOf<State>, State: BitArray, Backend: Holds<Word, Stack> + Words<W
     State,
     Backend,
 > {
-    /// Returns an iterator over the words that [`AnsCoder::into_compressed`] would return.
+    /// Returns an iterator over the backend's words, followed by the words of the head.
     ///
-    /// The coder is unchanged. The words that the backend lends come first, then the words of the head, lowest first,
-    /// without leading zero words. These are the words of `into_compressed` if the backend lends its words in the order
-    /// in which they were written, as vectors and slices do.
+    /// The coder is unchanged. The words of the head come lowest first, without leading zero words. If the backend
+    /// lends its words in the order in which they were written, as vectors and slices do, these are the words that
+    /// [`AnsCoder::into_compressed`] would return.
     pub fn iter_compressed(&self) -> AnsCompressedIter<'_, Word, State>
         ensures words { result ≡ map Word.number (Backend.lent self.now.backend)
             ++ reverse (digits_of (2 ^ Word.BITS) self.now.state.head) }

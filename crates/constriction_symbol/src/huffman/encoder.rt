@@ -24,8 +24,8 @@ use std::marker::Model;
 
 /// A Huffman tree for encoding, with a codeword for each of the symbols `0`, `1`, ..
 ///
-/// No prefix-free codebook costs less for the same weights. Contracts describe the value by the tree itself, with
-/// symbols as its leaves. The codeword of a symbol is the path from the root to the symbol's leaf.
+/// No prefix-free codebook costs less for the same weights. Contracts describe an `EncoderHuffmanTree` by a tree whose
+/// leaves are the symbols. The codeword of a symbol is the path from the root to the symbol's leaf.
 ///
 /// # Examples
 ///
@@ -93,7 +93,8 @@ impl EncoderHuffmanTree {
     ///
     /// At first each symbol is a tree of its own. Each merge joins the two trees of least weight, until one tree is
     /// left. Of two trees with equal weights, the tree with the lower index is the lesser. The index of a symbol's tree
-    /// is the symbol, and each joined tree gets the next index. The lesser of the two joined trees gets bit 0.
+    /// is the symbol. The tree that a merge creates gets the next index. Of the two trees that a merge joins, the
+    /// lesser gets bit 0.
     ///
     /// # Errors
     ///
