@@ -93,7 +93,7 @@ def commands(readme, program):
     prints("range-decode", f"8388608 8388608\\n1 {words}", "1")
     symbols, left, remainders = by.chain_split(HALVES, [287454020, 256])
     judge(not left, "the words left of a chain coder")
-    answer = f"{shown(symbols)}; no words left; {shown(remainders)}"
+    answer = f"{shown(symbols)}; no unread words; {shown(remainders)}"
     prints("chain-split", "8388608 8388608\\n1 287454020 256", answer)
     codewords = [by.golomb_codeword(number) for number in (0, 5, 7)]
     answer = f"{shown(codewords)}; {shown(by.queue_words(''.join(codewords)))}"

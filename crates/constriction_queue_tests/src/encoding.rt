@@ -213,7 +213,7 @@ where
     act.symbols.first() == Some(&place) && is_interval(state, act.numbers, 1)
 }
 
-/// Takes a clone apart. Returns whether its held words are as [`is_situation`] compares them with `numbers`.
+/// Returns whether `numbers` are the number of held words and the first held word, by taking a clone apart.
 fn has_held<Word, State>(encoder: &RangeEncoder<Word, State>, numbers: &[u128]) -> bool
 where
     Word: WordOf<State> + Number,

@@ -29,7 +29,7 @@ impl<'a, T> Iterator for Ones<'a, T> {
 
 /// An iterator of `count` items: the reference `one` again and again, and one error.
 ///
-/// The error stands in the place after which `bad` items are left.
+/// The error is the item after which `bad` items are left.
 #[derive(Drop)]
 pub struct Mixed<'a, T> {
     pub count: usize,

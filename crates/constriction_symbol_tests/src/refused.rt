@@ -25,7 +25,7 @@ use std::test::Fail;
 /// The outcome of a call: whether a request for memory was refused, and whether all values afterwards are as expected.
 type Came = (bool, bool);
 
-/// Whether a call returned what is expected, or an error if there was no memory.
+/// The result of a call's check, or an error if there was no memory.
 type Went = Result<bool, AllocError>;
 
 /// A call that writes bits. List calls write the numbers 0 and 5.
