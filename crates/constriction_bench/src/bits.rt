@@ -62,7 +62,7 @@ fn read_stack(words: Vec<u32>, bits: &mut [bool]) -> bool {
     true
 }
 
-/// Copies the words to `out`, as many as fit. Returns how many there are, or 0 if `words` is `None`.
+/// Copies the words to `out`, as many as fit. Returns the total number of words, or 0 if `words` is `None`.
 pub fn give_out(words: Option<Vec<u32>>, out: &mut [u32]) -> usize {
     match words {
         Some(words) => copy_out(&words, out),
@@ -72,7 +72,7 @@ pub fn give_out(words: Option<Vec<u32>>, out: &mut [u32]) -> usize {
 
 /// Writes `bits` to a queue of bits.
 ///
-/// Copies the queue's words to `out`, as many as fit. Returns how many there are, or 0 after a failure.
+/// Copies the queue's words to `out`, as many as fit. Returns the total number of words, or 0 after a failure.
 #[unsafe(no_mangle)]
 pub extern "C" fn constriction_bench_bits_write_queue(
     alloc: Global,
@@ -84,7 +84,7 @@ pub extern "C" fn constriction_bench_bits_write_queue(
 
 /// Writes `bits` to a stack of bits.
 ///
-/// Copies the stack's words to `out`, as many as fit. Returns how many there are, or 0 after a failure.
+/// Copies the stack's words to `out`, as many as fit. Returns the total number of words, or 0 after a failure.
 #[unsafe(no_mangle)]
 pub extern "C" fn constriction_bench_bits_write_stack(
     alloc: Global,

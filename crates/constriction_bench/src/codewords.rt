@@ -98,7 +98,7 @@ where
 
 /// Encodes numbers in order to a queue of bits, with Exp-Golomb codewords.
 ///
-/// Copies the words to `out`, as many as fit. Returns how many there are, or 0 after a failure.
+/// Copies the words to `out`, as many as fit. Returns the total number of words, or 0 after a failure.
 #[unsafe(no_mangle)]
 pub extern "C" fn constriction_bench_golomb_encode_queue(
     alloc: Global,
@@ -110,7 +110,7 @@ pub extern "C" fn constriction_bench_golomb_encode_queue(
 
 /// Encodes numbers from the last to the first to a stack of bits, with Exp-Golomb codewords.
 ///
-/// Copies the words to `out`, as many as fit. Returns how many there are, or 0 after a failure.
+/// Copies the words to `out`, as many as fit. Returns the total number of words, or 0 after a failure.
 #[unsafe(no_mangle)]
 pub extern "C" fn constriction_bench_golomb_encode_stack(
     alloc: Global,
@@ -152,7 +152,7 @@ pub extern "C" fn constriction_bench_golomb_decode_stack(
 
 /// Encodes symbols in order to a queue of bits, with the Huffman tree of `weights`.
 ///
-/// Copies the words to `out`, as many as fit. Returns how many there are, or 0 after a failure.
+/// Copies the words to `out`, as many as fit. Returns the total number of words, or 0 after a failure.
 #[unsafe(no_mangle)]
 pub extern "C" fn constriction_bench_huffman_encode_queue(
     alloc: Global,
@@ -168,7 +168,7 @@ pub extern "C" fn constriction_bench_huffman_encode_queue(
 
 /// Encodes symbols from the last to the first to a stack of bits, with the Huffman tree of `weights`.
 ///
-/// Copies the words to `out`, as many as fit. Returns how many there are, or 0 after a failure.
+/// Copies the words to `out`, as many as fit. Returns the total number of words, or 0 after a failure.
 #[unsafe(no_mangle)]
 pub extern "C" fn constriction_bench_huffman_encode_stack(
     alloc: Global,

@@ -8,7 +8,7 @@ use std::alloc::Global;
 
 /// Encodes symbols from the last to the first, with a table of weights.
 ///
-/// Copies the words to `out`, as many as fit. Returns how many there are, or 0 after a failure.
+/// Copies the words to `out`, as many as fit. Returns the total number of words, or 0 after a failure.
 #[unsafe(no_mangle)]
 pub extern "C" fn constriction_bench_ans_encode_u32u64p24_table(
     alloc: Global,
@@ -38,7 +38,7 @@ pub extern "C" fn constriction_bench_ans_decode_u32u64p24_table(
 
 /// Encodes symbols below `2^bits` from the last to the first, with equal weights.
 ///
-/// Copies the words to `out`, as many as fit. Returns how many there are, or 0 after a failure.
+/// Copies the words to `out`, as many as fit. Returns the total number of words, or 0 after a failure.
 #[unsafe(no_mangle)]
 pub extern "C" fn constriction_bench_ans_encode_u32u64p24_flat(
     alloc: Global,
@@ -86,7 +86,7 @@ pub extern "C" fn constriction_bench_ans_decode_u32u64p24_bucket(
 
 /// Imports `words` into a coder, and exports them again.
 ///
-/// Copies the words to `out`, as many as fit. Returns how many there are, or 0 after a failure.
+/// Copies the words to `out`, as many as fit. Returns the total number of words, or 0 after a failure.
 #[unsafe(no_mangle)]
 pub extern "C" fn constriction_bench_ans_reload_u32u64p24(
     alloc: Global,
@@ -98,7 +98,7 @@ pub extern "C" fn constriction_bench_ans_reload_u32u64p24(
 
 /// Copies `words` to a new vector and from there to `out`, as the import and the export do, but without a coder.
 ///
-/// Copies the words to `out`, as many as fit. Returns how many there are, or 0 after a failure.
+/// Copies the words to `out`, as many as fit. Returns the total number of words, or 0 after a failure.
 #[unsafe(no_mangle)]
 pub extern "C" fn constriction_bench_copy_u32u64p24(
     alloc: Global,

@@ -130,7 +130,7 @@ pub fn reload_out<Word: WordOf<State>, State: BitArray>(
     }
 }
 
-/// Copies `words` to `out`, as many as fit. Returns how many there are.
+/// Copies `words` to `out`, as many as fit. Returns the total number of words.
 pub fn copy_out<Word: BitArray>(words: &[Word], out: &mut [Word]) -> usize
     ensures count { result ≡ length words.now }
     ensures copied { out.new ≡ take (length out.old) words.now ++ drop (length words.now) out.old }

@@ -9,7 +9,7 @@ use std::alloc::Global;
 
 /// Encodes symbols from the last to the first, with a table of weights.
 ///
-/// Copies the words to `out`, as many as fit. Returns how many there are, or 0 after a failure.
+/// Copies the words to `out`, as many as fit. Returns the total number of words, or 0 after a failure.
 #[unsafe(no_mangle)]
 pub extern "C" fn constriction_bench_ans_encode_u16u32p12_table(
     alloc: Global,
@@ -39,7 +39,7 @@ pub extern "C" fn constriction_bench_ans_decode_u16u32p12_table(
 
 /// Encodes symbols below `2^bits` from the last to the first, with equal weights.
 ///
-/// Copies the words to `out`, as many as fit. Returns how many there are, or 0 after a failure.
+/// Copies the words to `out`, as many as fit. Returns the total number of words, or 0 after a failure.
 #[unsafe(no_mangle)]
 pub extern "C" fn constriction_bench_ans_encode_u16u32p12_flat(
     alloc: Global,
@@ -87,7 +87,7 @@ pub extern "C" fn constriction_bench_ans_decode_u16u32p12_lookup(
 
 /// Imports `words` into a coder, and exports them again.
 ///
-/// Copies the words to `out`, as many as fit. Returns how many there are, or 0 after a failure.
+/// Copies the words to `out`, as many as fit. Returns the total number of words, or 0 after a failure.
 #[unsafe(no_mangle)]
 pub extern "C" fn constriction_bench_ans_reload_u16u32p12(
     alloc: Global,
@@ -99,7 +99,7 @@ pub extern "C" fn constriction_bench_ans_reload_u16u32p12(
 
 /// Copies `words` to a new vector and from there to `out`, as the import and the export do, but without a coder.
 ///
-/// Copies the words to `out`, as many as fit. Returns how many there are, or 0 after a failure.
+/// Copies the words to `out`, as many as fit. Returns the total number of words, or 0 after a failure.
 #[unsafe(no_mangle)]
 pub extern "C" fn constriction_bench_copy_u16u32p12(
     alloc: Global,

@@ -96,7 +96,7 @@ where
 
 /// Fills `symbols` with symbols decoded from `words` in binary form, with a table of weights.
 ///
-/// Copies the remainders to `out`, as many words as fit. Returns how many there are, or 0 after a failure.
+/// Copies the remainders to `out`, as many words as fit. Returns their total number, or 0 after a failure.
 #[unsafe(no_mangle)]
 pub extern "C" fn constriction_bench_chain_decode_u16u32p12_table(
     alloc: Global,
@@ -130,7 +130,7 @@ pub extern "C" fn constriction_bench_chain_encode_u16u32p12_table(
 
 /// Fills `symbols` with symbols below `2^bits`, decoded from `words` in binary form with equal weights.
 ///
-/// Copies the remainders to `out`, as many words as fit. Returns how many there are, or 0 after a failure.
+/// Copies the remainders to `out`, as many words as fit. Returns their total number, or 0 after a failure.
 #[unsafe(no_mangle)]
 pub extern "C" fn constriction_bench_chain_decode_u16u32p12_flat(
     alloc: Global,
@@ -164,7 +164,7 @@ pub extern "C" fn constriction_bench_chain_encode_u16u32p12_flat(
 
 /// Fills `symbols` with symbols decoded from `words`, with a table that lists the symbol of each quantile.
 ///
-/// `words` are in binary form. Copies the remainders to `out`, as many words as fit. Returns how many words these are,
+/// `words` are in binary form. Copies the remainders to `out`, as many words as fit. Returns the total number of words,
 /// or 0 after a failure.
 #[unsafe(no_mangle)]
 pub extern "C" fn constriction_bench_chain_decode_u16u32p12_lookup(

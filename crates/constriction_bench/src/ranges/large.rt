@@ -8,7 +8,7 @@ use std::alloc::Global;
 
 /// Encodes symbols in order, with a table of weights.
 ///
-/// Copies the words to `out`, as many as fit. Returns how many there are, or 0 after a failure.
+/// Copies the words to `out`, as many as fit. Returns the total number of words, or 0 after a failure.
 #[unsafe(no_mangle)]
 pub extern "C" fn constriction_bench_range_encode_u32u64p24_table(
     alloc: Global,
@@ -38,7 +38,7 @@ pub extern "C" fn constriction_bench_range_decode_u32u64p24_table(
 
 /// Encodes symbols below `2^bits` in order, with equal weights.
 ///
-/// Copies the words to `out`, as many as fit. Returns how many there are, or 0 after a failure.
+/// Copies the words to `out`, as many as fit. Returns the total number of words, or 0 after a failure.
 #[unsafe(no_mangle)]
 pub extern "C" fn constriction_bench_range_encode_u32u64p24_flat(
     alloc: Global,

@@ -9,7 +9,7 @@ use std::alloc::Global;
 
 /// Encodes symbols in order, with a table of weights.
 ///
-/// Copies the words to `out`, as many as fit. Returns how many there are, or 0 after a failure.
+/// Copies the words to `out`, as many as fit. Returns the total number of words, or 0 after a failure.
 #[unsafe(no_mangle)]
 pub extern "C" fn constriction_bench_range_encode_u16u32p12_table(
     alloc: Global,
@@ -39,7 +39,7 @@ pub extern "C" fn constriction_bench_range_decode_u16u32p12_table(
 
 /// Encodes symbols below `2^bits` in order, with equal weights.
 ///
-/// Copies the words to `out`, as many as fit. Returns how many there are, or 0 after a failure.
+/// Copies the words to `out`, as many as fit. Returns the total number of words, or 0 after a failure.
 #[unsafe(no_mangle)]
 pub extern "C" fn constriction_bench_range_encode_u16u32p12_flat(
     alloc: Global,

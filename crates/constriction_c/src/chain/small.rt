@@ -402,7 +402,7 @@ pub extern "C" fn constriction_chain_into_compressed_u16(
     code_of(answer, needed)
 }
 
-/// Exports the binary form: appends to the compressed words the remainders head's bits below its leading 1.
+/// Exports the binary form: appends the remainders head's bits below its leading 1 to the compressed words.
 ///
 /// Calls [`into_binary`] and returns the code of its result ([`code_of`]).
 #[unsafe(no_mangle)]
