@@ -1,13 +1,12 @@
 //! `Scale`: a scale whose reciprocal is stored.
 
-ghost use Rattle.std.specs.Prelude.{◌≡◌, ◌/◌, ◌<◌, ◌↔◌, IfSome, IsNone};
+ghost use Rattle.std.specs.Prelude.{◌≡◌, ◌/◌, ◌↔◌, IfSome, IsNone};
 ghost use Rattle.constriction_models.specs.Interpolation.{scaled};
 
 use crate::distribution::CumulativeDistribution;
 use crate::location_scale::{LocationScale, StandardDistribution};
 use std::alloc::AllocError;
 use std::marker::PhantomData;
-use std::num::{nearest_u64_to_f64, saturating_f64_to_u64};
 
 /// A scale of a family of distributions, a multiple of `2^-16`, whose reciprocal is computed once.
 ///
@@ -48,7 +47,7 @@ impl<D: StandardDistribution> Scale<D> {
         }
         Some(Scale {
             scale,
-            rate: quotient(9223372036854775808 / D::WIDTH, scale),
+            rate: 9223372036854775808 / D::WIDTH / scale as u64,
             standard: PhantomData,
         })
     }
@@ -95,21 +94,4 @@ impl<D: StandardDistribution> Clone for Scale<D> {
     fn clone(&self) -> Result<Self, AllocError> {
         Ok(*self)
     }
-}
-
-/// Returns a quotient, rounded down.
-///
-/// A division of floats takes less time than one of 64-bit numbers. It gives a number near the quotient. The number is
-/// returned if its product shows that it is the quotient itself.
-#[inline(always)]
-fn quotient(whole: u64, part: u32) -> u64
-    requires { 0 < part }
-    ensures { result ≡ whole / part }
-{
-    let near = saturating_f64_to_u64(nearest_u64_to_f64(whole) / part as f64);
-    let product = near as u128 * part as u128;
-    if product <= whole as u128 && whole as u128 - product < part as u128 {
-        return near;
-    }
-    whole / part as u64
 }
