@@ -9,10 +9,10 @@ use Rattle.constriction_models.specs.declared.lookup.Row.{Row}
 use Rattle.constriction_models.specs.Lookup.{IsRowAt, AreRows, HasLowSymbols}
 
 -- an entry that holds a quantile is the one of its row
-pub row_of_entry : {P N : Type 0} (number : P → ℕ) (length_of : N → ℕ) (precision : ℕ) (table : List (ℕ × ℕ × ℕ)) (row : Row P N) (q : ℕ) → IsTable precision table → Has table row.symbol (number row.left) (length_of row.weight) → Covers (number row.left) (length_of row.weight) q
-    → IsRowAt number length_of table row q
-row_of_entry number length_of precision table row q is has covers symbol left p theirs holds =
-    one_at 0 (2 ^ precision) q table row.symbol symbol (number row.left) left (length_of row.weight) p is.follow has theirs covers holds
+pub row_of_entry : {P N : Type 0} (number : P → ℕ) (length_of : N → ℕ) (precision : ℕ) (table : List (ℕ × ℕ × ℕ)) (listed : ℕ) (row : Row P N) (q : ℕ) → IsTable precision table → Has table listed (number row.left) (length_of row.weight) → Covers (number row.left) (length_of row.weight) q
+    → IsRowAt number length_of table listed row q
+row_of_entry number length_of precision table listed row q is has covers symbol left p theirs holds =
+    one_at 0 (2 ^ precision) q table listed symbol (number row.left) left (length_of row.weight) p is.follow has theirs covers holds
 
 -- some entry holds each quantile
 pub record IsHeld (table : List (ℕ × ℕ × ℕ)) (q : ℕ) : Type 0 where
@@ -31,28 +31,35 @@ held low high q (e ∷ es) follow from below =
     ]
 
 -- so the row of a quantile is an entry that holds it
-pub entry_of_row : {P N : Type 0} (number : P → ℕ) (length_of : N → ℕ) (precision : ℕ) (table : List (ℕ × ℕ × ℕ)) (row : Row P N) (q : ℕ) → IsTable precision table → q < 2 ^ precision → IsRowAt number length_of table row q
-    → Has table row.symbol (number row.left) (length_of row.weight) × Covers (number row.left) (length_of row.weight) q
-entry_of_row number length_of precision table row q is inside at =
+pub entry_of_row : {P N : Type 0} (number : P → ℕ) (length_of : N → ℕ) (precision : ℕ) (table : List (ℕ × ℕ × ℕ)) (listed : ℕ) (row : Row P N) (q : ℕ) → IsTable precision table → q < 2 ^ precision → IsRowAt number length_of table listed row q
+    → Has table listed (number row.left) (length_of row.weight) × Covers (number row.left) (length_of row.weight) q
+entry_of_row number length_of precision table listed row q is inside at =
     let some = held 0 (2 ^ precision) q table is.follow (omega arith) inside in
     let same = at some.symbol some.left some.weight some.has some.covers in
     (rw (same.0, same.1, same.2) some.has, rw (same.1, same.2) some.covers)
 
--- the row of a quantile, and where its interval ends
-pub record IsCurrentRow {P N : Type 0} (number : P → ℕ) (length_of : N → ℕ) (table : List (ℕ × ℕ × ℕ)) (row : Row P N) (end q : ℕ) : Type 0 where
-  pub entry : Has table row.symbol (number row.left) (length_of row.weight)
+-- the symbol and the row of a quantile, and where its interval ends
+pub record IsCurrentRow {P N : Type 0} (number : P → ℕ) (length_of : N → ℕ) (table : List (ℕ × ℕ × ℕ)) (listed : ℕ) (row : Row P N) (end q : ℕ) : Type 0 where
+  pub entry : Has table listed (number row.left) (length_of row.weight)
   pub covers : Covers (number row.left) (length_of row.weight) q
   pub ends : end ≡ number row.left + length_of row.weight
-  pub low : row.symbol < 65536
+  pub low : listed < 65536
 
 -- one more is made
-pub one_more_row : {P N : Type 0} (number : P → ℕ) (length_of : N → ℕ) (table : List (ℕ × ℕ × ℕ)) (rows new : List (Row P N)) (count : ℕ) (row : Row P N) → AreRows number length_of table rows count → IsRowAt number length_of table row count → new ≡ rows ++ row ∷ []
-    → AreRows number length_of table new (count + 1)
-one_more_row number length_of table rows new count row are is pushed = rw pushed (record {
+pub one_more_row : {P N : Type 0} (number : P → ℕ) (length_of : N → ℕ) (table : List (ℕ × ℕ × ℕ)) (symbols more : List ℕ) (rows new : List (Row P N)) (count listed : ℕ) (row : Row P N) → AreRows number length_of table symbols rows count → IsRowAt number length_of table listed row count → more ≡ symbols ++ listed ∷ [] → new ≡ rows ++ row ∷ []
+    → AreRows number length_of table more new (count + 1)
+one_more_row number length_of table symbols more rows new count listed row are is told pushed = rw (told, pushed) (record {
+  symbol_count = omega (arith, length-append symbols (listed ∷ []), are.symbol_count);
   row_count = omega (arith, length-append rows (row ∷ []), are.row_count);
-  row_at = λ q inside other. elim (cases_lt q count) [
-    | inl before ↦ subst (λ x. IsRowAt number length_of table x q) (sym (get_or_append_left rows (row ∷ []) other q (omega (arith, are.row_count)))) (are.row_at q before other)
-    | inr past ↦ (let last : count ≡ q = omega arith in subst (λ (n : ℕ). IsRowAt number length_of table (slice_index_or (rows ++ row ∷ []) n other) n) last (subst (λ x. IsRowAt number length_of table x count) (sym (get_or_push rows row other count are.row_count)) is))
+  row_at = λ q inside none other. elim (cases_lt q count) [
+    | inl before ↦ (
+        let first = subst (λ x. IsRowAt number length_of table (slice_index_or symbols q none) x q) (sym (get_or_append_left rows (row ∷ []) other q (omega (arith, are.row_count)))) (are.row_at q before none other) in
+        subst (λ x. IsRowAt number length_of table x (slice_index_or (rows ++ row ∷ []) q other) q) (sym (get_or_append_left symbols (listed ∷ []) none q (omega (arith, are.symbol_count)))) first)
+    | inr past ↦ (
+        let last : count ≡ q = omega arith in
+        let first = subst (λ x. IsRowAt number length_of table listed x count) (sym (get_or_push rows row other count are.row_count)) is in
+        let both = subst (λ x. IsRowAt number length_of table x (slice_index_or (rows ++ row ∷ []) count other) count) (sym (get_or_push symbols listed none count are.symbol_count)) first in
+        subst (λ (n : ℕ). IsRowAt number length_of table (slice_index_or (symbols ++ listed ∷ []) n none) (slice_index_or (rows ++ row ∷ []) n other) n) last both)
   ];
 })
 

@@ -3,15 +3,16 @@ use Rattle.std.specs.Prelude.{◌≡◌, ℕ, ◌<◌, List, length, slice_index
 use Rattle.constriction_base.specs.Tables.{Has, Covers}
 use Rattle.constriction_models.specs.declared.lookup.Row.{Row}
 
--- The row has the symbol and the interval of each entry whose interval holds the quantile.
-abbrev pub IsRowAt : {P N : Type 0} → (P → ℕ) → (N → ℕ) → List (ℕ × ℕ × ℕ) → Row P N → ℕ → Type 0
-IsRowAt number length_of table row q = (symbol left p : ℕ) → Has table symbol left p → Covers left p q
-    → (row.symbol ≡ symbol) × (number row.left ≡ left) × (length_of row.weight ≡ p)
+-- The symbol `listed` and the row are the symbol and the interval of each entry whose interval holds the quantile.
+abbrev pub IsRowAt : {P N : Type 0} → (P → ℕ) → (N → ℕ) → List (ℕ × ℕ × ℕ) → ℕ → Row P N → ℕ → Type 0
+IsRowAt number length_of table listed row q = (symbol left p : ℕ) → Has table symbol left p → Covers left p q
+    → (listed ≡ symbol) × (number row.left ≡ left) × (length_of row.weight ≡ p)
 
--- The list has the rows of the first `count` quantiles.
-pub record AreRows {P N : Type 0} (number : P → ℕ) (length_of : N → ℕ) (table : List (ℕ × ℕ × ℕ)) (rows : List (Row P N)) (count : ℕ) : Type 0 where
+-- The lists have the symbols and the rows of the first `count` quantiles.
+pub record AreRows {P N : Type 0} (number : P → ℕ) (length_of : N → ℕ) (table : List (ℕ × ℕ × ℕ)) (symbols : List ℕ) (rows : List (Row P N)) (count : ℕ) : Type 0 where
+  pub symbol_count : length symbols ≡ count
   pub row_count : length rows ≡ count
-  pub row_at : (q : ℕ) → q < count → (other : Row P N) → IsRowAt number length_of table (slice_index_or rows q other) q
+  pub row_at : (q : ℕ) → q < count → (none : ℕ) (other : Row P N) → IsRowAt number length_of table (slice_index_or symbols q none) (slice_index_or rows q other) q
 
 -- The table has a symbol above 65535.
 abbrev pub HasHighSymbol : List (ℕ × ℕ × ℕ) → Type 0

@@ -1,7 +1,8 @@
 //! `ContiguousLookupDecoderModel`: a model with a row for each quantile.
 //!
-//! A row holds a symbol and its interval, so a decode reads one list instead of two. A symbol takes 16 bits of a row.
-//! If probabilities are `u16`, a row takes 6 bytes. At a precision of 12 bits, all rows then fit the first-level cache.
+//! A row holds the interval of a quantile's symbol. The symbols are in a second list, because the next step of a decoder
+//! doesn't wait for them. If probabilities are `u16`, a row takes 4 bytes and a symbol 2 bytes. A processor scales an
+//! index by these sizes as it loads. At a precision of 12 bits, both lists fit the first-level cache.
 
 ghost use Rattle.std.specs.Prelude.{◌≡◌, ◌+◌, ◌^◌, ◌<◌, ◌≤◌, IfOk, IsErrOf};
 ghost use Rattle.constriction_base.specs.Tables.{Has, Covers};
@@ -33,19 +34,21 @@ pub enum LookupError {
     Memory,
 }
 
-/// A symbol, with the start and the length of its interval.
+/// The start and the length of the interval that holds a quantile.
 #[derive(Drop, Clone, Copy)]
 struct Row<P: Copy + Drop, N: Copy + Drop> {
-    symbol: u16,
     left: P,
     weight: N,
 }
 
+/// A list of rows over probabilities of one type.
+type Rows<P> = Vec<Row<P, <P as BitArray>::NonZero>>;
+
 /// A model of the symbols `0`, `1`, .. with a row for each quantile, so that one look-up finds a quantile's symbol.
 ///
-/// It has the same table as the model that it is built from. A row holds a symbol and its interval. A row takes 6 bytes
-/// if probabilities are `u16`, and 12 bytes if they are `u32`. At a precision of 12 bits, all rows together take 24 or
-/// 48 KiB.
+/// It has the same table as the model that it is built from. It stores the symbol and the interval of each quantile, in
+/// 6 bytes if probabilities are `u16`, and in 10 bytes if they are `u32`. At a precision of 12 bits, these are 24 or
+/// 40 KiB.
 ///
 /// # Examples
 ///
@@ -60,18 +63,22 @@ pub struct ContiguousLookupDecoderModel<
     const PRECISION: usize,
 > {
     model: M,
-    /// The row of each quantile.
-    rows: Vec<Row<M::Probability, <M::Probability as BitArray>::NonZero>>,
-    ghost found: { AreRows M.Probability.number M.Probability.nonzero_number (M.table model) rows.items (2 ^ PRECISION) },
+    /// The interval that holds each quantile.
+    rows: Rows<M::Probability>,
+    /// The symbol of each quantile.
+    symbols: Vec<u16>,
+    ghost found: { AreRows M.Probability.number M.Probability.nonzero_number (M.table model)
+        symbols.items rows.items (2 ^ PRECISION) },
 }
 
-/// Returns the row of `quantile`, and the end of the row's interval.
+/// Returns the row of `quantile`, its symbol, and the end of its interval.
 fn row_at<M: DecoderModel<PRECISION, Symbol = usize>, const PRECISION: usize>(
     model: &M,
     quantile: u32,
 ) -> Result<
     (
         Row<M::Probability, <M::Probability as BitArray>::NonZero>,
+        u16,
         u32,
     ),
     LookupError,
@@ -80,39 +87,36 @@ where
     M::Probability: WordOf<u32>,
     requires small { PRECISION ≤ 16 }
     requires quantile { quantile < 2 ^ PRECISION }
-    ensures found { IfOk result (λ r. Has (M.table model.now) r.0.symbol (M.Probability.number r.0.left)
+    ensures found { IfOk result (λ r. Has (M.table model.now) r.1 (M.Probability.number r.0.left)
         (M.Probability.nonzero_number r.0.weight)) }
     ensures covers { IfOk result (λ r. Covers (M.Probability.number r.0.left)
         (M.Probability.nonzero_number r.0.weight) quantile) }
-    ensures end { IfOk result (λ r. r.1 ≡ M.Probability.number r.0.left + M.Probability.nonzero_number r.0.weight) }
-    ensures fits { IfOk result (λ r. r.0.symbol < 65536) }
+    ensures end { IfOk result (λ r. r.2 ≡ M.Probability.number r.0.left + M.Probability.nonzero_number r.0.weight) }
+    ensures fits { IfOk result (λ r. r.1 < 65536) }
     ensures symbol { IsErrOf result LookupError.Symbol → HasHighSymbol (M.table model.now) }
 {
     let (symbol, left, weight) = model.quantile_function(M::Probability::narrow(quantile));
     if symbol > 65535 {
         return Err(LookupError::Symbol);
     }
-    let row = Row {
-        symbol: symbol as u16,
-        left,
-        weight,
-    };
     Ok((
-        row,
+        Row { left, weight },
+        symbol as u16,
         left.widen() + M::Probability::from_nonzero(weight).widen(),
     ))
 }
 
-/// Returns the rows of all quantiles of `model`, from quantile 0 on.
+/// Returns the row and the symbol of each quantile of `model`, from quantile 0 on.
 fn rows_of<M: DecoderModel<PRECISION, Symbol = usize>, const PRECISION: usize>(
     alloc: Global,
     model: &M,
-) -> Result<Vec<Row<M::Probability, <M::Probability as BitArray>::NonZero>>, LookupError>
+) -> Result<(Rows<M::Probability>, Vec<u16>), LookupError>
 where
     M::Probability: WordOf<u32>,
     requires { PRECISION ≤ 16 }
     ensures found { IfOk result
-        (λ rows. AreRows M.Probability.number M.Probability.nonzero_number (M.table model.now) rows.items (2 ^ PRECISION)) }
+        (λ made. AreRows M.Probability.number M.Probability.nonzero_number (M.table model.now)
+        made.1.items made.0.items (2 ^ PRECISION)) }
     ensures fits { IfOk result (λ _. HasLowSymbols (M.table model.now)) }
     ensures symbol { IsErrOf result LookupError.Symbol → HasHighSymbol (M.table model.now) }
 {
@@ -120,16 +124,22 @@ where
     let Ok(mut rows) = Vec::with_capacity(alloc, count as usize) else {
         return Err(LookupError::Memory);
     };
-    let (mut row, mut end) = row_at(model, 0)?;
+    let Ok(mut symbols) = Vec::with_capacity(alloc, count as usize) else {
+        return Err(LookupError::Memory);
+    };
+    let (mut row, mut symbol, mut end) = row_at(model, 0)?;
     for quantile in 0..count {
         if quantile >= end {
-            (row, end) = row_at(model, quantile)?;
+            (row, symbol, end) = row_at(model, quantile)?;
         }
         if rows.push(row).is_err() {
             return Err(LookupError::Memory);
         }
+        if symbols.push(symbol).is_err() {
+            return Err(LookupError::Memory);
+        }
     }
-    Ok(rows)
+    Ok((rows, symbols))
 }
 
 impl<
@@ -154,8 +164,12 @@ where
         ensures fits { IfOk result (λ _. HasLowSymbols (M.table model)) }
         ensures symbol { IsErrOf result LookupError.Symbol → HasHighSymbol (M.table model) }
     {
-        let rows = rows_of(alloc, &model)?;
-        Ok(ContiguousLookupDecoderModel { model, rows })
+        let (rows, symbols) = rows_of(alloc, &model)?;
+        Ok(ContiguousLookupDecoderModel {
+            model,
+            rows,
+            symbols,
+        })
     }
 }
 
@@ -195,7 +209,8 @@ where
         &self,
         quantile: M::Probability,
     ) -> (usize, M::Probability, <M::Probability as BitArray>::NonZero) {
-        let row = &self.rows[quantile.widen() as usize];
-        (row.symbol as usize, row.left, row.weight)
+        let place = quantile.widen() as usize;
+        let row = &self.rows[place];
+        (self.symbols[place] as usize, row.left, row.weight)
     }
 }
