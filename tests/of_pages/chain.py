@@ -64,18 +64,18 @@ def way_there(page):
         page.row(name, it.bits or "none", word, f"{it.answer}, which is {quantile}", it.left_over or "none")
         page.row(name, quantile, it.symbol, it.place, it.way())
     heads = [int("1" + bits, 2) for bits in ("", decodes[0].left_over, decodes[1].left_over)]
-    page.has(f"a 1 and then the bits: {heads[0]}, then {heads[1]} (1 {decodes[0].left_over}), then {heads[2]} again")
-    page.has("Where that is 2^12 or more, its low word moves out")
+    page.has(f"a 1 and then the bits. Here the number is {heads[0]}, then {heads[1]} (1 {decodes[0].left_over}), then {heads[2]} again")
+    page.has("If the new `r` is 2^12 or more, its low word moves out")
     judge((decodes[-1].left_over, words) == ("", []), "no bits and no words are left")
     high, low = divmod(decodes[-1].grown, 256)
-    page.has(f"`{decodes[-1].grown} = {high} * 256 + {low}`, so they are `{listed([low, high, heads[2]])}`")
+    page.has(f"`{decodes[-1].grown} = {high} * 256 + {low}`, so the remainders are `{listed([low, high, heads[2]])}`")
     return decodes[-1].grown
 
 
 def other_model(page):
     """Both coders over the same words, under two models for the first symbol."""
     head = WORDS[1] * 256 + WORDS[0]
-    page.has(f"With the first weights {series(OTHER)} in place of {series(WEIGHTS)}")
+    page.has(f"With the weights {series(OTHER)} in place of {series(WEIGHTS)} for the first symbol")
     ways = []
     for first in (WEIGHTS, OTHER):
         decodes, _ = decoded([first, WEIGHTS], WORDS)
@@ -86,8 +86,9 @@ def other_model(page):
         page.row("stack coder", series(first), f"{quantile}, {following}", f"{one}, {two}")
         begins, length = entries(first)[one]
         ways.append(f"{head // 16} * {length} + {quantile - begins} = {left}")
-    page.has(f"the chain coder's `r` is {decodes[0].way()} and then {decodes[1].way()}")
-    page.has(f"has the head {head} at first. Its first pop leaves {ways[0]} or {ways[1]}")
+    page.has(f"Under the weights {series(OTHER)} the chain coder's `r` is {decodes[0].way()} and then {decodes[1].way()}")
+    page.has(f"has the head {head} at first. Its first pop leaves {ways[0]} (weights {series(WEIGHTS)}) or")
+    page.has(f"{ways[1]} (weights {series(OTHER)})")
 
 
 def way_back(page, number):
@@ -103,28 +104,28 @@ def way_back(page, number):
             bits, word = bits[:-4], int(f"{bits[-4:]}{quantile:04b}", 2)
         page.row(1, old, place, quantile, number, bits or "none", word)
     judge((number, bits, word) == (WORDS[1], "", WORDS[0]), "the words come back")
-    page.has("Where `r` is below `p * 2^4`")
-    page.has(f"`into_compressed` gives `{listed(WORDS)}`")
+    page.has("If `r` is below `p * 2^4`")
+    page.has(f"`into_compressed` returns `{listed(WORDS)}`")
 
 
 def test():
     page = Page("docs/CHAIN.md")
-    page.has(f"With 4 bits of precision and the weights {series(WEIGHTS)}")
+    page.has(f"This table has 4 bits of precision and the weights {series(WEIGHTS)}")
     for symbol, (left, length) in enumerate(entries(WEIGHTS)):
         page.row(symbol, left, length, quantiles(left, length), bits_of_information(length, 4))
-    page.has(f"imports the words `{listed(WORDS)}`, the last one first: words are read until `r` is at least 2^4")
-    page.has(f"So `r` is {WORDS[1]}, the word {WORDS[0]} is left")
+    page.has(f"imports the words `{listed(WORDS)}`, the last one first: it reads words until `r` is at least 2^4")
+    page.has(f"So `r` is {WORDS[1]}, the word {WORDS[0]} stays on the stack")
     page.has(f"The word {WORDS[0]} as eight bits: the low four are the first quantile, the high four the second one")
     number = way_there(page)
     other_model(page)
     way_back(page, number)
     carried = 2 * (4 - log2(11))
-    page.has(f"Two quantiles took 8 bits. The symbols carry {carried:.2f} bits under their model, and the other")
-    page.has(f"{8 - carried:.2f} are in the remainders")
+    page.has(f"Two quantiles take 8 bits. The symbols carry {carried:.2f} bits under their model, and the other")
+    page.has(f"{8 - carried:.2f} bits are in the remainders")
     page.has("At precision 4, `r` is at least 2^4 and below 2^12; at precision 8, at least 1 and below 2^8")
     high, low = divmod(number, 256)
     judge(1 <= high < 2**8 <= number, "a change of the precision moves one word")
     page.has(f"`increase_precision::<8>` writes the word {low} and leaves `r = {high}`")
-    page.has("and `decrease_precision::<4>` takes it back")
+    page.has("and `decrease_precision::<4>` takes the word back")
     # Sizes, and the symbol's length.
     page.rest("1", "2", "4", "8", "11", "16")

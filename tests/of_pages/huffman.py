@@ -53,7 +53,7 @@ def codewords(page, ways):
     shown = " + ".join(f"{weight}*{length}" for weight, length in zip(WEIGHTS, lengths))
     content = sum(weight * log2(total / weight) for weight in WEIGHTS) / total
     page.has(f"take `({shown}) / {total} = {sum(costs) / total:g}` bits each")
-    page.has(f"where their information content is {content:.2f}")
+    page.has(f"where their information content is {content:.2f} bits")
 
 
 def nodes(page, steps, ways):
@@ -70,7 +70,7 @@ def nodes(page, steps, ways):
     first, second, third = (f"{node} (bit {node % 2}, union {node // 2})" for node in climb)
     bits = series(node % 2 for node in climb)
     climbed = f"From symbol 3's leaf the encoder goes up through nodes {first}, {second} and {third} to the root."
-    page.has(f"{climbed} That is {bits}")
+    page.has(f"{climbed} The bits {bits} are the codeword from its last bit to its first")
 
     page.row("Union", *[union for _, _, _, union, _ in steps])
     page.row("Bit 0, bit 1", *[f"{first}, {second}" for _, first, second, _, _ in steps])
@@ -104,7 +104,7 @@ def least(page):
         "Exp-Golomb, shortest for the greatest weight": golomb,
         "of a tree that joins the two greatest weights": ["1", "01", "001", "0001", "0000"],
     }
-    page.has(f"With the weights {series(weights)}:")
+    page.has(f"for the weights {series(weights)}:")
     terms = " + ".join(f"{weight}*{len(codeword)}" for weight, codeword in zip(weights, tree))
     page.row(f"of the tree: {series(tree)}", f"{terms} = {cost(weights, tree)}")
     judge(cost(weights, tree) == least_cost(weights), "no codewords of these weights cost less")
@@ -119,7 +119,7 @@ def cost(weights, codewords):
 
 def test():
     page, steps, ways = Page("docs/HUFFMAN.md"), merged(WEIGHTS), ways_of(WEIGHTS)
-    page.has(f"With the weights {series(WEIGHTS)}:")
+    page.has(f"for the weights {series(WEIGHTS)}:")
     last, root = len(WEIGHTS) - 1, len(ways) - 1
     page.has(f"A tree of the symbols 0 to {last} as leaves and the unions {last + 1} to {root}")
     for count, (left, first, second, union, weight) in enumerate(steps, 1):

@@ -20,7 +20,7 @@ def table(page):
     """The normal distribution of mean 0.5 and deviation 1 over five symbols, at 8 bits."""
     location, scale, count = models.location_of(0.5), models.scale_of(1.0), GREATEST - LEAST + 1
     starts = models.starts(models.GAUSSIAN, location, scale, LEAST, count, PRECISION)
-    page.has(f"With the symbols {LEAST} to {GREATEST}, {PRECISION} bits, and the normal distribution of mean 0.5 and")
+    page.has(f"This table has the symbols {LEAST} to {GREATEST}, {PRECISION} bits, and the normal distribution of mean 0.5 and")
     for k in range(count + 1):
         place = (LEAST + k) * models.UNIT - models.UNIT // 2
         below = 0 if k == 0 else models.ALL if k == count else models.below(models.GAUSSIAN, location, scale, place)
@@ -87,7 +87,7 @@ def margin(page):
             exact = formula(Decimal(k) / distributions.STEPS[family] - distributions.REACH[family]) * models.ALL
             apart.append(abs(exact % 1 - Decimal("0.5")))
     digits = f"{int(min(apart) * 10000) / 10000:.4f}"
-    page.has(f"none lies within {digits} of where its rounding turns")
+    page.has(f"none lies within {digits} of a half, where rounding turns")
 
 
 def mixtures(page):
@@ -97,7 +97,8 @@ def mixtures(page):
     first, other = (models.below(models.GAUSSIAN, location, scale, place) for _, location, scale in parts)
     below = models.mixed(models.GAUSSIAN, parts, place)
     shared = (2**PRECISION - count) * below // models.ALL
-    page.has(f"Below -0.5 lie `floor((3 * {first} + {other}) / 4) = {below}`, of which {shared} are shared out, so symbol 0 begins at {shared - LEAST}.")
+    page.has(f"The value at -0.5 is `floor((3 * {first} + {other}) / 4) = {below}`.")
+    page.has(f"So `floor({2**PRECISION - count} * F / 2^32)` is {shared}, and symbol 0 begins at {shared - LEAST}.")
 
 
 def histograms(page):

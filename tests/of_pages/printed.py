@@ -45,7 +45,7 @@ def programs():
     """A program that is `run` of a file is named so above it."""
     name = "docs/EXAMPLES.md"
     for above, _, text in blocks(name):
-        for path in re.findall(r"It is `run` of `([\w/]+\.rt)`", above):
+        for path in re.findall(r"is the function `run` of `([\w/]+\.rt)`", above):
             ours = body(text, "main")
             judge(ours and ours == body(read(path), "run"), f"{name}: not `run` of {path}")
 

@@ -91,7 +91,7 @@ def next_word(page, run):
         known = end <= 65536 or begin >= 65536
         judge(known == (symbol != 1) and (begin >= 65536) == (symbol >= 2), "which word it is")
         page.row(symbol, begin, end, f"{held + (begin >= 65536)}{why.get(symbol, '')}" if known else "not known yet")
-    page.has(f"**holds** the word {held}. Its situation is `Inverted(1, {held})`: one word is held")
+    page.has(f"**holds** the word {held}. Its `EncoderSituation` is `Inverted(1, {held})`: one word is held")
     page.has(f"and it is {held} unless a **carry** comes")
     return held, lower
 
@@ -112,7 +112,7 @@ def waiting(page, runs, words):
     page.row(3, lower, length, held + 1, both % 256, why)
     judge(lower + length == 65536, "an interval that just reaches the end")
     page.has(f"`{lower} + {length}` is exactly 65536")
-    page.has(f"its own word is {words[2]}")
+    page.has(f"then its own word, {words[2]}")
 
     run, _ = narrowed(WEIGHTS, 1, *runs[0])
     a, b = digits(run[0] // 2**16, 2)
@@ -136,20 +136,20 @@ def reading(page, runs, words):
 def following(page):
     """The seal that any words may follow, with states of 32 bits."""
     tables, symbols = [[27, 229], [19, 237], [128, 128]], [0, 0, 1]
-    shown = [f"{symbol} under `{listed(table)}`" for symbol, table in zip(symbols, tables)]
-    page.has(f"With states of 32 bits `q` is `2^24`. Symbol {shown[0]}, {shown[1]} and {shown[2]} leave")
+    shown = [f"{symbol} (`{listed(table)}`)" for symbol, table in zip(symbols, tables)]
+    page.has(f"With states of 32 bits `q` is `2^24`. Under the weights in brackets, symbol {shown[0]}, {shown[1]} and {shown[2]} leave")
     low, length, moves = steps(page, tables, symbols, 32)[-1]
     number, words = sealed(low, length, moves, 32)
     room, zeros = low + length - number * 2**24, zero_words(low, length, 32)
     page.has(f"So `c = {number}`, and `A + R` is {low + length}, which is `c * q + {room}`")
-    page.has(f"With one zero word it needs {2**24 // 256}, with two {2**24 // 256**2}. It holds {room}, so `t` is {zeros}")
+    page.has(f"With one zero word it needs {2**24 // 256} numbers, with two {2**24 // 256**2}. It holds {room}, so `t` is {zeros}")
     longer = digits(number, moves + 1) + [0] * zeros
     others, within = words + [255, 255], words + [0, 255]
     judge(found(tables, words, 32)[0] == found(tables, within, 32)[0] == symbols, "what may follow the seal")
     judge(found(tables, others, 32)[0][:2] == [0, 1] and number_of(others, 4) >= low + length, "what may not")
     enough = f"The `{listed(words)}` of `into_compressed` isn't enough: `{listed(others)}` is past the interval"
     page.has(f"the words are `{listed(longer)}`. {enough}")
-    page.has(f"`{listed(within)}` lies within")
+    page.has(f"`{listed(within)}` lies within it")
     page.has("Where a state is two words, `t` is 0 or 1")
 
 

@@ -30,18 +30,16 @@ def speed(page):
         found = sorted(ratio for case, ratio in ratios.items() if re.fullmatch(pattern, case))
         return ", ".join(found) if len(found) <= 2 else f"{found[0]} to {found[-1]}"
 
-    for coder, name in (("stack coder (ANS)", "ans"), ("range coder", "range"), ("chain coder", "chain")):
-        others = of(f"{name}_decode_.*_(bucket|lookup|flat)")
-        encodes = f"{of(f'{name}_encode_.*_table')}; {of(f'{name}_encode_.*_flat')}"
-        page.row(coder, encodes, of(f"{name}_decode_.*_table"), others)
+    for coder, name in (("Stack coder (ANS)", "ans"), ("Range coder", "range"), ("Chain coder", "chain")):
+        encodes = of(f"{name}_encode_.*_table"), of(f"{name}_encode_.*_flat")
+        page.row(coder, *encodes, of(f"{name}_decode_.*_table"), of(f"{name}_decode_.*_(bucket|lookup|flat)"))
     # The Rust crate's writes of bits can be slow by their place in the program: docs/TIMES.md has the ratio to a fast one.
-    write = re.search(r"by that both of ours are at ([\d.]+\d)", read("docs/TIMES.md"))
+    write = re.search(r"which makes both ratios ([\d.]+\d)", read("docs/TIMES.md"))
     judge(write, "docs/TIMES.md: the writes of bits")
-    encodes, decodes = of("golomb_encode_.*"), of("golomb_decode_.*")
-    page.row("Exp-Golomb; single bits", f"{encodes}; {write and write[1]}", "", f"{decodes}; {of('bits_read_.*')}")
-    encodes = f"{of('huffman_encode_.*')}; {of('huffman_make_encoder_.*')}"
-    decodes = f"{of('huffman_decode_.*')}; {of('huffman_make_decoder_.*')}"
-    page.row("Huffman trees; their making", encodes, "", decodes)
+    page.row("Exp-Golomb", of("golomb_encode_.*"), of("golomb_decode_.*"))
+    page.row("Single bits", write and write[1], of("bits_read_.*"))
+    page.row("Huffman coding", of("huffman_encode_.*"), of("huffman_decode_.*"))
+    page.row("Building a Huffman tree", of("huffman_make_encoder_.*"), of("huffman_make_decoder_.*"))
 
 
 def gate():
@@ -86,7 +84,7 @@ def commands(readme, program):
     def shown(numbers):
         return " ".join(map(str, numbers))
 
-    readme.has(f"first 0 becomes 3, and a second time 3 becomes {3 // 2 * 2**24 + 3 + 3 % 2}")
+    readme.has(f"turns 0 into 3. The second turns 3 into {3 // 2 * 2**24 + 3 + 3 % 2}")
     words = shown(by.ans_words([[3, 2, 16777211]] * 2, [1, 1]))
     prints("ans-encode", "3 2 16777211\\n1 1", f"prints {words}", readme)
     prints("ans-decode", f"3 2 16777211\\n2 {words}", "prints 1 1", readme)
@@ -95,7 +93,7 @@ def commands(readme, program):
     prints("range-decode", f"8388608 8388608\\n1 {words}", "1")
     symbols, left, remainders = by.chain_split(HALVES, [287454020, 256])
     judge(not left, "the words left of a chain coder")
-    answer = f"{shown(symbols)}; no words left; {shown(remainders)}"
+    answer = f"{shown(symbols)}; no unread words; {shown(remainders)}"
     prints("chain-split", "8388608 8388608\\n1 287454020 256", answer)
     codewords = [by.golomb_codeword(number) for number in (0, 5, 7)]
     answer = f"{shown(codewords)}; {shown(by.queue_words(''.join(codewords)))}"
@@ -138,4 +136,4 @@ def test():
     speed(page)
     gate()
     rounding = f"{log2(1 + 2 ** -(64 - 32 - 24)):.4f}"
-    page.has(f"bits a step for rounding ({rounding} at 24 bits, words of 32 and states of 64), plus a head's bits")
+    page.has(f"{rounding} bits a symbol for rounding (at 24 bits, words of 32 and states of 64)")

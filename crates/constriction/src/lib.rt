@@ -1,6 +1,7 @@
 //! Entropy coders over lists of words: lossless compression under models of the symbols' probabilities.
 //!
-//! The coders come close to the least number of bits that the models allow. A proved contract says what each call does.
+//! The coders come close to the least number of bits that the models allow. A proved contract states what each call
+//! does.
 //!
 //! This crate has no code of its own. It re-exports the items of the crates that it depends on in one tree of modules.
 //! So your crate needs to depend on this crate alone. `specs/` re-exports the definitions that the contracts cite.
@@ -32,10 +33,10 @@
 //! - [`BitArray`]: a type of unsigned numbers with a fixed number of bits, for words and heads.
 //! - [`WordOf`]: a type of words that fit another type of numbers, such as the type of states.
 //! - [`Reciprocal`]: divides by one number, such as a symbol's weight, with a multiplication.
-//! - [`Stack`], [`Queue`], [`Semantics`]: which word of a backend is read next. A stack returns the last word, and a
-//!   queue returns the first word.
+//! - [`Stack`], [`Queue`], [`Semantics`]: the order in which a backend's words are read. A stack reads the last word
+//!   first, and a queue reads the first word first.
 //! - [`Pos`], [`Seek`], [`PosSeek`]: recording a position of a backend or a coder, and seeking to it.
-//! - [`CoderError`]: the error of an encode or a decode, from the model or from the backend. [`DefaultEncoderError`]
+//! - [`CoderError`]: the error of an encode or a decode, from the coder or from its backend. [`DefaultEncoderError`]
 //!   and [`DefaultEncoderFrontendError`] are errors of an encoder. [`ReadWriteError`] is the error of a call that reads
 //!   and writes.
 //!
@@ -49,15 +50,15 @@
 //! - [`backends::ReadWords`], [`backends::WriteWords`]: reading and writing a word of a backend ([`backends::Holds`]).
 //!   [`backends::BoundedReadWords`] returns how many words are left.
 //! - [`backends::IntoReadWords`], [`backends::AsReadWords`], [`backends::IntoSeekReadWords`] and
-//!   [`backends::AsSeekReadWords`]: making a reader from a backend, or over a borrowed backend.
+//!   [`backends::AsSeekReadWords`]: turning a backend into a reader, or borrowing a backend for a reader.
 //! - [`backends::IntoReversed`]: reversing a backend's buffer in place. The new backend holds the same stack of words.
-//! - [`backends::Words`], [`backends::WordsMut`]: a buffer that lends its words.
+//! - [`backends::Words`], [`backends::WordsMut`]: a buffer that lends its words, and a buffer that can change them.
 //! - [`backends::BothWays`], [`backends::CountsWords`], [`backends::SeeksBack`]: requirements of some calls on a
-//!   backend. The first says that the backend holds the same words as a stack and as a queue. The second says that the
-//!   backend's position is the number of its words. The third says that the backend can seek to its own position.
+//!   backend. `BothWays`: the backend holds the same words as a stack and as a queue. `CountsWords`: the backend's
+//!   position is the number of words on its stack. `SeeksBack`: the backend can seek to its current position.
 //! - [`backends::written_to_queue`]: turns written words into a reader that begins with the first word.
 //!   [`backends::take_back`]: removes written words again.
-//! - [`backends::Cursor`]: a buffer and a position in it. [`backends::Reverse`]: the same, read in the other direction.
+//! - [`backends::Cursor`]: a buffer and a position in it. [`backends::Reverse`]: a cursor read in the other direction.
 //!   [`backends::FallibleIteratorReadWords`]: the items of an iterator. `Vec` is a backend too.
 //! - [`backends::BoundedWriteError`]: the error of a full buffer. [`backends::ReadWriteError`]: the error of a call
 //!   that reads and writes.
@@ -68,7 +69,8 @@
 //!   [`stream::Lent`] is a symbol passed to a list call.
 //! - [`stream::EncodeReverse`]: encoding lists from the last symbol to the first, for code that is generic over coders.
 //!   The stack coder and the chain coder also have these calls as methods of their own.
-//! - [`stream::IntoDecoder`], [`stream::AsDecoder`]: making a decoder from an encoder, or over a borrowed encoder.
+//! - [`stream::IntoDecoder`], [`stream::AsDecoder`]: turning an encoder into a decoder, or borrowing an encoder for a
+//!   decoder.
 //! - [`stream::DecodeSymbols`], [`stream::TryDecodeSymbols`], [`stream::DecodeIidSymbols`]: iterators over decoded
 //!   symbols.
 //! - [`stream::TryCodingError`]: the error of a list call whose items may be errors.
@@ -76,7 +78,7 @@
 //! ## [`stream::model`]: probabilities of symbols
 //!
 //! - [`stream::model::EntropyModel`], [`stream::model::EncoderModel`], [`stream::model::DecoderModel`]: the traits of
-//!   models. A model has a table, which gives each symbol an interval of the numbers below `2 ^ PRECISION`.
+//!   models. A model has a table, which gives symbols intervals of the numbers below `2 ^ PRECISION`.
 //! - [`stream::model::WeightTable`]: the table of a list of weights. [`stream::model::TableError`] is the error of
 //!   weights that make no table.
 //! - [`stream::model::LeakyQuantizer`]: turns a distribution into a model whose symbols are integers
@@ -125,7 +127,7 @@
 //! - [`stream::chain::DecoderFrontendError`], [`stream::chain::EncoderFrontendError`], [`stream::chain::BackendError`],
 //!   [`stream::chain::ChangePrecisionError`]: the errors of its calls.
 //!
-//! # [`store`]: many lists in one list of words, each decoded alone
+//! # [`store`]: many lists of symbols in one list of words, where each list is decoded alone
 //!
 //! - [`store::Store`]: chunks of symbols under one model, with an index that has the position of each chunk. A store
 //!   has at most [`store::MOST_SYMBOLS`] symbols. [`store::BuildError`], [`store::ChunkError`] and [`store::BadIndex`]
@@ -151,7 +153,7 @@
 //! - [`laws::lists`]: if each step can be undone, so can a list of steps.
 //! - [`laws::bounds`]: upper bounds on the number of words of the stack coder and of the range coder, for any list of
 //!   steps. Also, which words may follow the words of a range coder.
-//! - [`laws::chain`]: the chain coder. [`laws::chain::isolation`] says that its symbols don't depend on each other's
+//! - [`laws::chain`]: the chain coder. [`laws::chain::isolation`] states that its symbols don't depend on each other's
 //!   models. [`laws::chain::steps`], [`laws::chain::lists`] and [`laws::chain::words`] are about one step, about lists,
 //!   and about restoring words from the remainders. [`laws::chain::round_trips`] decodes symbols and encodes them
 //!   again.

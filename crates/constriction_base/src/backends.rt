@@ -5,13 +5,13 @@
 //! last is read first.
 //!
 //! - `semantics`: the two reading orders.
-//! - `reading`: reading words, and how many are left.
+//! - `reading`: reading words, and counting the words left to read.
 //! - `writing`: writing words, and asking for room.
-//! - `seeking`: positions, and going to them.
+//! - `seeking`: recording positions, and seeking to them.
 //! - `lending`: buffers that lend their words as a slice.
 //! - `conversions`: values that turn into a backend for reading, or lend one.
 //! - `taking`: taking written words off again.
-//! - `both_ways`: the same words as a stack and as a queue.
+//! - `both_ways`: backends that hold the same words as a stack and as a queue.
 
 pub mod both_ways;
 pub mod conversions;

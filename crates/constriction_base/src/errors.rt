@@ -24,10 +24,10 @@ use thiserror::Error;
 #[derive(Debug, Clone, PartialEq, Eq, Hash, Drop, Error)]
 #[error_bound(F: Display, B: Display)]
 pub enum CoderError<F, B> {
-    /// The frontend refused: it can't code the symbol, the model or the data.
+    /// The frontend refused the call, for example because the symbol is impossible or the data is invalid.
     #[error("{0}")]
     Frontend(F),
-    /// The backend refused a read, a write, or a request for room.
+    /// The backend refused a read, a write or a request for room.
     #[error("{0}")]
     Backend(B),
 }

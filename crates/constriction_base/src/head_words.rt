@@ -16,7 +16,7 @@ use crate::backends::semantics::Stack;
 use crate::backends::writing::WriteWords;
 use constriction_words::{BitArray, WordOf};
 
-/// Returns the number of words of a head, without leading zero words.
+/// Returns the number of words of `head`, without leading zero words.
 #[inline]
 pub fn count_of_words<Word: WordOf<State>, State: BitArray>(head: State) -> usize
     requires { IsSizes Word.BITS State.BITS }
@@ -31,9 +31,9 @@ pub fn count_of_words<Word: WordOf<State>, State: BitArray>(head: State) -> usiz
     count
 }
 
-/// Returns how many words the bits below a head's highest set bit fill, or `None` if they don't fill whole words.
+/// Returns how many words the bits below the highest set bit of `head` fill, or `None` if they don't fill whole words.
 ///
-/// It also returns `None` for the head 0.
+/// It also returns `None` if `head` is 0.
 pub fn words_below_one<Word: WordOf<State>, State: BitArray>(head: State) -> Option<usize>
     requires { IsSizes Word.BITS State.BITS }
     ensures value { IfSome result (λ m. IsOneAbove Word.BITS m (State.number head)) }
@@ -49,7 +49,7 @@ pub fn words_below_one<Word: WordOf<State>, State: BitArray>(head: State) -> Opt
     Some((bits / Word::BITS) as usize)
 }
 
-/// Writes the lowest `count` words of a head to a backend, the lowest word first, without asking for room.
+/// Writes the lowest `count` words of `head` to `bulk`, the lowest word first, without asking for room.
 ///
 /// # Errors
 ///
@@ -83,7 +83,7 @@ pub fn write_words<Word: WordOf<State>, State: BitArray, Backend: WriteWords<Wor
     Ok(())
 }
 
-/// Asks for room for the lowest `count` words of a head and writes them to a backend, the lowest word first.
+/// Asks for room for `count` words, and writes the lowest `count` words of `head` to `bulk`, the lowest word first.
 ///
 /// If `count` is 0, the backend isn't called.
 ///
@@ -105,7 +105,7 @@ pub fn append_words<Word: WordOf<State>, State: BitArray, Backend: WriteWords<Wo
     ensures back { MatchResult result
         (λ _. drop count (Backend.words bulk.new) ≡ Backend.words bulk.old)
         (λ refused. drop refused.0 (Backend.words bulk.new) ≡ Backend.words bulk.old) }
-    // Words are only written before an error where it is a write that was refused.
+    // Words are written before an error only if a write was refused.
     ensures refused { IfErr result (λ refused. (refused.0 ≡ 0)
         ⊎ RefusesWrite Word.number Backend.Holds Backend.WriteWords.own
         (fixed_digits (2 ^ Word.BITS) count (State.number head)) bulk.old refused.1 bulk.new) }
@@ -120,11 +120,11 @@ pub fn append_words<Word: WordOf<State>, State: BitArray, Backend: WriteWords<Wo
     write_words(bulk, head, count)
 }
 
-/// Reads words into a head until the head is at least `2 ^ bits` or no word is left.
+/// Reads words from `bulk` into a head until the head is at least `2 ^ bits` or no word is left.
 ///
-/// Returns the new head, and whether it is at least `2 ^ bits`. For each word read, the head is shifted up by one word,
-/// and the word read becomes its lowest word. If the head is at least `2 ^ bits` already, the call reads no word. The
-/// caller proves that the head is above 0, and that `State` is wide enough for `bits` bits and one more word.
+/// Returns the new head, and whether it is at least `2 ^ bits`. For each word read, the call shifts the head up by one
+/// word, and the word read becomes the head's lowest word. If `head` is at least `2 ^ bits`, the call reads no word.
+/// The caller proves that `head` is above 0, and that `State` is wide enough for `bits` bits and one more word.
 ///
 /// # Errors
 ///

@@ -12,8 +12,8 @@ use std::marker::Model;
 /// A backend whose reads return the words of an iterator, in the iterator's order.
 ///
 /// Both as a stack and as a queue, the backend reads the iterator's first item first. If the item is `Err(error)`, the
-/// read returns this error, and the next read continues with the next item. Once the iterator has returned `None`, it
-/// isn't called again. Contracts describe the backend by the iterator and whether the iterator has ended.
+/// read returns this error, and the next read continues with the next item. Once the iterator has returned `None`, no
+/// read calls it again. Contracts describe the backend by the iterator and whether the iterator has ended.
 ///
 /// # Examples
 ///

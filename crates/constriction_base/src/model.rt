@@ -1,8 +1,9 @@
-//! Model traits. A model gives each symbol an interval of numbers, whose length stands for the symbol's probability.
+//! Model traits. A model gives a symbol an interval of numbers. The interval's length stands for the symbol's
+//! probability.
 //!
 //! A model of a given precision (in bits) partitions its quantiles, the numbers below `2 ^ PRECISION`, into intervals.
 //! Each symbol that the model can code has one interval. [`EncoderModel`] finds the interval of a symbol.
-//! [`DecoderModel`] finds the interval that holds a quantile. Both require [`EntropyModel`], whose laws say that the
+//! [`DecoderModel`] finds the interval that holds a quantile. Both require [`EntropyModel`]. Its laws state that the
 //! intervals are a table. If `M` is a model, `&M` is a model too.
 
 ghost use Rattle.std.specs.Prelude.{◌≡◌, ℕ, ◌^◌, ◌<◌, ◌≤◌, List, length, IfSome, IfNone};
@@ -11,21 +12,21 @@ ghost use Rattle.constriction_words.specs.Reciprocals.{IsReciprocalOf};
 
 use constriction_words::{BitArray, Reciprocal};
 
-/// A model of symbols: a table that gives each symbol an interval of the numbers below `2 ^ PRECISION`.
+/// A model of symbols: a table that gives symbols intervals of the numbers below `2 ^ PRECISION`.
 ///
 /// An implementor chooses which symbols have an interval, the order of the intervals, and their lengths. It then
 /// proves three laws for each value of the type:
 ///
 /// - `lawful`: the intervals lie one after another from 0 to `2 ^ PRECISION`, without gap or overlap. No interval is
 ///   empty, and no symbol has two intervals.
-/// - `sized`: the precision is at least 1 bit and at most the bits of `Probability`.
+/// - `sized`: `PRECISION` is at least 1 and at most `Probability::BITS`.
 /// - `two_symbols`: if `PRECISION` equals `Probability::BITS`, the table has at least two symbols. A single interval
 ///   of all `2 ^ PRECISION` numbers wouldn't fit `Probability`.
 pub trait EntropyModel<const PRECISION: usize>: Drop {
     /// The type of the symbols.
     type Symbol: Drop;
 
-    /// The word type of quantiles, of the starts of intervals and, as `NonZero`, of their lengths.
+    /// The type of quantiles and of the starts of intervals. Lengths of intervals have its type `NonZero`.
     type Probability: BitArray;
 
     // The entries of the table: a symbol, the start of its interval, and the interval's length.
@@ -34,17 +35,17 @@ pub trait EntropyModel<const PRECISION: usize>: Drop {
     // The intervals partition the numbers below `2 ^ PRECISION`.
     ghost lawful: { (m : Self) → IsTable PRECISION (table m) };
 
-    // The precision is allowed.
+    // The precision is at least 1 and at most `Probability::BITS`.
     ghost sized: { (m : Self) → (1 ≤ PRECISION) × (PRECISION ≤ Self.Probability.BITS) };
 
-    // Where the precision is all bits of `Probability`, there are at least two symbols.
+    // If `PRECISION` is `Probability::BITS`, the table has at least two entries.
     ghost two_symbols: { (m : Self) → PRECISION ≡ Self.Probability.BITS → 2 ≤ length (table m) };
 }
 
 /// A model that an encoder can use.
 ///
-/// An implementor proves that each call returns the symbol's entry in the table, or `None` if the table has no entry
-/// for the symbol.
+/// An implementor proves that each call returns the start and the length of the symbol's interval, or `None` if the
+/// table has no entry for the symbol. If a call also returns a reciprocal, it is the reciprocal of this length.
 ///
 /// # Examples
 ///
@@ -94,7 +95,7 @@ pub trait EncoderModel<const PRECISION: usize>: EntropyModel<PRECISION> {
 
 /// A model that a decoder can use.
 ///
-/// An implementor proves that each call returns the entry of the table whose interval holds the quantile.
+/// An implementor proves that each call returns an entry of the table, and that its interval holds the quantile.
 ///
 /// # Examples
 ///

@@ -1,4 +1,4 @@
-//! `SmallVec` as a stack of words, whose first word is stored in the value itself.
+//! `SmallVec` as a stack of words. The first word is stored in the value itself.
 //!
 //! The vector asks for memory only when it grows past its first word. Only then may a write or `prepare` fail, and only
 //! for lack of memory. Reads never fail, take no memory and keep the capacity. A bit stack over a small vector holds

@@ -4,10 +4,10 @@
 //! `Probability`. Starts and hints take one allocation each. Contracts describe a table by its `entries`, defined in
 //! `specs/`, because the laws of `EntropyModel` hold for every value of the type.
 //!
-//! Making a reciprocal takes one 128-bit division, 33 to 41 ns in a prototype. Making the rest of a table takes 10.4 to
-//! 10.8 ns a symbol. Two 64-bit divisions would take 19 to 29 ns, but they work only for weights below 2^32, so the
-//! table uses the simpler form. An encoder that divides by weights, such as the stack coder, still divides if the table
-//! is made by `for_decoding`. If the table is made by `new`, at a precision of at most 63 bits, it never divides.
+//! Computing a reciprocal takes one 128-bit division: 33 to 41 ns in a prototype. The rest of a table takes 10.4 to
+//! 10.8 ns a symbol. Two 64-bit divisions would take 19 to 29 ns, but they work only for weights below 2^32, so `new`
+//! uses the 128-bit division. An encoder that divides by weights, such as the stack coder, divides if the table comes
+//! from `for_decoding`. If the table comes from `new`, at a precision of at most 63 bits, the encoder never divides.
 
 mod hints;
 pub mod starts;
@@ -55,15 +55,15 @@ impl From<AllocError> for TableError {
     }
 }
 
-/// A model of the symbols `0`, `1`, .. by their weights, which add up to `2 ^ PRECISION`.
+/// A model of the symbols `0`, `1`, .. with weights that add up to `2 ^ PRECISION`.
 ///
-/// A table is made from a list of weights, where the weight at index `i` is the weight of symbol `i`. The intervals lie
-/// in the order of the symbols, and the length of each interval is its symbol's weight. A symbol is impossible if its
+/// A table is built from a list of weights: the weight at index `i` is the weight of symbol `i`. The intervals lie in
+/// the order of the symbols, and the length of each interval is its symbol's weight. A symbol is impossible if its
 /// weight is 0, or if the list has no weight for it.
 ///
 /// A decoder finds a quantile's symbol in two stages. All quantiles with the same high bits form a bucket, and the
-/// table stores which symbols have an interval that meets the bucket. A binary search then finds the symbol among these
-/// few. Usually there is only one, and nothing is left to search.
+/// table stores which symbols have an interval that meets the bucket. A binary search then finds the quantile's symbol
+/// among these symbols. Usually there is only one such symbol, so there is nothing to search.
 ///
 /// # Examples
 ///
@@ -75,13 +75,13 @@ impl From<AllocError> for TableError {
 /// ```
 #[derive(Drop)]
 pub struct WeightTable<Probability: BitArray, const PRECISION: usize> {
-    /// The start of each symbol's interval, up to the last symbol of a weight above 0.
+    /// The sum of the weights before each symbol, up to the last symbol with a weight above 0.
     starts: Vec<Probability>,
-    /// The symbol of each bucket's first quantile, and after these the last symbol.
+    /// The symbol of each bucket's first quantile, followed by the last symbol.
     hints: Vec<usize>,
-    /// The number of low bits of a quantile that its bucket leaves out.
+    /// The number of low bits in which the quantiles of a bucket differ.
     shift: u32,
-    /// The reciprocal of each symbol's weight (of 1 where the weight is 0), or no entry at all.
+    /// The reciprocal of each symbol's weight, or of 1 if the weight is 0. The list may instead be empty.
     reciprocals: Vec<Reciprocal>,
     pub ghost positive: { 1 ≤ PRECISION },
     pub ghost fits: { PRECISION ≤ Probability.BITS },
@@ -149,7 +149,7 @@ impl<Probability: BitArray, const PRECISION: usize> WeightTable<Probability, PRE
     /// Creates the table of `weights` without reciprocals, for decoding.
     ///
     /// The table has the same entries as the table of [`new`](WeightTable::new), and takes less time and memory. It
-    /// is also the better table for encoders that don't divide by weights, such as the range coder's. Encoders that
+    /// is also the better table for encoders that don't divide by weights, such as the range encoder. Encoders that
     /// divide by weights accept the table too, but run slower.
     ///
     /// # Errors
@@ -188,7 +188,7 @@ impl<Probability: BitArray, const PRECISION: usize> WeightTable<Probability, PRE
         })
     }
 
-    /// Adds a reciprocal of each weight where the precision is at most 63 bits. The entries stay the same.
+    /// Adds the reciprocal of each weight if the precision is at most 63 bits. The entries stay the same.
     fn with_reciprocals(mut self, alloc: Global) -> Result<Self, AllocError>
         ensures kept { IfOk result (λ t. entries t ≡ entries self) }
         ensures reciprocals { IfOk result (λ t. PRECISION ≤ 63 → KeepsReciprocals t) }
@@ -200,7 +200,7 @@ impl<Probability: BitArray, const PRECISION: usize> WeightTable<Probability, PRE
         Ok(self)
     }
 
-    /// Returns the reciprocal of each symbol's weight, and of 1 where the weight is 0.
+    /// Returns the reciprocal of each symbol's weight, or of 1 if the weight is 0.
     fn made_reciprocals(&self, alloc: Global) -> Result<Vec<Reciprocal>, AllocError>
         requires { PRECISION ≤ 63 }
         ensures count { IfOk result (λ made. length made.items ≡ length self.now.starts.items) }
@@ -216,7 +216,7 @@ impl<Probability: BitArray, const PRECISION: usize> WeightTable<Probability, PRE
         Ok(made)
     }
 
-    /// Returns the bucket of a quantile.
+    /// Returns the number of the bucket that holds `quantile`.
     fn bucket(&self, quantile: Probability) -> usize
         requires { Probability.number quantile < 2 ^ PRECISION }
         ensures within { result + 1 < length self.now.hints.items }
@@ -226,7 +226,7 @@ impl<Probability: BitArray, const PRECISION: usize> WeightTable<Probability, PRE
         quantile.shifted_right(self.shift).to_index()
     }
 
-    /// Returns the start of a symbol's interval.
+    /// Returns the sum of the weights before `symbol`, which is the start of its interval.
     fn start(&self, symbol: usize) -> Probability
         requires { symbol < length self.now.starts.items }
         ensures { Probability.number result ≡ slice_index (map Probability.number self.now.starts.items) symbol }
@@ -234,7 +234,7 @@ impl<Probability: BitArray, const PRECISION: usize> WeightTable<Probability, PRE
         self.starts[symbol]
     }
 
-    /// Returns the length of a symbol's interval.
+    /// Returns the weight of `symbol`, which is the length of its interval.
     fn weight(&self, symbol: usize) -> Probability
         requires { symbol < length self.now.starts.items }
         ensures { Probability.number result
@@ -250,7 +250,7 @@ impl<Probability: BitArray, const PRECISION: usize> WeightTable<Probability, PRE
         }
     }
 
-    /// Returns the reciprocal of a symbol's weight, where the table keeps it.
+    /// Returns the reciprocal that the table keeps for `symbol`, or `None` if the table keeps none.
     fn reciprocal(&self, symbol: usize) -> Option<Reciprocal>
         ensures ok { IfSome result (λ r.
             0 < slice_index (weights_between (map Probability.number self.now.starts.items) (2 ^ PRECISION)) symbol

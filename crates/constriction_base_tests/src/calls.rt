@@ -1,10 +1,10 @@
-//! The calls of a backend of `u32`, by its bounds alone. Each returns whether it did what is expected.
+//! Calls of any backend of `u32` words, in functions without a contract.
 
 use constriction_base::backends::{
     BoundedReadWords, Pos, PosSeek, Queue, ReadWords, Seek, Stack, WriteWords,
 };
 
-/// A read as a stack gives the word, or says that none is left.
+/// Reads the backend as a stack. Returns whether the read returns `expected`.
 pub fn pops<B: ReadWords<u32, Stack>>(backend: &mut B, expected: Option<u32>) -> bool
 where
     B::ReadError: Drop,
@@ -15,7 +15,7 @@ where
     }
 }
 
-/// A read as a queue gives the word, or says that none is left.
+/// Reads the backend as a queue. Returns whether the read returns `expected`.
 pub fn takes<B: ReadWords<u32, Queue>>(backend: &mut B, expected: Option<u32>) -> bool
 where
     B::ReadError: Drop,
@@ -26,27 +26,27 @@ where
     }
 }
 
-/// As a stack the backend may be exhausted.
+/// Returns whether the backend, read as a stack, may be exhausted.
 pub fn seems_popped<B: ReadWords<u32, Stack>>(backend: &B) -> bool {
     backend.maybe_exhausted()
 }
 
-/// As a queue the backend may be exhausted.
+/// Returns whether the backend, read as a queue, may be exhausted.
 pub fn seems_taken<B: ReadWords<u32, Queue>>(backend: &B) -> bool {
     backend.maybe_exhausted()
 }
 
-/// As a stack the backend has so many words, and says so by both calls.
+/// Returns whether the backend, read as a stack, has `count` words, by `remaining` and by `is_exhausted`.
 pub fn stacks<B: BoundedReadWords<u32, Stack>>(backend: &B, count: usize) -> bool {
     backend.remaining() == count && backend.is_exhausted() == (count == 0)
 }
 
-/// As a queue the backend has so many words, and says so by both calls.
+/// Returns whether the backend, read as a queue, has `count` words, by `remaining` and by `is_exhausted`.
 pub fn queues<B: BoundedReadWords<u32, Queue>>(backend: &B, count: usize) -> bool {
     backend.remaining() == count && backend.is_exhausted() == (count == 0)
 }
 
-/// A write succeeds.
+/// Writes `word`. Returns whether the write succeeds.
 pub fn puts<B: WriteWords<u32>>(backend: &mut B, word: u32) -> bool
 where
     B::WriteError: Drop,
@@ -54,7 +54,7 @@ where
     backend.write(word).is_ok()
 }
 
-/// A `prepare` for so many words succeeds.
+/// Prepares `count` writes. Returns whether the call succeeds.
 pub fn prepares<B: WriteWords<u32>>(backend: &mut B, count: usize) -> bool
 where
     B::WriteError: Drop,
@@ -62,12 +62,12 @@ where
     backend.prepare(count).is_ok()
 }
 
-/// The backend may be full.
+/// Returns whether the backend may be full.
 pub fn seems_full<B: WriteWords<u32>>(backend: &B) -> bool {
     backend.maybe_full()
 }
 
-/// Writes 0, 1, .. until a write is refused. Answers how many words were written.
+/// Writes 0, 1, .. until a write is refused or 1000 words are written. Returns the number of words written.
 pub fn filled<B: WriteWords<u32>>(backend: &mut B) -> u32
 where
     B::WriteError: Drop,
@@ -80,14 +80,14 @@ where
     1000
 }
 
-/// The backend stands at the position.
+/// Returns whether the backend is at `position`.
 pub fn stands<B: Pos + PosSeek<Position = usize>>(backend: &B, position: usize) -> bool
     requires { B.can_tell backend.now }
 {
     backend.pos() == position
 }
 
-/// The position is gone to.
+/// Seeks to `position`. Returns whether the seek succeeds.
 pub fn seeks<B: Seek + PosSeek<Position = usize>>(backend: &mut B, position: usize) -> bool {
     backend.seek(position).is_ok()
 }

@@ -1,4 +1,4 @@
-//! A cursor as a stack and as a queue. Cases know a backend by its bounds alone.
+//! Tests of a cursor as a stack and as a queue. Helpers are generic, and know the backend by its trait bounds alone.
 
 use crate::calls::{
     filled, pops, prepares, puts, queues, seeks, seems_full, seems_popped, seems_taken, stacks,
@@ -11,7 +11,7 @@ use constriction_base::cursor::Cursor;
 use constriction_base::errors::BoundedWriteError;
 use std::convert::Infallible;
 
-/// Before the words `[1, 2, 3]`, reads go to and fro.
+/// Reads to and fro from a cursor before `[1, 2, 3]`. Returns whether all calls return what is expected.
 fn goes_to_and_fro<B>(cursor: &mut B) -> bool
 where
     B: BoundedReadWords<u32, Stack> + BoundedReadWords<u32, Queue>,
@@ -30,12 +30,12 @@ where
         & queues(cursor, 2)
 }
 
-/// The cursor's buffer has the words.
+/// Returns whether the cursor's buffer holds `words`.
 pub fn lends<Buf: Words<u32> + Drop>(cursor: &Cursor<u32, Buf>, words: &[u32]) -> bool {
     cursor.buf().words() == words
 }
 
-/// The cursor's parts are the words and the position.
+/// Takes a cursor apart. Returns whether the parts are `words` and `position`.
 fn parts_into<Buf: Words<u32> + Drop>(
     cursor: Cursor<u32, Buf>,
     words: &[u32],
@@ -45,7 +45,7 @@ fn parts_into<Buf: Words<u32> + Drop>(
     (rest.words() == words) & (found == position)
 }
 
-/// Three words are written, and no fourth one.
+/// Fills a cursor. Returns whether three writes succeed, and the fourth is refused.
 fn is_filled<B>(cursor: &mut B) -> bool
 where
     B: WriteWords<u32, WriteError = BoundedWriteError>,
@@ -57,7 +57,7 @@ where
         & matches!(cursor.write(9), Err(BoundedWriteError::OutOfSpace))
 }
 
-/// At the end of the words `[0, 1, 2]`, the last is taken off and another written.
+/// Replaces the last of the words `[0, 1, 2]` by 9. Returns whether all calls return what is expected.
 fn writes_again<B>(cursor: &mut B) -> bool
 where
     B: WriteWords<u32, WriteError = BoundedWriteError>,
@@ -71,7 +71,7 @@ where
         & puts(cursor, 9)
 }
 
-/// Behind the words `[4, 5, 6]`, positions within them are gone to.
+/// Seeks within the words `[4, 5, 6]`, from their end. Returns whether all calls return what is expected.
 fn seeks_within<B>(cursor: &mut B) -> bool
 where
     B: ReadWords<u32, Stack, ReadError = Infallible>

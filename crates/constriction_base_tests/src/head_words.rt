@@ -1,5 +1,4 @@
-//! The words of a number, at words of 8 bits and numbers of 16: how many there are, and how they move between a number and a
-//! backend.
+//! Tests of the 8-bit words of 16-bit numbers: counting the words, and moving words between a number and a backend.
 
 use constriction_base::backends::{ReadWords, Stack, WriteWords};
 use constriction_base::cursor::Cursor;
@@ -9,14 +8,14 @@ use constriction_base::head_words::{
 };
 use std::convert::Infallible;
 
-/// What became of a call that writes words.
+/// The outcome of a call that writes words.
 #[derive(PartialEq, Eq, Drop)]
 enum Wrote {
     All,
     OutOfSpaceAfter(usize),
 }
 
-/// Writes so many words of a number, once there is room for them all.
+/// Asks for room, and writes the lowest `count` words of `number`. Returns the outcome.
 fn appends<B: WriteWords<u8, WriteError = BoundedWriteError>>(
     words: &mut B,
     number: u16,
@@ -28,7 +27,7 @@ fn appends<B: WriteWords<u8, WriteError = BoundedWriteError>>(
     }
 }
 
-/// The same without a request for room.
+/// Writes the lowest `count` words of `number` without asking for room. Returns the outcome.
 fn writes<B: WriteWords<u8, WriteError = BoundedWriteError>>(
     words: &mut B,
     number: u16,
@@ -40,7 +39,9 @@ fn writes<B: WriteWords<u8, WriteError = BoundedWriteError>>(
     }
 }
 
-/// Words move in below a number above 0, as long as it is less than 2^8.
+/// Moves words in below `number` until it is at least `2^8`. Returns the new number, and whether it is at least `2^8`.
+///
+/// The number 0 is returned unchanged.
 fn fills<B: ReadWords<u8, Stack, ReadError = Infallible>>(
     words: &mut B,
     number: u16,
@@ -54,7 +55,7 @@ fn fills<B: ReadWords<u8, Stack, ReadError = Infallible>>(
     }
 }
 
-/// A number has these counts of words, and of words below its leading one.
+/// Returns whether `number` has `words` words, and `below_one` words below its leading 1.
 fn counts(number: u16, words: usize, below_one: Option<usize>) -> bool {
     (count_of_words::<u8, u16>(number) == words) & (words_below_one::<u8, u16>(number) == below_one)
 }

@@ -1,4 +1,4 @@
-//! What the laws of backends say to a caller, by the bounds alone and at concrete types.
+//! Callers that use the laws of backends, over any backend and at concrete types.
 
 ghost use Rattle.std.specs.Prelude.{◌≡◌, ◌↔◌, ◌≤◌, false, length, vec_len, IsOk, OnErr, IfErr};
 
@@ -8,7 +8,7 @@ use constriction_base::backends::{
 use constriction_base::cursor::Cursor;
 use std::alloc::Allocator;
 
-/// Where it stands it can go.
+/// Seeks to the current position. The seek always succeeds.
 pub fn goes_where_it_stands<B: SeeksBack>(backend: &mut B) -> Result<(), ()>
     requires { B.can_tell backend.old }
     ensures { IsOk result }
@@ -17,14 +17,14 @@ pub fn goes_where_it_stands<B: SeeksBack>(backend: &mut B) -> Result<(), ()>
     backend.seek(place)
 }
 
-/// Its place is the number of its words.
+/// Returns the backend's position, which is the number of its words.
 pub fn words_before<Word, B: CountsWords<Word>>(backend: &B) -> usize
     ensures { result ≡ length (B.words backend.now) }
 {
     backend.pos()
 }
 
-/// Where it doesn't seem full, a word's room is not refused for lack of room.
+/// Prepares one write on a backend for which `seems_full` is false. The error, if any, isn't a lack of room.
 pub fn asks_for_one<Word, B: WriteWords<Word>>(backend: &mut B) -> Result<(), B::WriteError>
     requires { B.seems_full backend.old ≡ false }
     ensures { IfErr result (λ e. B.is_lack_of_room e → ⊥) }
@@ -35,7 +35,7 @@ pub fn asks_for_one<Word, B: WriteWords<Word>>(backend: &mut B) -> Result<(), B:
     }
 }
 
-/// A vector goes to a place exactly where it has as many words, and is as before elsewhere.
+/// Seeks in a vector. Succeeds exactly if `place` is at most its length, and otherwise leaves the vector unchanged.
 pub fn vector_goes<A: Allocator>(words: &mut Vec<u32, A>, place: usize) -> Result<(), ()>
     ensures variant { IsOk result ↔ (place ≤ vec_len words.old) }
     ensures kept { OnErr result (words.new ≡ words.old) }
@@ -46,7 +46,7 @@ pub fn vector_goes<A: Allocator>(words: &mut Vec<u32, A>, place: usize) -> Resul
     }
 }
 
-/// A cursor goes to each place of its buffer, and is as before elsewhere.
+/// Seeks in a cursor. Succeeds exactly if `place` is at most its buffer's length, and otherwise leaves it unchanged.
 pub fn cursor_goes(words: &mut Cursor<u32, &[u32]>, place: usize) -> Result<(), ()>
     ensures variant { IsOk result ↔ (place ≤ length words.old.buf.now) }
     ensures kept { OnErr result (words.new ≡ words.old) }
@@ -57,7 +57,7 @@ pub fn cursor_goes(words: &mut Cursor<u32, &[u32]>, place: usize) -> Result<(), 
     }
 }
 
-/// What was written onto a vector is read from its beginning.
+/// Turns a vector into a cursor at its beginning, which reads the words in the order in which they were written.
 pub fn vector_as_queue<A: Allocator>(words: Vec<u32, A>) -> Cursor<u32, Vec<u32, A>>
     ensures place { result.pos ≡ 0 }
     ensures buffer { result.buf ≡ words }

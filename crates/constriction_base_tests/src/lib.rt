@@ -1,15 +1,15 @@
-//! Tests of backends, models and errors, and no code besides: calls on small lists and tables that are
-//! worked out by hand, at concrete types.
+//! Tests of backends, models and errors at concrete types: calls on small lists and tables, with results worked out by
+//! hand.
 //!
-//! What a contract of `constriction_base` says is proved there for all values. These tests stand for
-//! what no contract can say: that the definitions give the numbers that a reader expects, that calls
-//! which take memory succeed where there is some, and that a caller reaches them.
-//! They are a crate of their own so that `constriction_base` is proved once. `tests/cases/constriction_base_tests` has tests
-//! that run without a proof, by `tests/unproved`: of refused memory, texts, clones, reversed cursors, iterators, small
-//! vectors and conversions, and of tables at other widths.
+//! The contracts of `constriction_base` are proved there for all values. These tests check what no contract can state:
+//! the definitions have the values that a reader expects, calls that need memory succeed if there is some, and a caller
+//! can make each call. The tests are a separate crate, so that `constriction_base` is proved once.
 //!
-//! A case is a function of one chain over the calls of [`calls`], which have no contract, so
-//! that no case pays for what a call promises besides.
+//! `tests/cases/constriction_base_tests` has tests that run without a proof, with `tests/unproved`. They cover refused
+//! memory, texts, clones, reversed cursors, iterators, small vectors, conversions, and tables at other widths.
+//!
+//! Each helper is one chain of the functions of [`calls`]. These functions have no contract, so that the proof of a
+//! helper doesn't use the contracts of the calls.
 #![tactic(auto)]
 
 #[cfg(test)]

@@ -1,4 +1,4 @@
-//! Models behind references.
+//! Tests of models behind references.
 
 ghost use Rattle.std.specs.Prelude.{◌<◌, ◌^◌};
 
@@ -7,7 +7,7 @@ use constriction_base::weights::WeightTable;
 use constriction_words::BitArray;
 use std::test::Fail;
 
-/// The quantile is this symbol's, and the model knows the symbol as an encoder too.
+/// Returns whether the symbol at `quantile` is `expected`, and the model has an interval for it.
 fn finds_again<const PRECISION: usize, M>(
     model: M,
     quantile: M::Probability,
@@ -21,7 +21,7 @@ where
     symbol == expected && knows(model, symbol)
 }
 
-/// The model has an interval for the symbol.
+/// Returns whether the model has an interval for `symbol`.
 fn knows<const PRECISION: usize, M: EncoderModel<PRECISION, Symbol = usize>>(
     model: M,
     symbol: usize,
@@ -29,7 +29,7 @@ fn knows<const PRECISION: usize, M: EncoderModel<PRECISION, Symbol = usize>>(
     model.left_cumulative_and_probability(&symbol).is_some()
 }
 
-/// The quantile is this symbol's, behind one reference and behind two.
+/// Returns whether `finds_again` holds for the model behind one reference and behind two references.
 fn finds_behind_references<const PRECISION: usize, M>(
     model: &M,
     quantile: M::Probability,
@@ -42,7 +42,7 @@ where
     finds_again(model, quantile, expected) && finds_again(&model, quantile, expected)
 }
 
-/// The symbol is unknown, behind one reference and behind two.
+/// Returns whether the model has no interval for `symbol`, behind one reference and behind two references.
 fn is_unknown<const PRECISION: usize, M: EncoderModel<PRECISION, Symbol = usize>>(
     model: &M,
     symbol: usize,
@@ -50,7 +50,7 @@ fn is_unknown<const PRECISION: usize, M: EncoderModel<PRECISION, Symbol = usize>
     !knows(model, symbol) && !knows(&model, symbol)
 }
 
-/// Of the weights `[1000, 0, 3096]`, the second symbol is unknown, and a fourth one.
+/// Returns whether the table of the weights `[1000, 0, 3096]` has the symbols 0 and 2, and neither 1 nor 3.
 fn are_models(table: &WeightTable<u16, 12>) -> bool {
     finds_behind_references(table, 999, 0)
         && finds_behind_references(table, 1000, 2)

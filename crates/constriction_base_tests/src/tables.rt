@@ -1,4 +1,4 @@
-//! A table of weights, of which each request for memory may be refused.
+//! Tests of a table of weights with requests for memory refused, one at a time.
 
 ghost use Rattle.std.specs.Prelude.{◌<◌, ◌^◌};
 
@@ -8,7 +8,7 @@ use constriction_words::BitArray;
 use std::alloc::{AllocError, Global};
 use std::test::Fail;
 
-/// The quantile is in the interval of this symbol, which begins here and is so long.
+/// Returns whether `quantile` lies in the interval `expected`: a symbol, the interval's start and its length.
 pub fn finds<Probability: BitArray + PartialEq, const PRECISION: usize>(
     table: &WeightTable<Probability, PRECISION>,
     quantile: Probability,
@@ -20,7 +20,7 @@ pub fn finds<Probability: BitArray + PartialEq, const PRECISION: usize>(
     symbol == expected.0 && left == expected.1 && Probability::from_nonzero(p) == expected.2
 }
 
-/// What comes of a table, where there is memory.
+/// Returns whether the table has an expected interval, or an error if there was no memory.
 fn table_went(table: Result<WeightTable<u8, 8>, TableError>) -> Result<bool, AllocError> {
     match table {
         Ok(table) => Ok(finds(&table, 254, (1, 200, 55))),
@@ -29,7 +29,7 @@ fn table_went(table: Result<WeightTable<u8, 8>, TableError>) -> Result<bool, All
     }
 }
 
-/// A table of three weights, with reciprocals or without.
+/// Makes a table of three weights with `new`, or with `for_decoding`. Returns whether it has an expected interval.
 fn table_of_three(alloc: Global, is_for_decoding: bool) -> Result<bool, AllocError> {
     if is_for_decoding {
         table_went(WeightTable::for_decoding(alloc, &[200, 55, 1]))
@@ -38,7 +38,7 @@ fn table_of_three(alloc: Global, is_for_decoding: bool) -> Result<bool, AllocErr
     }
 }
 
-/// Makes a table, and once more where memory was refused, which the error says then.
+/// Makes a table, and tries again if memory was refused. In this case fails with the error `name`.
 fn table_comes(alloc: Global, is_for_decoding: bool, name: &'static str) -> Result<(), Fail> {
     match table_of_three(alloc, is_for_decoding) {
         Ok(true) => Ok(()),
@@ -49,7 +49,7 @@ fn table_comes(alloc: Global, is_for_decoding: bool, name: &'static str) -> Resu
     }
 }
 
-/// `tests/refused-memory` has each request of this test refused in turn.
+/// Checks tables with memory refused. `tests/refused-memory` refuses each request of this test, one at a time.
 #[test]
 fn refused_requests_of_tables(rt: HostRuntime) -> Result<(), Fail> {
     table_comes(rt.alloc(), false, "WeightTable::new")?;

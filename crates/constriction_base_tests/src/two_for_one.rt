@@ -1,4 +1,4 @@
-//! What the bounds alone say of a backend: a word is read, and two are written in its place.
+//! A caller over any backend, which reads a word and writes two words in its place.
 
 ghost use Rattle.std.specs.Prelude.{◌≡◌, ◌+◌, ◌-◌, ◌<◌, ◌≤◌, ◌∷◌, ◌⊎◌, Option, Result, Ok, Err, Some, None, OnOk, OnErr, IfOk, IfErr, length, reverse, take, drop, slice_get};
 ghost use Rattle.constriction_base_tests.specs.declared.two_for_one.Refusal.TheVariants as refusal;
@@ -10,7 +10,7 @@ use constriction_base::errors::BoundedWriteError;
 use constriction_words::BitArray;
 use std::alloc::{AllocError, Allocator};
 
-/// Which call of the backend was refused. A refused `prepare` hands back the word that was read.
+/// The refused call of the backend, with its error. A refused `prepare` hands back the word that was read.
 #[derive(Debug, Drop)]
 pub enum Refusal<Word, ReadError, WriteError> {
     Read(ReadError),
@@ -19,7 +19,7 @@ pub enum Refusal<Word, ReadError, WriteError> {
     Second(WriteError),
 }
 
-/// Takes the next word and puts two in its place, of which `above` is then read first.
+/// Reads the next word, and writes `below` and then `above` in its place. Returns the word that was read.
 pub fn two_for_one<Word: BitArray, Backend: ReadWords<Word, Stack> + WriteWords<Word>>(
     backend: &mut Backend,
     below: Word,
@@ -55,8 +55,9 @@ pub fn two_for_one<Word: BitArray, Backend: ReadWords<Word, Stack> + WriteWords<
     Ok(taken)
 }
 
-/// Over a vector, want of memory changes nothing: `prepare` alone can be refused, and the room of
-/// the word that was read is still there.
+/// Replaces the last word of a vector by `below` and `above`. If there is no memory, the vector is unchanged.
+///
+/// Only `prepare` can be refused. The function then pushes the word that was read back into its room.
 pub fn two_for_last<A: Allocator>(
     words: &mut Vec<u32, A>,
     below: u32,
@@ -78,8 +79,9 @@ pub fn two_for_last<A: Allocator>(
     }
 }
 
-/// Over a cursor a refused write leaves a beginning of the two words: the first finds the place of
-/// the word that was read.
+/// Replaces the word before a cursor by `below` and `above`.
+///
+/// If the cursor is at the end of its buffer, only `below` has room. The function writes it and returns `OutOfSpace`.
 pub fn two_for_one_before(
     words: &mut Cursor<u32, &mut [u32]>,
     below: u32,
@@ -90,7 +92,7 @@ pub fn two_for_one_before(
     ensures beginning { OnErr result (reverse (take words.new.pos words.new.buf.now) ≡ below ∷ drop 1 (reverse (take words.old.pos words.old.buf.now))) }
     ensures full { IfErr result (λ e. (e ≡ OutOfSpace) × (words.old.pos ≡ length words.old.buf.now)) }
 {
-    // This tells that the position is within the buffer.
+    // The contract of `buf` says that the position is within the buffer.
     let _buf = words.buf();
     match two_for_one(words, below, above) {
         Ok(taken) => Ok(taken),

@@ -1,4 +1,4 @@
-//! A vector as a stack, and the words that buffers lend.
+//! Tests of a vector as a stack, and of the words that buffers lend.
 
 use crate::calls::{pops, prepares, puts, seeks, seems_full, seems_popped, stacks, stands};
 use constriction_base::backends::{
@@ -8,7 +8,7 @@ use std::alloc::AllocError;
 use std::convert::Infallible;
 use std::test::Fail;
 
-/// A backend with no words grows by writes.
+/// Writes three words to an empty backend. Returns whether all calls return what is expected.
 fn grows<B>(backend: &mut B) -> bool
 where
     B: BoundedReadWords<u32, Stack> + ReadWords<u32, Stack, ReadError = Infallible>,
@@ -23,7 +23,7 @@ where
         & puts(backend, 9)
 }
 
-/// Reads take the last of the words `[7, 8, 9]`.
+/// Reads the last two of the words `[7, 8, 9]`. Returns whether all calls return what is expected.
 fn shrinks<B>(backend: &mut B) -> bool
 where
     B: BoundedReadWords<u32, Stack> + ReadWords<u32, Stack, ReadError = Infallible>,
@@ -40,12 +40,12 @@ where
         & (backend.words() == [7u32].as_slice())
 }
 
-/// A vector with no words grows by writes, and reads take its last words.
+/// Writes words to an empty vector, and reads the last words. Returns whether all calls return what is expected.
 fn grows_and_shrinks(words: &mut Vec<u32>) -> bool {
     grows(words) && shrinks(words)
 }
 
-/// The positions of the words `[7, 8, 9]` are lengths, of which the greater ones are refused.
+/// Seeks in the words `[7, 8, 9]`. Returns whether seeks cut the words, and seeks past their end are refused.
 fn seeks_by_length<B>(backend: &mut B) -> bool
 where
     B: Pos + Seek + PosSeek<Position = usize> + Words<u32>,
@@ -61,7 +61,7 @@ where
         & stands(backend, 1)
 }
 
-/// A vector's words `[1, 2, 3]` are changed and turned round.
+/// Changes and reverses the words `[1, 2, 3]` of a vector. Returns whether they are `[3, 9, 1]` then.
 fn vector_is_changed(words: &mut Vec<u32>) -> bool {
     if words.len() != 3 {
         return false;
@@ -71,7 +71,7 @@ fn vector_is_changed(words: &mut Vec<u32>) -> bool {
     Words::words(&&*words) == [3u32, 9, 1].as_slice()
 }
 
-/// A slice's words are changed and turned round.
+/// Changes and reverses the words of a slice. Returns whether they are `[3, 2, 8]` then.
 fn slice_is_changed() -> bool {
     let mut words = [1u32, 2, 3];
     let mut lent = words.as_mut_slice();

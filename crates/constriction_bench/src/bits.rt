@@ -1,4 +1,4 @@
-//! Cases of bit coders over words of 32 bits: bits alone.
+//! Cases of bit coders over words of 32 bits: writing and reading single bits.
 
 use crate::runs::copy_out;
 use constriction_base::cursor::Cursor;
@@ -8,7 +8,7 @@ use constriction_symbol::reading::ReadBitStream;
 use constriction_symbol::writing::WriteBitStream;
 use std::alloc::Global;
 
-/// The words of a queue of bits. There are none where memory is missing.
+/// Writes `bits` to a new queue, and returns the queue's words. Returns `None` if there is no memory.
 #[inline(never)]
 fn write_queue(alloc: Global, bits: &[bool]) -> Option<Vec<u32>> {
     let mut coder = DefaultQueueEncoder::new(alloc);
@@ -20,7 +20,7 @@ fn write_queue(alloc: Global, bits: &[bool]) -> Option<Vec<u32>> {
     coder.into_compressed().ok()
 }
 
-/// The words of a stack of bits. There are none where memory is missing.
+/// Writes `bits` to a new stack, and returns the stack's words. Returns `None` if there is no memory.
 #[inline(never)]
 fn write_stack(alloc: Global, bits: &[bool]) -> Option<Vec<u32>> {
     let mut coder = DefaultStackCoder::new(alloc);
@@ -32,7 +32,7 @@ fn write_stack(alloc: Global, bits: &[bool]) -> Option<Vec<u32>> {
     coder.into_compressed().ok()
 }
 
-/// Reads a bit for each place of `bits`, in their order, as long as there are bits.
+/// Fills `bits` with the bits of a queue, in order. Returns `false` if `words` hold too few bits.
 #[inline(never)]
 fn read_queue(words: Vec<u32>, bits: &mut [bool]) -> bool {
     let mut decoder = DefaultQueueDecoder::from_compressed(Cursor::new_at_write_beginning(words));
@@ -45,7 +45,9 @@ fn read_queue(words: Vec<u32>, bits: &mut [bool]) -> bool {
     true
 }
 
-/// Reads a bit for each place of `bits`, the last first, as long as there are bits.
+/// Fills `bits` with the bits of a stack. The bit that was written last comes first.
+///
+/// Returns `false` if `words` hold too few bits, or if the last word is 0.
 #[inline(never)]
 fn read_stack(words: Vec<u32>, bits: &mut [bool]) -> bool {
     let Ok(mut coder) = DefaultStackCoder::from_compressed(words) else {
@@ -60,7 +62,7 @@ fn read_stack(words: Vec<u32>, bits: &mut [bool]) -> bool {
     true
 }
 
-/// Writes as many of the words as there is room for. It returns how many there are, 0 where there are none.
+/// Copies the words to `out`, as many as fit. Returns the total number of words, or 0 if `words` is `None`.
 pub fn give_out(words: Option<Vec<u32>>, out: &mut [u32]) -> usize {
     match words {
         Some(words) => copy_out(&words, out),
@@ -68,7 +70,9 @@ pub fn give_out(words: Option<Vec<u32>>, out: &mut [u32]) -> usize {
     }
 }
 
-/// Writes bits to a queue.
+/// Writes `bits` to a queue of bits.
+///
+/// Copies the queue's words to `out`, as many as fit. Returns the total number of words, or 0 after a failure.
 #[unsafe(no_mangle)]
 pub extern "C" fn constriction_bench_bits_write_queue(
     alloc: Global,
@@ -78,7 +82,9 @@ pub extern "C" fn constriction_bench_bits_write_queue(
     give_out(write_queue(alloc, bits), out)
 }
 
-/// Writes bits to a stack.
+/// Writes `bits` to a stack of bits.
+///
+/// Copies the stack's words to `out`, as many as fit. Returns the total number of words, or 0 after a failure.
 #[unsafe(no_mangle)]
 pub extern "C" fn constriction_bench_bits_write_stack(
     alloc: Global,
@@ -88,7 +94,7 @@ pub extern "C" fn constriction_bench_bits_write_stack(
     give_out(write_stack(alloc, bits), out)
 }
 
-/// Reads as many bits of a queue as there is room for.
+/// Fills `bits` with the first bits of a queue, given as `words`. Returns `false` after a failure.
 #[unsafe(no_mangle)]
 pub extern "C" fn constriction_bench_bits_read_queue(
     alloc: Global,
@@ -101,7 +107,9 @@ pub extern "C" fn constriction_bench_bits_read_queue(
     }
 }
 
-/// Reads as many bits of a stack as there is room for.
+/// Fills `bits` with the top bits of a stack, given as `words`. The bit that was written last comes first.
+///
+/// Returns `false` after a failure, for example if the stack has fewer bits than `bits`.
 #[unsafe(no_mangle)]
 pub extern "C" fn constriction_bench_bits_read_stack(
     alloc: Global,

@@ -1,4 +1,4 @@
-//! A table that lists a symbol for each of 4096 equal parts of the quantiles.
+//! A table of weights that lists a symbol for each of 4096 equal parts of the quantiles.
 
 ghost use Rattle.std.specs.Prelude.{◌≡◌, ℕ, ◌+◌, ◌-◌, ◌*◌, ◌^◌, ◌<◌, ◌%◌, length, map, slice_index, IfSome};
 ghost use Rattle.constriction_base.specs.Tables.{table_of};
@@ -12,8 +12,10 @@ use constriction_words::BitArray;
 use std::alloc::Global;
 use std::num::NonZero;
 
-/// Weights of at most 256 symbols, none of which is 0, of a precision of 24 bits. The first symbol of
-/// each 4096th part of the quantiles is listed, and a decode searches upward from there.
+/// A table of weights at a precision of 24 bits, with a list that shortens the search for a quantile.
+///
+/// The quantiles have 4096 parts of equal length. The list has the symbol of each part's first quantile, and a decode
+/// searches upward from this symbol. All weights are above 0, and all listed symbols are below 256.
 #[derive(Drop)]
 pub struct BucketTable {
     table: WeightTable<u32, 24>,
@@ -27,7 +29,7 @@ pub struct BucketTable {
 }
 
 impl BucketTable {
-    /// The table of these weights, or nothing where there is none or memory is missing.
+    /// Makes the table of `weights`. Returns `None` if the weights make no such table, or if there is no memory.
     pub fn new(alloc: Global, weights: &[u32]) -> Option<Self>
         ensures { IfSome result
             (λ table. ⟦<BucketTable as EntropyModel<24>>⟧.table table
@@ -49,8 +51,9 @@ impl BucketTable {
     }
 }
 
-/// The symbol whose interval holds the first quantile of a part, if it is one of the first 256 and begins where
-/// `starts` says.
+/// Returns the symbol of the first quantile of the part with the number `part`.
+///
+/// Returns `None` if the symbol isn't below `count` and below 256, or if its start in `starts` is above this quantile.
 fn first_of(table: &WeightTable<u32, 24>, starts: &[u32], count: usize, part: u32) -> Option<u8>
     requires starts { length starts.now ≡ count + 1 }
     requires part { part < 4096 }
@@ -67,7 +70,9 @@ fn first_of(table: &WeightTable<u32, 24>, starts: &[u32], count: usize, part: u3
     Some(symbol as u8)
 }
 
-/// The symbol of the first quantile of each part.
+/// Returns the symbol of the first quantile of each part.
+///
+/// Returns `None` if [`first_of`] returns `None` for a part, or if there is no memory.
 fn firsts_of(
     alloc: Global,
     table: &WeightTable<u32, 24>,

@@ -1,5 +1,7 @@
-//! The measured loops of the chain coder. They are inlined into functions of one size and any model, which are not,
-//! so that no constant of a caller changes their code.
+//! The measured loops of the chain coder.
+//!
+//! The loops are inlined into functions of one size, which are generic in the model. These functions aren't inlined, so
+//! that no constant of a caller changes the code of a loop.
 
 pub mod large;
 pub mod small;
@@ -11,7 +13,7 @@ use constriction_stream::decoding::Decode;
 use constriction_stream::encoding::Encode;
 use constriction_words::{BitArray, WordOf};
 
-/// Decodes a symbol for each place of `symbols`, in their order. It returns whether there are so many.
+/// Fills `symbols` with symbols decoded from `coder`. Returns `false` if a decode fails.
 #[inline(always)]
 pub fn decode_each<
     Word: WordOf<State>,
@@ -35,7 +37,7 @@ where
     true
 }
 
-/// Puts symbols back, the last first. It returns whether all went back.
+/// Encodes symbols from the last to the first on `coder`. Returns `false` if an encode fails.
 #[inline(always)]
 pub fn encode_each<
     Word: WordOf<State>,

@@ -1,4 +1,4 @@
-//! Cases of bit coders over words of 32 bits: Exp-Golomb codewords of numbers, and codewords of a Huffman tree.
+//! Cases of bit coders over words of 32 bits: Exp-Golomb codewords of numbers, and codewords of Huffman trees.
 
 use crate::bits::give_out;
 use constriction_base::cursor::Cursor;
@@ -11,7 +11,9 @@ use constriction_symbol::reading::ReadBitStream;
 use constriction_symbol::writing::WriteBitStream;
 use std::alloc::Global;
 
-/// The words of a queue of the symbols' codewords. There are none where a symbol has no codeword or memory is missing.
+/// Encodes symbols in order to a new queue of bits, and returns the queue's words.
+///
+/// Returns `None` if a symbol has no codeword, or if there is no memory.
 #[inline(never)]
 fn encode_queue<C: EncoderCodebook>(
     alloc: Global,
@@ -27,8 +29,9 @@ fn encode_queue<C: EncoderCodebook>(
     coder.into_compressed().ok()
 }
 
-/// The words of a stack of the symbols' codewords, the last symbol's first. There are none where a symbol has no
-/// codeword or memory is missing.
+/// Encodes symbols from the last to the first to a new stack of bits, and returns the stack's words.
+///
+/// Returns `None` if a symbol has no codeword, or if there is no memory.
 #[inline(never)]
 fn encode_stack<C: EncoderCodebook>(
     alloc: Global,
@@ -47,7 +50,7 @@ fn encode_stack<C: EncoderCodebook>(
     coder.into_compressed().ok()
 }
 
-/// Decodes a symbol for each place of `symbols`, in their order, as long as there are codewords.
+/// Fills `symbols` with symbols decoded from a queue of bits. Returns `false` if a decode fails.
 #[inline(never)]
 fn decode_queue<C: DecoderCodebook>(
     words: Vec<u32>,
@@ -68,7 +71,9 @@ where
     true
 }
 
-/// Decodes a symbol for each place of `symbols`, in their order, as long as there are codewords.
+/// Fills `symbols` with symbols decoded from a stack of bits.
+///
+/// Returns `false` if the last word is 0, or if a decode fails.
 #[inline(never)]
 fn decode_stack<C: DecoderCodebook>(
     words: Vec<u32>,
@@ -91,7 +96,9 @@ where
     true
 }
 
-/// Encodes numbers to a queue.
+/// Encodes numbers in order to a queue of bits, with Exp-Golomb codewords.
+///
+/// Copies the words to `out`, as many as fit. Returns the total number of words, or 0 after a failure.
 #[unsafe(no_mangle)]
 pub extern "C" fn constriction_bench_golomb_encode_queue(
     alloc: Global,
@@ -101,7 +108,9 @@ pub extern "C" fn constriction_bench_golomb_encode_queue(
     give_out(encode_queue(alloc, numbers, &ExpGolomb::<u32>::new()), out)
 }
 
-/// Encodes numbers to a stack.
+/// Encodes numbers from the last to the first to a stack of bits, with Exp-Golomb codewords.
+///
+/// Copies the words to `out`, as many as fit. Returns the total number of words, or 0 after a failure.
 #[unsafe(no_mangle)]
 pub extern "C" fn constriction_bench_golomb_encode_stack(
     alloc: Global,
@@ -111,7 +120,9 @@ pub extern "C" fn constriction_bench_golomb_encode_stack(
     give_out(encode_stack(alloc, numbers, &ExpGolomb::<u32>::new()), out)
 }
 
-/// Decodes as many numbers of a queue as there is room for.
+/// Fills `numbers` with numbers decoded from a queue of bits, with Exp-Golomb codewords.
+///
+/// Returns `false` after a failure.
 #[unsafe(no_mangle)]
 pub extern "C" fn constriction_bench_golomb_decode_queue(
     alloc: Global,
@@ -124,7 +135,9 @@ pub extern "C" fn constriction_bench_golomb_decode_queue(
     }
 }
 
-/// Decodes as many numbers of a stack as there is room for.
+/// Fills `numbers` with numbers decoded from a stack of bits, with Exp-Golomb codewords.
+///
+/// Returns `false` after a failure.
 #[unsafe(no_mangle)]
 pub extern "C" fn constriction_bench_golomb_decode_stack(
     alloc: Global,
@@ -137,7 +150,9 @@ pub extern "C" fn constriction_bench_golomb_decode_stack(
     }
 }
 
-/// Encodes symbols to a queue by the Huffman tree of the weights.
+/// Encodes symbols in order to a queue of bits, with the Huffman tree of `weights`.
+///
+/// Copies the words to `out`, as many as fit. Returns the total number of words, or 0 after a failure.
 #[unsafe(no_mangle)]
 pub extern "C" fn constriction_bench_huffman_encode_queue(
     alloc: Global,
@@ -151,7 +166,9 @@ pub extern "C" fn constriction_bench_huffman_encode_queue(
     }
 }
 
-/// Encodes symbols to a stack by the Huffman tree of the weights.
+/// Encodes symbols from the last to the first to a stack of bits, with the Huffman tree of `weights`.
+///
+/// Copies the words to `out`, as many as fit. Returns the total number of words, or 0 after a failure.
 #[unsafe(no_mangle)]
 pub extern "C" fn constriction_bench_huffman_encode_stack(
     alloc: Global,
@@ -165,7 +182,9 @@ pub extern "C" fn constriction_bench_huffman_encode_stack(
     }
 }
 
-/// The Huffman tree of the weights with a copy of the words.
+/// Returns the decoder's Huffman tree of `weights` and a copy of `words`.
+///
+/// Returns `None` if the weights make no tree, or if there is no memory.
 fn tree_and_words(
     alloc: Global,
     weights: &[u32],
@@ -180,7 +199,9 @@ fn tree_and_words(
     }
 }
 
-/// Decodes as many symbols of a queue as there is room for, by the Huffman tree of the weights.
+/// Fills `symbols` with symbols decoded from a queue of bits, with the Huffman tree of `weights`.
+///
+/// Returns `false` after a failure.
 #[unsafe(no_mangle)]
 pub extern "C" fn constriction_bench_huffman_decode_queue(
     alloc: Global,
@@ -194,7 +215,9 @@ pub extern "C" fn constriction_bench_huffman_decode_queue(
     }
 }
 
-/// Decodes as many symbols of a stack as there is room for, by the Huffman tree of the weights.
+/// Fills `symbols` with symbols decoded from a stack of bits, with the Huffman tree of `weights`.
+///
+/// Returns `false` after a failure.
 #[unsafe(no_mangle)]
 pub extern "C" fn constriction_bench_huffman_decode_stack(
     alloc: Global,
@@ -208,7 +231,7 @@ pub extern "C" fn constriction_bench_huffman_decode_stack(
     }
 }
 
-/// Makes the encoder's Huffman tree of the weights, and returns how many symbols it has, 0 where there is none.
+/// Makes the encoder's Huffman tree of `weights`. Returns the number of its symbols, or 0 after a failure.
 #[unsafe(no_mangle)]
 pub extern "C" fn constriction_bench_huffman_make_encoder(alloc: Global, weights: &[u32]) -> usize {
     match EncoderHuffmanTree::from_probabilities(alloc, weights) {
@@ -217,7 +240,7 @@ pub extern "C" fn constriction_bench_huffman_make_encoder(alloc: Global, weights
     }
 }
 
-/// Makes the decoder's Huffman tree of the weights, and returns how many symbols it has, 0 where there is none.
+/// Makes the decoder's Huffman tree of `weights`. Returns the number of its symbols, or 0 after a failure.
 #[unsafe(no_mangle)]
 pub extern "C" fn constriction_bench_huffman_make_decoder(alloc: Global, weights: &[u32]) -> usize {
     match DecoderHuffmanTree::from_probabilities(alloc, weights) {

@@ -1,4 +1,4 @@
-//! Symbols of equal weights.
+//! A model of equal weights, without a table in memory.
 
 ghost use Rattle.std.specs.Prelude.{◌≡◌, ◌+◌, ◌*◌, ◌^◌, ◌<◌, ◌≤◌, ◌-◌, ◌⊎◌, IfNone, IfSome};
 ghost use Rattle.std.proofs.Common.{arith};
@@ -7,9 +7,10 @@ ghost use Rattle.constriction_bench.specs.Equal.{equal_table, equal_makes_table,
 use constriction_base::model::{DecoderModel, EncoderModel, EntropyModel};
 use constriction_words::{BitArray, WordOf};
 
-/// The symbols below `2^bits`, each of weight `2^shift`, without a table: what is left is the
-/// coder's own cost. The weight and the shift are fields, so that a compiler which doesn't know them
-/// can't turn the coder's division into a shift.
+/// The model of the symbols below `2^bits`, each with the weight `2^shift`.
+///
+/// The model has no table in memory, so a measurement shows the coder's own cost. The weight and the shift are fields.
+/// A compiler that doesn't know their values can't replace the coder's division by a shift.
 #[derive(Drop)]
 pub struct Flat<Probability: WordOf<u32>, const PRECISION: usize> {
     weight: Probability,
@@ -23,7 +24,7 @@ pub struct Flat<Probability: WordOf<u32>, const PRECISION: usize> {
 }
 
 impl<Probability: WordOf<u32>, const PRECISION: usize> Flat<Probability, PRECISION> {
-    /// The model of `2^bits` symbols, if the precision has so many bits and they are below 32.
+    /// Makes the model of `2^bits` symbols. Returns `None` if `bits` is 0, above 31 or above `PRECISION`.
     pub fn new(bits: u32) -> Option<Self>
         requires { (1 ≤ PRECISION) × (PRECISION ≤ Probability.BITS) }
         ensures some { IfSome result

@@ -1,4 +1,4 @@
-//! Cases at words of 32 bits, states of 64 bits and a precision of 24 bits.
+//! Cases of the stack coder with words of 32 bits, states of 64 bits and a precision of 24 bits.
 
 use crate::bucket::BucketTable;
 use crate::flat::Flat;
@@ -6,7 +6,9 @@ use crate::runs::{copy_out, decode_in, encode_out, reload_out};
 use constriction_base::weights::WeightTable;
 use std::alloc::Global;
 
-/// Encodes symbols by a table of weights.
+/// Encodes symbols from the last to the first, with a table of weights.
+///
+/// Copies the words to `out`, as many as fit. Returns the total number of words, or 0 after a failure.
 #[unsafe(no_mangle)]
 pub extern "C" fn constriction_bench_ans_encode_u32u64p24_table(
     alloc: Global,
@@ -20,7 +22,7 @@ pub extern "C" fn constriction_bench_ans_encode_u32u64p24_table(
     encode_out::<u32, u64, _, 24>(alloc, symbols, &table, out)
 }
 
-/// Decodes as many symbols as there is room for, by a table of weights.
+/// Fills `symbols` with symbols decoded from `words`, with a table of weights. Returns `false` after a failure.
 #[unsafe(no_mangle)]
 pub extern "C" fn constriction_bench_ans_decode_u32u64p24_table(
     alloc: Global,
@@ -34,7 +36,9 @@ pub extern "C" fn constriction_bench_ans_decode_u32u64p24_table(
     decode_in::<u32, u64, _, 24>(alloc, words, symbols, &table)
 }
 
-/// Encodes symbols below `2^bits` by equal weights.
+/// Encodes symbols below `2^bits` from the last to the first, with equal weights.
+///
+/// Copies the words to `out`, as many as fit. Returns the total number of words, or 0 after a failure.
 #[unsafe(no_mangle)]
 pub extern "C" fn constriction_bench_ans_encode_u32u64p24_flat(
     alloc: Global,
@@ -48,7 +52,9 @@ pub extern "C" fn constriction_bench_ans_encode_u32u64p24_flat(
     encode_out::<u32, u64, _, 24>(alloc, symbols, &flat, out)
 }
 
-/// Decodes as many symbols below `2^bits` as there is room for, by equal weights.
+/// Fills `symbols` with symbols below `2^bits`, decoded from `words` with equal weights.
+///
+/// Returns `false` after a failure.
 #[unsafe(no_mangle)]
 pub extern "C" fn constriction_bench_ans_decode_u32u64p24_flat(
     alloc: Global,
@@ -62,7 +68,9 @@ pub extern "C" fn constriction_bench_ans_decode_u32u64p24_flat(
     decode_in::<u32, u64, _, 24>(alloc, words, symbols, &flat)
 }
 
-/// Decodes as many symbols as there is room for, by a table with a symbol for each part of the quantiles.
+/// Fills `symbols` with symbols decoded from `words`, with a table that lists a symbol for each part of the quantiles.
+///
+/// Returns `false` after a failure.
 #[unsafe(no_mangle)]
 pub extern "C" fn constriction_bench_ans_decode_u32u64p24_bucket(
     alloc: Global,
@@ -76,7 +84,9 @@ pub extern "C" fn constriction_bench_ans_decode_u32u64p24_bucket(
     decode_in::<u32, u64, _, 24>(alloc, words, symbols, &table)
 }
 
-/// Puts words into a coder and takes them out again.
+/// Imports `words` into a coder, and exports them again.
+///
+/// Copies the words to `out`, as many as fit. Returns the total number of words, or 0 after a failure.
 #[unsafe(no_mangle)]
 pub extern "C" fn constriction_bench_ans_reload_u32u64p24(
     alloc: Global,
@@ -86,7 +96,9 @@ pub extern "C" fn constriction_bench_ans_reload_u32u64p24(
     reload_out::<u32, u64>(alloc, words, out)
 }
 
-/// Copies words as the call that puts them into a coder does, with no coder.
+/// Copies `words` to a new vector and from there to `out`, as the import and the export do, but without a coder.
+///
+/// Copies the words to `out`, as many as fit. Returns the total number of words, or 0 after a failure.
 #[unsafe(no_mangle)]
 pub extern "C" fn constriction_bench_copy_u32u64p24(
     alloc: Global,

@@ -1,15 +1,17 @@
-//! Whole cases of the coders behind C functions over numbers and slices, so that a program in C can
-//! time them.
+//! Benchmark cases of the coders as C functions over numbers and slices, so that a program in C can time them.
 //!
-//! - `runs`: the measured loops, which encode all of some symbols, or decode as many as are asked for.
-//! - `flat`, `lookup`, `bucket`: models that cost little, so that a coder's own time shows; `starts`
-//!   serves the last two.
-//! - `large`: the cases at words of 32 bits, states of 64 and a precision of 24.
-//! - `small`: the cases at words of 16 bits, states of 32 and a precision of 12; `rows`: one more of these.
-//! - `ranges`: the measured loops of the range coder, and its cases at the same sizes.
-//! - `chains`: the measured loops of the chain coder, and its cases at the same sizes.
-//! - `bits`: the cases of bit coders, with words of 32 bits; `codewords`: those of Exp-Golomb codewords and Huffman
-//!   trees.
+//! A case fails if there is no memory, or if the model or the coder refuses its arguments.
+//!
+//! - `runs`: the measured loops of the stack coder.
+//! - `flat`, `lookup`, `bucket`: models that take little time, so that a measurement shows the coder's own time.
+//! - `starts`: a list that `lookup` and `bucket` keep.
+//! - `large`: the cases of the stack coder with words of 32 bits, states of 64 bits and a precision of 24 bits.
+//! - `small`: the same cases with words of 16 bits, states of 32 bits and a precision of 12 bits.
+//! - `rows`: one more case at the sizes of `small`.
+//! - `ranges`: the measured loops of the range coder, and its cases at both sizes.
+//! - `chains`: the measured loops of the chain coder, and its cases at both sizes.
+//! - `bits`: the cases of bit coders, with words of 32 bits.
+//! - `codewords`: the cases of Exp-Golomb codewords and Huffman trees, with words of 32 bits.
 #![tactic(auto)]
 
 pub mod bits;

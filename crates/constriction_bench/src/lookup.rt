@@ -1,4 +1,4 @@
-//! A table that lists the symbol of each quantile.
+//! A table of weights that lists the symbol of each quantile.
 
 ghost use Rattle.std.specs.Prelude.{◌≡◌, ℕ, ◌+◌, ◌-◌, ◌^◌, ◌<◌, ◌%◌, length, map, slice_index, IfSome};
 ghost use Rattle.constriction_base.specs.Tables.{table_of};
@@ -12,8 +12,9 @@ use constriction_words::BitArray;
 use std::alloc::Global;
 use std::num::NonZero;
 
-/// Weights of at most 256 symbols, none of which is 0, of a precision of 12 bits. The symbol of each
-/// quantile is listed, so that a decode reads it.
+/// A table of at most 256 weights above 0, at a precision of 12 bits, with a list of the symbol of each quantile.
+///
+/// A decode reads the symbol from the list, without a search.
 #[derive(Drop)]
 pub struct LookupTable {
     table: WeightTable<u16, 12>,
@@ -26,7 +27,7 @@ pub struct LookupTable {
 }
 
 impl LookupTable {
-    /// The table of these weights, or nothing where there is none or memory is missing.
+    /// Makes the table of `weights`. Returns `None` if the weights make no such table, or if there is no memory.
     pub fn new(alloc: Global, weights: &[u16]) -> Option<Self>
         ensures { IfSome result
             (λ table. ⟦<LookupTable as EntropyModel<12>>⟧.table table
@@ -45,7 +46,10 @@ impl LookupTable {
     }
 }
 
-/// The symbol whose interval holds a quantile, if it is one of the first 256 and lies where `starts` says.
+/// Returns the symbol of `quantile`.
+///
+/// Returns `None` if the symbol isn't below `count` and below 256, or if `quantile` lies outside the symbol's interval
+/// according to `starts`.
 fn symbol_at(
     table: &WeightTable<u16, 12>,
     starts: &[u32],
@@ -66,7 +70,9 @@ fn symbol_at(
     Some(symbol as u8)
 }
 
-/// The symbol of each quantile.
+/// Returns the symbol of each quantile.
+///
+/// Returns `None` if [`symbol_at`] returns `None` for a quantile, or if there is no memory.
 fn symbols_of(
     alloc: Global,
     table: &WeightTable<u16, 12>,

@@ -1,4 +1,4 @@
-//! The measured loops of the range coder. None is inlined, so that no constant of a caller changes their code.
+//! The measured loops of the range coder. They aren't inlined, so that no constant of a caller changes their code.
 
 pub mod large;
 pub mod small;
@@ -14,8 +14,9 @@ use constriction_stream::encoding::Encode;
 use constriction_words::{BitArray, WordOf};
 use std::alloc::Global;
 
-/// Encodes symbols by a new encoder, in their order, and gives the encoder's words. There are none
-/// where a symbol isn't the model's or memory is missing.
+/// Encodes symbols in order on a new encoder, and returns the words that the encoder exports.
+///
+/// Returns `None` if the model has no entry for a symbol, or if there is no memory.
 #[inline(never)]
 fn encode_range<
     Word: WordOf<State>,
@@ -36,8 +37,7 @@ where
     encoder.into_compressed().ok()
 }
 
-/// Decodes a symbol for each place of `symbols`, in their order. It returns whether the words hold so
-/// many symbols of the model.
+/// Fills `symbols` with symbols decoded from `words`, in order. Returns `false` if the words don't encode that many.
 #[inline(never)]
 fn decode_range<
     Word: WordOf<State>,
@@ -63,8 +63,9 @@ where
     true
 }
 
-/// Encodes symbols, and writes as many of the words as there is room for. It returns how many there are,
-/// 0 where there are none.
+/// Encodes symbols as [`encode_range`] does, and copies the words to `out`, as many as fit.
+///
+/// Returns how many words there are, or 0 if [`encode_range`] returns `None`.
 pub fn encode_range_out<
     Word: WordOf<State>,
     State: BitArray,
@@ -81,8 +82,9 @@ where
     }
 }
 
-/// Decodes a symbol for each place of `symbols` from a copy of the words. It returns false where they hold
-/// fewer symbols of the model, or memory is missing.
+/// Fills `symbols` with symbols decoded from a copy of `words`, in order.
+///
+/// Returns `false` if the words don't encode that many symbols of the model, or if there is no memory.
 pub fn decode_range_in<
     Word: WordOf<State>,
     State: BitArray,

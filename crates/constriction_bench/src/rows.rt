@@ -1,11 +1,13 @@
-//! The case of the library's lookup model, at words of 16 bits, states of 32 bits and a precision of 12 bits.
+//! The case of the library's lookup model, with words of 16 bits, states of 32 bits and a precision of 12 bits.
 
 use crate::runs::decode_in;
 use constriction_base::weights::WeightTable;
 use constriction_models::lookup::ContiguousLookupDecoderModel;
 use std::alloc::Global;
 
-/// Decodes as many symbols as there is room for, by the library's model with a row for each quantile.
+/// Fills `symbols` with symbols decoded from `words` on a stack coder, with the library's lookup model of `weights`.
+///
+/// Returns `false` after a failure.
 #[unsafe(no_mangle)]
 pub extern "C" fn constriction_bench_ans_decode_u16u32p12_rows(
     alloc: Global,

@@ -1,4 +1,4 @@
-//! The measured loops. None is inlined, so that no constant of a caller changes their code.
+//! The measured loops of the stack coder. They aren't inlined, so that no constant of a caller changes their code.
 
 ghost use Rattle.std.specs.Prelude.{◌≡◌, ◌++◌, length, take, drop};
 ghost use Rattle.constriction_base.specs.Steps.{IsSizes};
@@ -11,8 +11,9 @@ use constriction_stream::encoding::Encode;
 use constriction_words::{BitArray, WordOf};
 use std::alloc::Global;
 
-/// Encodes symbols into a new coder, the last first, and gives the coder's words. There are none
-/// where a symbol isn't the model's or memory is missing.
+/// Encodes symbols from the last to the first on a new coder, and returns the words that the coder exports.
+///
+/// Returns `None` if the model has no entry for a symbol, or if there is no memory.
 #[inline(never)]
 pub fn encode_all<
     Word: WordOf<State>,
@@ -36,8 +37,7 @@ where
     coder.into_compressed().ok()
 }
 
-/// Decodes a symbol for each place of `symbols`, in their order. It returns whether the words are
-/// a coder's, whose last is not zero.
+/// Fills `symbols` with symbols decoded from `words`. Returns `false` if the last word is 0.
 #[inline(never)]
 pub fn decode_all<
     Word: WordOf<State>,
@@ -62,7 +62,7 @@ where
     true
 }
 
-/// Puts words into a coder and takes them out again, if the last isn't zero.
+/// Imports `words` into a coder, and exports them again. Returns `None` if the last word is 0, or after a failure.
 #[inline(never)]
 pub fn reload_all<Word: WordOf<State>, State: BitArray>(words: Vec<Word>) -> Option<Vec<Word>>
     requires { IsSizes Word.BITS State.BITS }
@@ -73,8 +73,9 @@ pub fn reload_all<Word: WordOf<State>, State: BitArray>(words: Vec<Word>) -> Opt
     }
 }
 
-/// Encodes symbols, and writes as many of the words as there is room for. It returns how many there are,
-/// 0 where there are none.
+/// Encodes symbols as [`encode_all`] does, and copies the words to `out`, as many as fit.
+///
+/// Returns how many words there are, or 0 if [`encode_all`] returns `None`.
 pub fn encode_out<
     Word: WordOf<State>,
     State: BitArray,
@@ -91,8 +92,9 @@ where
     }
 }
 
-/// Decodes a symbol for each place of `symbols` from a copy of the words. It returns false where they are
-/// not a coder's, or memory is missing.
+/// Fills `symbols` with symbols decoded from a copy of `words`.
+///
+/// Returns `false` if the last word is 0, or if there is no memory.
 pub fn decode_in<
     Word: WordOf<State>,
     State: BitArray,
@@ -109,8 +111,9 @@ where
     }
 }
 
-/// Puts a copy of the words into a coder and takes them out again. It returns how many there are, 0 where
-/// they are not a coder's, or memory is missing.
+/// Imports a copy of `words` into a coder, exports it again, and copies the words to `out`, as many as fit.
+///
+/// Returns how many words there are, or 0 if the last word is 0 or there is no memory.
 pub fn reload_out<Word: WordOf<State>, State: BitArray>(
     alloc: Global,
     words: &[Word],
@@ -127,7 +130,7 @@ pub fn reload_out<Word: WordOf<State>, State: BitArray>(
     }
 }
 
-/// Writes as many of the words as there is room for, and returns how many words there are.
+/// Copies `words` to `out`, as many as fit. Returns the total number of words.
 pub fn copy_out<Word: BitArray>(words: &[Word], out: &mut [Word]) -> usize
     ensures count { result ≡ length words.now }
     ensures copied { out.new ≡ take (length out.old) words.now ++ drop (length words.now) out.old }

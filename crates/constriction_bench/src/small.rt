@@ -1,5 +1,5 @@
 // Written by tools/sizes from large.rt.
-//! Cases at words of 16 bits, states of 32 bits and a precision of 12 bits.
+//! Cases of the stack coder with words of 16 bits, states of 32 bits and a precision of 12 bits.
 
 use crate::flat::Flat;
 use crate::lookup::LookupTable;
@@ -7,7 +7,9 @@ use crate::runs::{copy_out, decode_in, encode_out, reload_out};
 use constriction_base::weights::WeightTable;
 use std::alloc::Global;
 
-/// Encodes symbols by a table of weights.
+/// Encodes symbols from the last to the first, with a table of weights.
+///
+/// Copies the words to `out`, as many as fit. Returns the total number of words, or 0 after a failure.
 #[unsafe(no_mangle)]
 pub extern "C" fn constriction_bench_ans_encode_u16u32p12_table(
     alloc: Global,
@@ -21,7 +23,7 @@ pub extern "C" fn constriction_bench_ans_encode_u16u32p12_table(
     encode_out::<u16, u32, _, 12>(alloc, symbols, &table, out)
 }
 
-/// Decodes as many symbols as there is room for, by a table of weights.
+/// Fills `symbols` with symbols decoded from `words`, with a table of weights. Returns `false` after a failure.
 #[unsafe(no_mangle)]
 pub extern "C" fn constriction_bench_ans_decode_u16u32p12_table(
     alloc: Global,
@@ -35,7 +37,9 @@ pub extern "C" fn constriction_bench_ans_decode_u16u32p12_table(
     decode_in::<u16, u32, _, 12>(alloc, words, symbols, &table)
 }
 
-/// Encodes symbols below `2^bits` by equal weights.
+/// Encodes symbols below `2^bits` from the last to the first, with equal weights.
+///
+/// Copies the words to `out`, as many as fit. Returns the total number of words, or 0 after a failure.
 #[unsafe(no_mangle)]
 pub extern "C" fn constriction_bench_ans_encode_u16u32p12_flat(
     alloc: Global,
@@ -49,7 +53,9 @@ pub extern "C" fn constriction_bench_ans_encode_u16u32p12_flat(
     encode_out::<u16, u32, _, 12>(alloc, symbols, &flat, out)
 }
 
-/// Decodes as many symbols below `2^bits` as there is room for, by equal weights.
+/// Fills `symbols` with symbols below `2^bits`, decoded from `words` with equal weights.
+///
+/// Returns `false` after a failure.
 #[unsafe(no_mangle)]
 pub extern "C" fn constriction_bench_ans_decode_u16u32p12_flat(
     alloc: Global,
@@ -63,7 +69,9 @@ pub extern "C" fn constriction_bench_ans_decode_u16u32p12_flat(
     decode_in::<u16, u32, _, 12>(alloc, words, symbols, &flat)
 }
 
-/// Decodes as many symbols as there is room for, by a table with the symbol of each quantile.
+/// Fills `symbols` with symbols decoded from `words`, with a table that lists the symbol of each quantile.
+///
+/// Returns `false` after a failure.
 #[unsafe(no_mangle)]
 pub extern "C" fn constriction_bench_ans_decode_u16u32p12_lookup(
     alloc: Global,
@@ -77,7 +85,9 @@ pub extern "C" fn constriction_bench_ans_decode_u16u32p12_lookup(
     decode_in::<u16, u32, _, 12>(alloc, words, symbols, &table)
 }
 
-/// Puts words into a coder and takes them out again.
+/// Imports `words` into a coder, and exports them again.
+///
+/// Copies the words to `out`, as many as fit. Returns the total number of words, or 0 after a failure.
 #[unsafe(no_mangle)]
 pub extern "C" fn constriction_bench_ans_reload_u16u32p12(
     alloc: Global,
@@ -87,7 +97,9 @@ pub extern "C" fn constriction_bench_ans_reload_u16u32p12(
     reload_out::<u16, u32>(alloc, words, out)
 }
 
-/// Copies words as the call that puts them into a coder does, with no coder.
+/// Copies `words` to a new vector and from there to `out`, as the import and the export do, but without a coder.
+///
+/// Copies the words to `out`, as many as fit. Returns the total number of words, or 0 after a failure.
 #[unsafe(no_mangle)]
 pub extern "C" fn constriction_bench_copy_u16u32p12(
     alloc: Global,

@@ -1,4 +1,4 @@
-//! Where the intervals of a model's symbols begin, as a list.
+//! The starts of the intervals of a model's symbols, as a list.
 
 ghost use Rattle.std.specs.Prelude.{◌-◌, ◌<◌, IfSome};
 ghost use Rattle.constriction_bench.specs.Starts.{AreStarts};
@@ -7,9 +7,10 @@ use constriction_base::model::{EncoderModel, EntropyModel};
 use constriction_words::{BitArray, WordOf};
 use std::alloc::Global;
 
-/// Where the intervals of the first symbols of a model begin, and then where the last of them ends.
-/// There is no list where one of these symbols has no interval, or one that does not begin where that
-/// of the symbol before ends, or where memory is missing.
+/// Returns the starts of the intervals of the symbols below `count`, and then the end of the last of these intervals.
+///
+/// Returns `None` if one of these symbols has no entry in `model`, if an interval doesn't begin where the previous
+/// symbol's interval ends, or if there is no memory.
 pub fn starts_of<M: EncoderModel<PRECISION, Symbol = usize>, const PRECISION: usize>(
     alloc: Global,
     model: &M,

@@ -1,7 +1,7 @@
-//! The code that a C function returns for the answer of its call.
+//! The code that a C function returns for the result of its call.
 //!
-//! Each C function makes one call of `constriction_calls`, and its contract has each clause of the call's contract. The
-//! clauses are about the answer that the returned code stands for (`answer_by_code`).
+//! The contract of a C function has each clause of its call's contract. `answer_by_code` turns the returned code into
+//! the result that these clauses describe.
 
 ghost use Rattle.std.specs.Prelude.{◌≡◌, ℕ, Err};
 ghost use Rattle.constriction_inputs.specs.declared.refusal.Refusal.TheVariants.{NoSpace};
@@ -9,7 +9,11 @@ ghost use Rattle.constriction_c.specs.Codes.{answer_by_code, needed_by};
 
 use constriction_inputs::refusal::Refusal;
 
-/// Returns the code of an answer. For `NoSpace`, also sets `needed` to the number of words that the buffer has to hold.
+/// Returns the code of `answer`, the result of a call: 0 for success, or the code of the error.
+///
+/// The errors `ImpossibleSymbol`, `WrongWeights`, `WrongInterval`, `WrongLength`, `NoSpace`, `NoMemory`, `InvalidData`
+/// and `OutOfData` have the codes 1 to 8, in this order. For `NoSpace(count)` this function also sets `needed` to
+/// `count`, the number of words that the buffer has to hold. Otherwise it leaves `needed` unchanged.
 #[inline]
 pub fn code_of(answer: Result<(), Refusal>, needed: &mut usize) -> u32
     ensures code { answer_by_code result needed.new ≡ answer }
@@ -31,7 +35,7 @@ pub fn code_of(answer: Result<(), Refusal>, needed: &mut usize) -> u32
     }
 }
 
-/// Returns the code of an answer that is never `NoSpace`, because the call writes no words.
+/// Returns the code of `answer`, as [`code_of`] does. The caller proves that `answer` isn't `NoSpace`.
 #[inline]
 pub fn code_without_space(answer: Result<(), Refusal>) -> u32
     requires { (needed : ℕ) → answer ≡ Err (NoSpace needed) → ⊥ }

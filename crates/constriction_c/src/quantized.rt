@@ -1,4 +1,6 @@
-//! The C functions of models: intervals under the models of families, and weights from counts, in both sizes.
+//! The C functions of models, in both sizes: intervals under the models of families, and weights from counts.
+//!
+//! The modules of [`constriction_inputs::quantized`] have the calls, and explain their arguments and errors.
 
 ghost use Rattle.std.specs.Prelude.{map};
 ghost use Rattle.constriction_c.specs.Codes.{answer_by_code};
@@ -11,7 +13,9 @@ use constriction_inputs::quantized::intervals::intervals_of_quantized;
 use constriction_words::BitArray;
 use std::alloc::Global;
 
-/// Writes each symbol's interval under the model of its own location and scale, at a precision of 24 bits.
+/// Writes the interval of each symbol under the symbol's own location and scale, at a precision of 24 bits.
+///
+/// Calls [`intervals_of_quantized`] and returns the code of its result ([`code_of`](crate::codes::code_of)).
 #[unsafe(no_mangle)]
 pub extern "C" fn constriction_quantized_intervals_u32(
     family: u32,
@@ -31,7 +35,9 @@ pub extern "C" fn constriction_quantized_intervals_u32(
     code_without_space(intervals_of_quantized::<u32, 24>(&models, symbols, lefts, ps))
 }
 
-/// Writes each symbol's interval under the model of its own location and scale, at a precision of 12 bits.
+/// Writes the interval of each symbol under the symbol's own location and scale, at a precision of 12 bits.
+///
+/// Calls [`intervals_of_quantized`] and returns the code of its result ([`code_of`](crate::codes::code_of)).
 #[unsafe(no_mangle)]
 pub extern "C" fn constriction_quantized_intervals_u16(
     family: u32,
@@ -51,7 +57,9 @@ pub extern "C" fn constriction_quantized_intervals_u16(
     code_without_space(intervals_of_quantized::<u16, 12>(&models, symbols, lefts, ps))
 }
 
-/// Writes a weight for each count: in proportion to the counts, apart from rounding, and with the sum `2^24`.
+/// Writes a weight for each count, in proportion to the count apart from rounding. The weights add up to `2^24`.
+///
+/// Calls [`put_weights_of_counts`] and returns the code of its result ([`code_of`](crate::codes::code_of)).
 #[unsafe(no_mangle)]
 pub extern "C" fn constriction_weights_of_counts_u32(
     alloc: Global,
@@ -64,7 +72,9 @@ pub extern "C" fn constriction_weights_of_counts_u32(
     code_without_space(put_weights_of_counts::<u32, 24>(alloc, counts, weights))
 }
 
-/// Writes a weight for each count: in proportion to the counts, apart from rounding, and with the sum `2^12`.
+/// Writes a weight for each count, in proportion to the count apart from rounding. The weights add up to `2^12`.
+///
+/// Calls [`put_weights_of_counts`] and returns the code of its result ([`code_of`](crate::codes::code_of)).
 #[unsafe(no_mangle)]
 pub extern "C" fn constriction_weights_of_counts_u16(
     alloc: Global,

@@ -1,4 +1,4 @@
-//! The C functions of stores, `constriction_store_..`. The caller keeps words and an index.
+//! The C functions of stores, `constriction_store_..`. The caller keeps the words and the index of a store.
 //!
 //! The module [`constriction_calls::store`] has the calls, and explains their arguments and errors.
 //!

@@ -13,13 +13,13 @@
 //!
 //! - `WrongLength`: `len` is past the buffer's end, the arguments of the models don't match the number of symbols, or
 //!   the lengths of `lefts` and `ps` differ.
-//! - `WrongInterval`: an interval is empty or ends past `2 ^ PRECISION`. Or the range of a family has fewer than two
-//!   symbols, or more than `2 ^ PRECISION` symbols.
-//! - `WrongWeights`: the caller's weights or distributions make no models.
+//! - `WrongInterval`: an interval is empty or ends past `2 ^ PRECISION`, or a family's range has fewer than two symbols
+//!   or more than `2 ^ PRECISION` symbols.
+//! - `WrongWeights`: the caller's weights or distributions make no models. The variant
 //!   [`constriction_inputs::refusal::Refusal::WrongWeights`] lists the cases.
 //! - `InvalidData`: no state exports the words to import, or the head to export has no binary form.
 //! - `ImpossibleSymbol`: a model has no entry for its symbol.
-//! - `NoSpace(needed)`: the buffer is too short. `needed` is the number of words that it would hold after the call.
+//! - `NoSpace(needed)`: the buffer is too short. `needed` is the number of words that it has to hold.
 //! - `NoMemory`: there is no memory. The call may return `NoMemory` in place of `NoSpace`.
 //!
 //! # Examples

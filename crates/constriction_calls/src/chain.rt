@@ -7,8 +7,8 @@
 //!
 //! # Errors
 //!
-//! A call that fails changes nothing. It checks for these errors in this order. Each except `NoMemory` is returned
-//! exactly in its case:
+//! A call that fails changes nothing. It returns the first of these errors whose condition holds. No contract states
+//! when there is no memory.
 //!
 //! - `WrongLength`: a number of words in use is past its buffer's end, or the arguments of the models don't match the
 //!   number of symbols.

@@ -1,7 +1,7 @@
 //! Encoding lists of symbols with codebooks, and decoding them, over a caller's buffers.
 //!
-//! A caller chooses the codebook with a value whose type implements [`Codes`]. The types are `ExpGolomb` for numbers,
-//! and [`Tree`] for the Huffman tree of weights.
+//! A caller chooses the codebook with a value of a type that implements [`Codes`]. The types are `ExpGolomb` for
+//! numbers, and [`Tree`] for the Huffman tree of weights.
 //!
 //! # Errors
 //!
@@ -13,7 +13,7 @@
 //! - `ImpossibleSymbol`: a symbol has no codeword.
 //! - `NoSpace(needed)`: the buffer is too short. `needed` is the number of words that it has to hold.
 //! - `OutOfData`: the words end before all symbols are decoded.
-//! - `InvalidData`: no codeword is a beginning of the next bits, or the last word of a stack is 0.
+//! - `InvalidData`: the next bits begin with no codeword, or the last word of a stack is 0.
 //!
 //! If there is no memory, the call returns `NoMemory`, unless `WrongLength`, `WrongWeights` or `ImpossibleSymbol`
 //! applies.
@@ -63,7 +63,9 @@ pub trait Codes {
         ensures codewords { IfSome result (λ made. (s : Self.Symbol) → Self.Encoder.codeword made s
             ≡ codeword_in number (book self.now) s) };
 
-    /// Returns the reason why `symbols` weren't encoded. The call needs no memory.
+    /// Returns why `symbols` weren't encoded: `WrongWeights`, `ImpossibleSymbol` or `NoMemory`, the first that applies.
+    ///
+    /// The call needs no memory.
     fn refused(&self, symbols: &[Self::Symbol]) -> Refusal
         ensures { Asks {T = Unit {0}} WrongWeights (MakesCode (2 ^ 62 - 1) (book self.now)) (Asks ImpossibleSymbol
             (AllHaveCodewords (codeword_in number (book self.now)) symbols.now) (Else Memory)) (Err result) };

@@ -28,7 +28,8 @@ use std::marker::Model;
 /// moves the offset, which is the quantile minus the interval's start, to the remainders. An encode takes the offset
 /// back from the remainders, and restores the quantile.
 ///
-/// Contracts see a `ChainValue`: the state (the two heads and the words of both backends) and the backends.
+/// Contracts describe a coder by its `ChainValue`: the state (the two heads and the words of both backends) and the
+/// backends.
 ///
 /// # Examples
 ///
@@ -111,7 +112,7 @@ impl<
         self.heads.is_whole()
     }
 
-    /// Makes a coder from two backends and the heads above their words.
+    /// Creates a coder from two backends and the heads above their words.
     ///
     /// # Examples
     ///
@@ -173,7 +174,7 @@ impl<
     ///
     /// # Errors
     ///
-    /// `AllocError` only if cloning a backend fails.
+    /// Returns `AllocError` only if cloning a backend fails.
     fn clone(&self) -> Result<Self, AllocError> {
         let compressed = self.compressed.clone()?;
         let remainders = self.remainders.clone()?;

@@ -16,7 +16,7 @@ use constriction_base::backends::{Holds, ReadWords, Stack, WriteWords};
 use constriction_base::errors::CoderError;
 use constriction_words::{BitArray, Reciprocal, WordOf};
 
-/// Takes the next quantile, and returns it with the compressed head after it.
+/// Takes the next quantile off the compressed side. Returns the quantile and the new compressed head.
 #[inline(always)]
 pub fn take<Word: WordOf<State>, State: BitArray, C: ReadWords<Word, Stack>, R: WriteWords<Word>>(
     compressed: &mut C,
@@ -40,7 +40,7 @@ pub fn take<Word: WordOf<State>, State: BitArray, C: ReadWords<Word, Stack>, R: 
     take_quantile(compressed, remainders, heads.0, precision)
 }
 
-/// Moves a quantile's offset in its interval to the remainders, and returns the remainders head after it.
+/// Moves the offset `quantile - left` to the remainders, and returns the new remainders head.
 #[inline(always)]
 pub fn keep<Word: WordOf<State>, State: BitArray, R: WriteWords<Word>>(
     remainders: &mut R,
@@ -68,7 +68,9 @@ pub fn keep<Word: WordOf<State>, State: BitArray, R: WriteWords<Word>>(
     }
 }
 
-/// Returns the quotient by the length of an interval and the remainder, by a product if there is a reciprocal.
+/// Returns the quotient and the remainder of `number` divided by `p`.
+///
+/// If there is a reciprocal, the call multiplies by it instead of dividing.
 #[inline(always)]
 fn divided<State: BitArray>(
     number: State,
@@ -89,7 +91,9 @@ fn divided<State: BitArray>(
     }
 }
 
-/// Puts back the quantile that the remainders determine in an interval, and returns both heads after it.
+/// Puts back the quantile that the remainders determine, and returns both new heads.
+///
+/// The quantile lies in the interval of length `p` from `left` on.
 #[inline(always)]
 fn give_at<Word: WordOf<State>, State: BitArray, C: WriteWords<Word>, R: ReadWords<Word, Stack>>(
     compressed: &mut C,
@@ -135,9 +139,10 @@ fn give_at<Word: WordOf<State>, State: BitArray, C: WriteWords<Word>, R: ReadWor
     }
 }
 
-/// Puts back the quantile that the remainders determine in an interval, and returns both heads after it.
+/// Puts back the quantile that the remainders determine, and returns both new heads.
 ///
-/// A division and a product by a reciprocal are two paths, so that a step asks once which of them it takes.
+/// The quantile lies in the interval of length `p` from `left` on. The call branches once on whether there is a
+/// reciprocal. One path divides, and the other multiplies by the reciprocal.
 #[inline(always)]
 pub fn give<Word: WordOf<State>, State: BitArray, C: WriteWords<Word>, R: ReadWords<Word, Stack>>(
     compressed: &mut C,

@@ -24,7 +24,7 @@
 //! - [`heads`]: the two numbers above the coder's words.
 //! - [`errors`]: the errors of the coder's calls.
 //! - `halves`: decoding in two halves, and encoding, on the heads and the backends.
-//! - `steps`: the parts of a step, each on one of the two sides.
+//! - `steps`: the parts of a step, each on the compressed side or the remainders' side.
 //! - `moves`: moving words between the heads and a backend.
 //!
 //! Contracts cite the definitions of these files:

@@ -12,7 +12,7 @@ use constriction_base::backends::{Holds, ReadWords, Stack, WriteWords};
 use constriction_base::head_words::{count_of_words, fill, write_words};
 use constriction_words::{BitArray, WordOf};
 
-/// Returns whether a number is below 2 to the power of (bits of `State` - `less`).
+/// Returns whether `r` is below `2^(State::BITS - less)`.
 #[inline]
 pub fn is_below_power<State: BitArray>(r: State, less: u32) -> bool
     requires { (0 < less) × (less ≤ State.BITS) }
@@ -21,7 +21,7 @@ pub fn is_below_power<State: BitArray>(r: State, less: u32) -> bool
     r.shifted_right(State::BITS - less).is_nothing()
 }
 
-/// Reads words into a remainders head until it is in its window.
+/// Reads words of `source` into a remainders head until the head is in its window.
 ///
 /// Returns `None` if the first word is 0, or if there are too few words.
 pub fn begin_window<Word: WordOf<State>, State: BitArray, B: ReadWords<Word, Stack>>(
@@ -52,13 +52,13 @@ pub fn begin_window<Word: WordOf<State>, State: BitArray, B: ReadWords<Word, Sta
     }
 }
 
-/// Writes both heads to a backend, after asking it for room.
+/// Writes both heads to `backend`, after asking it for room for all words of the heads.
 ///
 /// The words of the remainders head come first, lowest first and without leading zeros. The compressed head follows.
 ///
 /// # Errors
 ///
-/// The backend's error if it has no room for these words, or refuses to write one.
+/// Returns the backend's error if it has no room for these words, or refuses to write one of them.
 pub fn append_heads<Word: WordOf<State>, State: BitArray, B: WriteWords<Word>>(
     backend: &mut B,
     h: Word,

@@ -1,4 +1,4 @@
-//! The parts of a step, each on one of the coder's two sides.
+//! The parts of a step, each on the compressed side or the remainders' side.
 
 ghost use Rattle.constriction_chain.specs.Chain.{IsRemaindersHead, IsSized, least};
 ghost use Rattle.constriction_chain.specs.Steps.{Given, Halts, Kept, Lacks, NotKept, Prepared, Regained, Taken};
@@ -12,7 +12,7 @@ use constriction_base::backends::{Holds, ReadWords, Stack, WriteWords};
 use constriction_base::errors::CoderError;
 use constriction_words::{BitArray, WordOf};
 
-/// Returns whether the next quantile has to come from a new word.
+/// Returns whether fewer than `precision` bits are left over, so that the next quantile needs a compressed word.
 #[inline(always)]
 fn needs_word<Word: BitArray>(h: Word, precision: u32) -> bool
     requires { precision ≤ Word.BITS }
@@ -22,7 +22,7 @@ fn needs_word<Word: BitArray>(h: Word, precision: u32) -> bool
     precision == Word::BITS || h.shifted_right(precision).is_nothing()
 }
 
-/// Splits a word into a quantile and the head with the word's other bits.
+/// Returns the quantile in the low bits of `word`, and the head `h` with the word's other bits appended.
 #[inline(always)]
 fn from_word<Word: BitArray>(h: Word, word: Word, precision: u32) -> (Word, Word)
     requires sized { (1 ≤ precision) × (precision ≤ Word.BITS) }
@@ -41,9 +41,9 @@ fn from_word<Word: BitArray>(h: Word, word: Word, precision: u32) -> (Word, Word
     )
 }
 
-/// Takes the next quantile, and returns it with the head after it.
+/// Takes the next quantile off the compressed side. Returns the quantile and the new compressed head.
 ///
-/// If it needs a word, it first asks the remainders for room for one.
+/// If the call needs a compressed word, it first asks the remainders for room for one word.
 #[inline(always)]
 pub fn take_quantile<Word: BitArray, C: ReadWords<Word, Stack>, R: WriteWords<Word>>(
     compressed: &mut C,
@@ -76,7 +76,9 @@ pub fn take_quantile<Word: BitArray, C: ReadWords<Word, Stack>, R: WriteWords<Wo
     }
 }
 
-/// Adds an offset in an interval to the remainders head, and brings the head back into its window.
+/// Multiplies the remainders head `r` by `p`, adds the offset `t`, and brings the head back into its window.
+///
+/// If the sum is above the window, the call writes the low word of the sum to `remainders`.
 #[inline(always)]
 pub fn gain<Word: WordOf<State>, State: BitArray, R: WriteWords<Word>>(
     remainders: &mut R,
@@ -104,7 +106,9 @@ pub fn gain<Word: WordOf<State>, State: BitArray, R: WriteWords<Word>>(
     }
 }
 
-/// Returns whether a quantile makes the compressed head too long, so that a word has to be written.
+/// Returns whether a quantile of `precision` bits makes the compressed head `h` too long.
+///
+/// A word then has to be written.
 #[inline(always)]
 fn owes_word<Word: BitArray>(h: Word, precision: u32) -> bool
     requires { (1 ≤ precision) × (precision ≤ Word.BITS) }
@@ -136,7 +140,9 @@ pub fn prepare_for_quantile<Word: BitArray, C: WriteWords<Word>>(
     }
 }
 
-/// Puts a quantile back onto the compressed head, which writes a word if it is full.
+/// Puts `quantile` back onto the compressed head `h`, and returns the new head.
+///
+/// If the head becomes too long, the call writes a word to `compressed`.
 #[inline(always)]
 pub fn give_quantile<Word: BitArray, C: WriteWords<Word>>(
     compressed: &mut C,
@@ -166,7 +172,9 @@ pub fn give_quantile<Word: BitArray, C: WriteWords<Word>>(
     Ok(h.shifted_right(Word::BITS - precision))
 }
 
-/// Returns whether the remainders head is too short for an interval, so that a word is needed.
+/// Returns whether the remainders head `r` is too low for an encode with an interval of length `p`.
+///
+/// The encode then first needs a word of the remainders.
 #[inline(always)]
 fn is_short<Word: BitArray, State: BitArray>(r: State, p: State, precision: u32) -> bool
     requires { IsSized Word.BITS State.BITS precision }
@@ -177,7 +185,9 @@ fn is_short<Word: BitArray, State: BitArray>(r: State, p: State, precision: u32)
         .is_below(p)
 }
 
-/// Returns the remainders head, after a word moved in if the interval needs one, or `None` if no word is left.
+/// Moves a word into the remainders head `r` if `r` is too low for an interval of length `p`, and returns the head.
+///
+/// The call returns `None` if it needs a word and no word is left.
 #[inline(always)]
 pub fn regain<Word: WordOf<State>, State: BitArray, R: ReadWords<Word, Stack>>(
     remainders: &mut R,

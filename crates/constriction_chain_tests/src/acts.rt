@@ -1,4 +1,4 @@
-//! The acts of scripts on coders over vectors.
+//! The interpreter of scripts on coders over vectors.
 
 ghost use Rattle.constriction_chain.specs.Chain.{IsSized};
 
@@ -18,7 +18,7 @@ use constriction_stream::encoding::Encode;
 use constriction_words::{BitArray, WordOf};
 use std::alloc::{AllocError, Global};
 
-/// What is done with a coder, or expected of it.
+/// An act on a coder: a change of the coder, or a check.
 #[derive(Clone, Copy)]
 enum Verb {
     Import(Form),
@@ -28,7 +28,7 @@ enum Verb {
     Says(Says),
 }
 
-/// Of which words a coder is made.
+/// The form of the words that a coder is imported from.
 #[derive(Clone, Copy)]
 enum Form {
     Words,
@@ -36,7 +36,7 @@ enum Form {
     Remainders,
 }
 
-/// How a copy of the coder is taken apart into two lists of words.
+/// A way to take a copy of the coder apart into two lists of words.
 #[derive(Clone, Copy)]
 enum Parts {
     Raw,
@@ -45,7 +45,7 @@ enum Parts {
     Binary,
 }
 
-/// What is said of a coder that stays.
+/// A check that leaves the coder unchanged.
 #[derive(Clone, Copy)]
 enum Says {
     Heads,
@@ -55,12 +55,16 @@ enum Says {
     Unfinished,
 }
 
-/// The verbs. `import`, `import-binary` and `import-remainders` make a coder of words. A refused import says how many
-/// words are left, as in `import!leaves-one`. `clone` puts a clone in the coder's place, and `again` one that was taken
-/// apart and put together. Verbs of words look at a clone: those `compressed`, and the `remainders`; `prefix` and
-/// `suffix` of `into_remainders`; `export` and `rest` of `into_compressed`; `export-binary`. `heads` are the bits left
-/// over and the number of the remainders. A coder is `whole`; the next encode may find it `full`; the next decode may
-/// find it `exhausted`, or it is `unfinished`.
+/// The verbs of scripts, besides the verbs that encode or decode symbols.
+///
+/// - `import`, `import-binary` and `import-remainders` import a coder from words. The answer of a refused import is the
+///   number of words left, as in `import!leaves-one`.
+/// - `clone` replaces the coder by a clone. `again` replaces it by a clone that was taken apart and put together again.
+/// - These verbs compare words of a clone: `compressed` and `remainders` (raw parts), `prefix` and `suffix`
+///   (`into_remainders`), `export` and `rest` (`into_compressed`), and `export-binary` (`into_binary`).
+/// - `heads` compares the two heads.
+/// - `whole` checks that the coder is whole, `full` that it may be full, `exhausted` that it may be exhausted, and
+///   `unfinished` that it isn't exhausted.
 const VERBS: &[(&str, Verb)] = &[
     ("import", Verb::Import(Form::Words)),
     ("import-binary", Verb::Import(Form::Binary)),
@@ -81,7 +85,9 @@ const VERBS: &[(&str, Verb)] = &[
     ("unfinished", Verb::Says(Says::Unfinished)),
 ];
 
-/// Returns how many words an import handed back, where they are the first of those that it was given.
+/// Returns the answer of a refused import that handed back the words `left`: the number of these words.
+///
+/// They must be the first words of `numbers`, which the import was given.
 fn leaves<Word: Number>(left: &[Word], numbers: &[u128]) -> &'static str {
     if !same(left, numbers.get(..left.len()).unwrap_or(&[])) {
         return OTHER;
@@ -94,7 +100,7 @@ fn leaves<Word: Number>(left: &[Word], numbers: &[u128]) -> &'static str {
     }
 }
 
-/// Makes a coder of words.
+/// Imports a coder from the words `numbers`. Returns the answer.
 fn import<Word, State, const PRECISION: usize>(
     alloc: Global,
     coder: &mut Whole<Word, State, PRECISION>,
@@ -124,7 +130,7 @@ where
     }
 }
 
-/// Takes a coder apart, and puts its parts together, if its heads are those of a coder.
+/// Takes a coder apart, and puts its parts together again. Returns `None` if the heads are invalid.
 fn put_together<Word, State, const PRECISION: usize>(
     coder: Whole<Word, State, PRECISION>,
 ) -> Option<Whole<Word, State, PRECISION>>
@@ -141,7 +147,9 @@ where
     }
 }
 
-/// Puts a clone in the coder's place, which may be taken apart and put together.
+/// Replaces the coder by a clone. Returns the answer.
+///
+/// If `is_again` is true, the clone is taken apart and put together first.
 fn copy<Word, State, const PRECISION: usize>(
     coder: &mut Whole<Word, State, PRECISION>,
     is_again: bool,
@@ -168,10 +176,10 @@ where
     }
 }
 
-/// Two lists of words, or the word of the error in their place.
+/// Two lists of words, or the answer that stands for an error.
 type Lists<Word> = Result<(Vec<Word>, Vec<Word>), &'static str>;
 
-/// Returns the words of an export, and the remainders that it leaves.
+/// Returns the words of an export, and the words of remainders that the export leaves.
 fn exported<Word, State, const PRECISION: usize>(
     answer: Result<(Vec<Word>, Vec<Word>), CoderError<Whole<Word, State, PRECISION>, AllocError>>,
 ) -> Lists<Word>
@@ -186,7 +194,7 @@ where
     }
 }
 
-/// Takes a coder apart.
+/// Takes a coder apart into two lists of words, in the way `how`.
 fn take_apart<Word, State, const PRECISION: usize>(
     coder: Whole<Word, State, PRECISION>,
     how: Parts,
@@ -209,7 +217,7 @@ where
     }
 }
 
-/// Compares one of the lists of words that a copy is taken apart into.
+/// Takes a copy of the coder apart, and compares one of the two lists with `numbers`. Returns the answer.
 fn compare<Word, State, const PRECISION: usize>(
     coder: &Whole<Word, State, PRECISION>,
     (how, is_first): (Parts, bool),
@@ -235,7 +243,7 @@ where
     }
 }
 
-/// Whether a coder is as an act says.
+/// Returns whether the check `says` holds for the coder. `act` has the expected heads.
 fn is_as_said<Word, State, const PRECISION: usize>(
     coder: &Whole<Word, State, PRECISION>,
     says: Says,
@@ -257,7 +265,7 @@ where
     }
 }
 
-/// Does an act with a coder.
+/// Runs an act with a coder, and returns the answer.
 pub fn act_by<Word, State, Probability, const PRECISION: usize>(
     alloc: Global,
     coder: &mut Whole<Word, State, PRECISION>,
@@ -286,12 +294,12 @@ where
     }
 }
 
-/// What is said of an act that failed: that the test itself found no memory, or the act.
+/// Returns the error of a failed act: `MEMORY` if there was no memory for the test itself, or else the act's text.
 pub fn failure(answer: &'static str, act: &Act<'_>) -> Option<&'static str> {
     Some(if answer == MEMORY { MEMORY } else { act.text })
 }
 
-/// Goes through a script with a coder, and returns the first act that it doesn't do as the script says.
+/// Runs a script with a coder. Returns the error of the first act with an unexpected answer.
 pub fn follow<Word, State, Probability, const PRECISION: usize>(
     alloc: Global,
     coder: &mut Whole<Word, State, PRECISION>,

@@ -1,4 +1,4 @@
-//! Rows over other backends: a buffer of compressed words, and a heap for the remainders.
+//! Tests over other backends: a buffer of compressed words, and a separate heap for the remainders.
 
 use crate::coders::{Table, WEIGHTS};
 use constriction_base::backends::{Pos, Seek};
@@ -14,10 +14,10 @@ use linked_list_allocator::LocalHeap;
 use std::alloc::AllocError;
 use std::test::Fail;
 
-/// A coder of bytes over a buffer of compressed words, which goes back and forth.
+/// A coder of bytes over a buffer of compressed words, which can seek.
 type Seekable = ChainCoder<u8, u16, Cursor<u8, Vec<u8>>, Vec<u8>, 8>;
 
-/// Takes a symbol, goes back, and takes it again.
+/// Decodes a symbol, seeks back, and decodes it again. Returns whether all calls return what is expected.
 fn takes_again(coder: &mut Seekable, table: &Table) -> bool {
     let first = take_each(coder, table, &[1]);
     let place = coder.pos();
@@ -40,10 +40,10 @@ fn chain_seek(rt: HostRuntime) -> Result<(), Fail> {
     Ok(())
 }
 
-/// A coder of bytes whose remainders are in a heap of their own.
+/// A coder of bytes with its remainders in a separate heap.
 type ToHeap<'a> = ChainCoder<u8, u16, Vec<u8>, Vec<u8, &'a LocalHeap>, 8>;
 
-/// Whether a decode finds no memory for the remainders while the heap is full.
+/// Fills the heap. Returns whether a decode finds no memory for the remainders while the heap is full.
 fn is_refused(coder: &mut ToHeap<'_>, table: &Table, heap: &LocalHeap) -> bool {
     let filler = Vec::<u8, &LocalHeap>::with_capacity(heap, 512);
     let answer = coder.decode_symbol(table);
@@ -54,7 +54,7 @@ fn is_refused(coder: &mut ToHeap<'_>, table: &Table, heap: &LocalHeap) -> bool {
         )
 }
 
-/// The coder of the words 10, 20 and 30 before its decode.
+/// Checks that a decode without memory leaves the coder unchanged, and that it succeeds when there is memory.
 #[test]
 fn chain_growth_refused(rt: HostRuntime) -> Result<(), Fail> {
     let table: Table = WeightTable::new(rt.alloc(), WEIGHTS)?;

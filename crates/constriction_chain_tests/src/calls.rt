@@ -1,9 +1,9 @@
-//! Each public call once that no row makes.
+//! Tests of the public calls that no worked row makes, each call once.
 
 use crate::coders::fine;
 use std::test::Fail;
 
-/// A coder is cloned, taken apart and put together, and goes on; exports hand it back where it has no such form.
+/// Checks a clone, taking a coder apart and putting it together, and exports. A refused export answers `none`.
 #[test]
 fn calls_of_a_coder(rt: HostRuntime) -> Result<(), Fail> {
     fine(
@@ -17,7 +17,7 @@ fn calls_of_a_coder(rt: HostRuntime) -> Result<(), Fail> {
     )
 }
 
-/// Lists in both orders by one table, as pairs and as items, up to the first fault, and the symbols by each iterator.
+/// Checks list calls in both orders, with one table, pairs and items, up to the first fault, and each iterator.
 #[test]
 fn calls_of_lists(rt: HostRuntime) -> Result<(), Fail> {
     fine(

@@ -1,4 +1,4 @@
-//! Scripts that change the precision.
+//! The interpreter of scripts that change the precision.
 
 ghost use Rattle.std.specs.Prelude.{◌≤◌};
 
@@ -11,7 +11,7 @@ use constriction_scripts::script::{Act, Script};
 use constriction_words::{BitArray, WordOf};
 use std::alloc::Global;
 
-/// A copy at a precision that is no less, or the word of the error in its place.
+/// Returns a copy with its precision increased to `N`, or the answer that stands for the error.
 pub fn increase<Word, State, const PRECISION: usize, const N: usize>(
     coder: &Whole<Word, State, PRECISION>,
 ) -> Result<Whole<Word, State, N>, &'static str>
@@ -29,7 +29,7 @@ where
     }
 }
 
-/// A copy at a precision that is no greater.
+/// Returns a copy with its precision decreased to `N`, or the answer that stands for the error.
 pub fn decrease<Word, State, const PRECISION: usize, const N: usize>(
     coder: &Whole<Word, State, PRECISION>,
 ) -> Result<Whole<Word, State, N>, &'static str>
@@ -47,7 +47,7 @@ where
     }
 }
 
-/// A copy at any precision, by the call that knows both ways.
+/// Returns a copy with its precision changed to `N` by `change_precision`, or the answer that stands for the error.
 fn change<Word, State, const PRECISION: usize, const N: usize>(
     coder: &Whole<Word, State, PRECISION>,
 ) -> Result<Whole<Word, State, N>, &'static str>
@@ -80,8 +80,10 @@ pub struct Tables {
     pub fine: Table,
 }
 
-/// A copy at the other precision, by the call that the verb names or by `change`, the one that knows both ways; or by
-/// `change-none` at the precision that the coder has. Returns nothing where the verb names none of these.
+/// Returns a copy at the precision that `verb` asks for, or `None` if `verb` names no change of the precision.
+///
+/// `increase` and `decrease` change to the other precision. `change` does so with `change_precision`, and `change-none`
+/// calls `change_precision` with the coder's own precision.
 fn changed(coder: &Either, verb: &str) -> Result<Option<Either>, &'static str> {
     Ok(Some(match (coder, verb) {
         (Either::Coarse(coder), "increase") => Either::Fine(increase(coder)?),
@@ -93,7 +95,7 @@ fn changed(coder: &Either, verb: &str) -> Result<Option<Either>, &'static str> {
     }))
 }
 
-/// Does an act with a coder at either precision.
+/// Runs an act with a coder at either precision, and returns the answer.
 pub fn change_by(
     alloc: Global,
     coder: &mut Either,
@@ -113,7 +115,7 @@ pub fn change_by(
     }
 }
 
-/// Goes through a script with a coder at either precision, and returns the first act that it doesn't do.
+/// Runs a script with a coder at either precision. Returns the error of the first act with an unexpected answer.
 pub fn follow_changes(
     alloc: Global,
     coder: &mut Either,

@@ -1,4 +1,4 @@
-//! Scripts at concrete types: each call of the interpreter stands here once.
+//! Functions that run scripts at concrete types, so that most tests don't call the interpreter themselves.
 
 ghost use Rattle.constriction_chain.specs.Chain.{IsSized};
 ghost use Rattle.std.specs.Prelude.{◌≤◌};
@@ -22,22 +22,22 @@ pub type Whole<Word, State, const PRECISION: usize> = ChainCoder<
     PRECISION,
 >;
 
-/// A coder of bytes, with a number of the remainders of two bytes, at 8 bits of precision.
+/// A coder of 8-bit words and 16-bit states, at a precision of 8 bits.
 pub type Fine = Whole<u8, u16, 8>;
 
-/// The same at 4 bits of precision.
+/// A coder of 8-bit words and 16-bit states, at a precision of 4 bits.
 pub type Coarse = Whole<u8, u16, 4>;
 
-/// A table of 8 bits.
+/// A table with a precision of 8 bits.
 pub type Table = WeightTable<u8, 8>;
 
-/// The weights of most tables of 8 bits.
+/// The weights of most tables with a precision of 8 bits.
 pub const WEIGHTS: &[u8] = &[16, 240];
 
-/// Weights of a table, and a script.
+/// The weights of a table, and a script.
 pub type Part<'a, Probability> = (&'a [Probability], &'static str);
 
-/// What a script came to, as a test says it: by the first act that failed.
+/// Turns the first act that failed, if there is one, into the error of a test.
 pub fn said(failed: Option<&'static str>) -> Result<(), Fail> {
     match failed {
         Some(act) => Err(Fail::from(act)),
@@ -45,7 +45,7 @@ pub fn said(failed: Option<&'static str>) -> Result<(), Fail> {
     }
 }
 
-/// The coder of no words, with no bits left over and this number of the remainders, if it has one.
+/// Makes a coder of no words, with no bits left over and the remainders head `number`, if these heads are valid.
 pub fn empty<Word, State, const PRECISION: usize>(
     alloc: Global,
     number: State,
@@ -61,7 +61,9 @@ where
     }
 }
 
-/// Goes through scripts with a coder, each by a table of its own.
+/// Runs the scripts of `parts` with the coder `found`, each script with its own table.
+///
+/// Returns the first act that failed, or another reason why the run stopped.
 pub fn go<Word, State, Probability, const PRECISION: usize>(
     alloc: Global,
     found: Option<Whole<Word, State, PRECISION>>,
@@ -92,22 +94,22 @@ where
     None
 }
 
-/// Words of 8 bits, and a number of 16, at 8 bits of precision.
+/// Runs a script with a coder of 8-bit words and 16-bit states, at a precision of 8 bits.
 pub fn fine(alloc: Global, text: &'static str) -> Result<(), Fail> {
     said(go::<u8, u16, u8, 8>(alloc, empty(alloc, 1), &[(WEIGHTS, text)]))
 }
 
-/// The same at 4 bits of precision.
+/// Runs scripts with a coder of 8-bit words and 16-bit states, at a precision of 4 bits.
 pub fn coarse(alloc: Global, parts: &[Part<'_, u8>]) -> Result<(), Fail> {
     said(go::<u8, u16, u8, 4>(alloc, empty(alloc, 16), parts))
 }
 
-/// Words of 16 bits, and a number of 32, at 12 bits of precision.
+/// Runs a script with a coder of 16-bit words and 32-bit states, at a precision of 12 bits.
 pub fn small(alloc: Global, weights: &[u16], text: &'static str) -> Result<(), Fail> {
     said(go::<u16, u32, u16, 12>(alloc, empty(alloc, 16), &[(weights, text)]))
 }
 
-/// Words of 32 bits, and a number of 64, at 24 bits of precision.
+/// Runs a script with a coder of 32-bit words and 64-bit states, at a precision of 24 bits.
 pub fn wide(alloc: Global, weights: &[u32], text: &'static str) -> Result<(), Fail> {
     said(go::<u32, u64, u32, 24>(alloc, empty(alloc, 256), &[(weights, text)]))
 }

@@ -1,15 +1,15 @@
-//! Tests of the chain coder, and no code besides: the worked rows, and each public call once, at concrete types.
+//! Tests of the chain coder at concrete types: the worked rows, and each public call once.
 //!
-//! What a contract of `constriction_chain` says is proved there for all values. These tests stand for what no contract
-//! can say: that the definitions give the numbers that a reader expects, that calls which take memory succeed where
-//! there is some, and that a caller reaches each call. `tests/cases` has more tests, which are run without a proof.
+//! The contracts of `constriction_chain` are proved there for all values. These tests check what no contract can state:
+//! the definitions have the values that a reader expects, calls that need memory succeed if there is some, and a caller
+//! can make each call. `tests/cases` has more tests, which run without a proof.
 //!
-//! All expected values were worked out apart, on lists of bits: a coder as a list of the bits left over, and two lists
-//! of words.
+//! The expected values were computed separately, on lists of bits: a coder is a list of the bits left over, and two
+//! lists of words.
 //!
-//! A test is a script (`constriction_scripts`): what is done with a coder and what is expected of it, as text.
-//! [`acts`] goes through it, at the types of [`coders`], and [`changes`] through one that changes the precision. So
-//! each call stands once in a helper without clauses.
+//! A test is a script (`constriction_scripts`): a text that says what to do with a coder, and what to expect of it.
+//! [`acts`] runs scripts, at the types of [`coders`], and [`changes`] runs scripts that change the precision. So one
+//! helper without postconditions makes each call.
 #![tactic(auto)]
 
 #[cfg(test)]

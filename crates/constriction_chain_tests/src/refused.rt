@@ -1,8 +1,9 @@
-//! Requests for memory that are refused, one at a time, of calls over vectors.
+//! Tests of calls over vectors with requests for memory refused, one at a time.
 //!
-//! `tests/refused-memory` runs these tests once for each request that they make, and has it refused. A test then says
-//! by its error which call it was, where that call answered want of memory, left what it has to, and went when it was
-//! made again. It says `Memory` where the request was the test's own. Where none is refused, a test passes.
+//! `tests/refused-memory` runs these tests once for each request for memory that they make, and refuses it. A test then
+//! fails with the name of the call that made the request, if the call reported that there was no memory, left the coder
+//! as it must, and succeeded when it was made again. A test fails with `Memory` if the test itself made the request. If
+//! no request is refused, a test passes.
 
 use crate::changes::{Either, Tables, change_by, follow_changes};
 use crate::coders::{Coarse, Fine, Table, WEIGHTS, empty};
@@ -14,14 +15,18 @@ use std::alloc::{AllocError, Global};
 use std::iter;
 use std::test::Fail;
 
-/// What makes a coder before a call, with room for no word or for one; what the coder is where memory was refused; what
-/// is left of the call then, or nothing where all of it is; and what the coder is in the end.
+/// The four scripts of a call.
+///
+/// - The first script makes the coder before the call, with room for no word or for one word.
+/// - The second script checks the coder after a refusal.
+/// - The third script makes the rest of the call after a refusal. If it is empty, the whole call is made again.
+/// - The fourth script checks the coder in the end.
 type Case = [&'static str; 4];
 
-/// A call by its name, and the act that makes it.
+/// The name of a call, and the act that makes the call.
 type Call = (&'static str, &'static str);
 
-/// Goes through a script. Returns the act that failed, or nothing.
+/// Runs a script. Returns the error of the act that failed, or `DONE`.
 fn goes(alloc: Global, coder: &mut Either, tables: &Tables, text: &'static str) -> &'static str {
     match Script::read(alloc, text) {
         Ok(script) => follow_changes(alloc, coder, tables, &script).unwrap_or(DONE),
@@ -29,7 +34,7 @@ fn goes(alloc: Global, coder: &mut Either, tables: &Tables, text: &'static str) 
     }
 }
 
-/// Returns the word of the second of two symbols 1, behind the first one.
+/// Returns the answer of the second of two decodes, both of which should return the symbol 1.
 fn second<E: Told + Drop>(
     first: Option<Result<usize, E>>,
     second: Option<Result<usize, E>>,
@@ -41,7 +46,7 @@ fn second<E: Told + Drop>(
     }
 }
 
-/// Takes two symbols by the iterator of this name.
+/// Decodes two symbols with the iterator of the call `name`. Returns the answer.
 fn take_two(coder: &mut Fine, table: &Table, name: &str) -> &'static str {
     match name {
         "decode_iid_symbols" => {
@@ -59,7 +64,7 @@ fn take_two(coder: &mut Fine, table: &Table, name: &str) -> &'static str {
     }
 }
 
-/// Makes a call, of which `two` takes two symbols.
+/// Makes a call, and returns the answer. The act `two` decodes two symbols.
 fn makes(alloc: Global, coder: &mut Either, tables: &Tables, (name, act): Call) -> &'static str {
     let Ok(script) = Script::read(alloc, act) else {
         return MEMORY;
@@ -70,7 +75,9 @@ fn makes(alloc: Global, coder: &mut Either, tables: &Tables, (name, act): Call) 
     }
 }
 
-/// Makes a call, and what is left of it where memory was refused. Returns what is said of that, or nothing.
+/// Makes a call and checks the coder. Returns the error of the test, or `DONE`.
+///
+/// If memory is refused, the function makes the rest of the call. The error is then the call's name.
 fn comes_of(
     alloc: Global,
     coder: &mut Either,
@@ -100,7 +107,7 @@ fn comes_of(
     }
 }
 
-/// Makes calls, one after another.
+/// Makes the calls of all groups, one after another, until the error of one isn't `DONE`.
 fn all_go(alloc: Global, coder: &mut Either, groups: &[(Case, &[Call])]) -> Result<(), Fail> {
     let tables = Tables {
         coarse: WeightTable::new(alloc, &[5, 11])?,
@@ -117,8 +124,10 @@ fn all_go(alloc: Global, coder: &mut Either, groups: &[(Case, &[Call])]) -> Resu
     Ok(())
 }
 
-/// The calls at 8 bits of precision. There is no room for the word of a symbol that is put back, and of a list there is
-/// room for the first. Before a symbol is taken, room is asked for; of two symbols the first has it.
+/// The calls at a precision of 8 bits.
+///
+/// There is no room for the word that an encode of one symbol writes. A list call has room for its first symbol. A
+/// decode asks for room first. If two symbols are decoded, there is room for the first.
 const CALLS: &[(Case, &[Call])] = &[
     (
         [
@@ -187,7 +196,7 @@ fn refused_requests_of_calls(rt: HostRuntime) -> Result<(), Fail> {
     all_go(rt.alloc(), &mut Either::Fine(coder), CALLS)
 }
 
-/// The calls at 4 bits of precision: a copy becomes words, or takes the coder's place.
+/// The calls at a precision of 4 bits. They export a copy of the coder, or replace the coder by a copy.
 const EXPORTS: &[(Case, &[Call])] = &[
     (
         [

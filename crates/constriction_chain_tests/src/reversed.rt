@@ -1,4 +1,4 @@
-//! Lists that are put back from the last symbol to the first, by the coder's own calls.
+//! Acts that encode lists from the last symbol to the first, with the coder's own calls.
 
 use crate::coders::Whole;
 use constriction_base::weights::WeightTable;
@@ -6,7 +6,7 @@ use constriction_scripts::answers::{OTHER, answer_of};
 use constriction_scripts::script::{Act, error_at};
 use constriction_words::{BitArray, WordOf};
 
-/// An item of a list: the error, if there is one, or a symbol with its table.
+/// Returns an item of a list: the error if there is one, or else the symbol with its table.
 fn item_of<'a, M>(
     error: Option<u8>,
     symbol: &'a usize,
@@ -18,8 +18,10 @@ fn item_of<'a, M>(
     }
 }
 
-/// Puts symbols back from the last to the first: `back` a list by one table, `pairs-back` two pairs, `items-back` two
-/// items, of which the first may be `bad7`.
+/// Encodes symbols from last to first, with the call that `act` names. Returns the answer.
+///
+/// `back` encodes a list with one table, `pairs-back` two pairs, and `items-back` two items. The first item may be
+/// `bad7`.
 pub fn back_by<Word, State, Probability, const PRECISION: usize>(
     coder: &mut Whole<Word, State, PRECISION>,
     table: &WeightTable<Probability, PRECISION>,

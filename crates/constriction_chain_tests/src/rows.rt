@@ -1,4 +1,4 @@
-//! The worked rows.
+//! Tests of the worked rows.
 
 use crate::changes::{Either, Tables, decrease, follow_changes};
 use crate::coders::{Coarse, Part, WEIGHTS, coarse, empty, fine, said, small, wide};
@@ -7,7 +7,7 @@ use constriction_chain::{ChainCoder, DefaultChainCoder};
 use constriction_scripts::script::Script;
 use std::test::Fail;
 
-/// The quantile of the first symbol is 2241348, whose weight is 1.
+/// Checks the default coder. The first quantile is 2241348, which is the only quantile of symbol 1.
 #[test]
 fn chain_default(rt: HostRuntime) -> Result<(), Fail> {
     let words = [287454020u32, 256].to_vec(rt.alloc())?;
@@ -60,7 +60,9 @@ fn chain_binary(rt: HostRuntime) -> Result<(), Fail> {
     )
 }
 
-/// The quantiles are 11 and 10, whatever the first model. The last table's symbol 1 has the quantile 10 alone.
+/// Checks that the quantiles are 11 and 10, whatever the first model is.
+///
+/// The quantile 10 is the only quantile of symbol 1 in the last table.
 #[test]
 fn chain_isolation(rt: HostRuntime) -> Result<(), Fail> {
     coarse(
@@ -87,8 +89,10 @@ fn chain_isolation(rt: HostRuntime) -> Result<(), Fail> {
     Ok(())
 }
 
-/// The number 2249 is the number 8 above the word 201. It is in the window of 4 bits of precision, and 8 in that of 8
-/// bits. The number 18 is in both.
+/// Checks the remainders head and the remainders at each change of the precision.
+///
+/// The number 2249 is the number 8 above the word 201. The window at 4 bits of precision has 2249, and the window at 8
+/// bits has 8. Both windows have 18.
 #[test]
 fn chain_precision_changes(rt: HostRuntime) -> Result<(), Fail> {
     let tables = Tables {
@@ -111,7 +115,7 @@ fn chain_precision_changes(rt: HostRuntime) -> Result<(), Fail> {
     said(follow_changes(rt.alloc(), &mut Either::Coarse(coder), &tables, &script))
 }
 
-/// The window of 12 bits of precision begins at 16.
+/// Checks that imports of too few words are refused. The window at 12 bits of precision begins at 16.
 #[test]
 fn chain_too_short(rt: HostRuntime) -> Result<(), Fail> {
     small(

@@ -29,13 +29,13 @@ use std::process::ExitCode;
 const USAGE: &[u8] =
     b"usage: constriction <ans-encode|ans-decode|range-encode|range-decode|chain-split|golomb|huffman|store>\n";
 
-/// Returns the arguments behind the program's name.
+/// Returns the arguments after the program's name.
 ///
-/// Returns none if one of them isn't UTF-8, so that they name no command.
+/// If an argument isn't UTF-8, the call returns an empty list, which names no command.
 ///
 /// # Errors
 ///
-/// `OutOfMemory` if there is no memory for them.
+/// Returns `OutOfMemory` if there is no memory for the arguments.
 fn arguments(alloc: Global, given: io::Result<Args>) -> Result<Vec<String>, Fault>
     ensures behind_name { IfOk given (λ words. IfOk result (λ args. args.items ≡ drop 1 (into_iter_items words))) }
     ensures no_memory { IfErr given (λ error. error_kind error ≡ kind.OutOfMemory → IsErr result) }
@@ -50,7 +50,7 @@ fn arguments(alloc: Global, given: io::Result<Args>) -> Result<Vec<String>, Faul
     }
 }
 
-/// Writes the usage line. Returns exit status 2, even if the line can't be written.
+/// Writes the usage line to `faults`. Returns exit status 2, even if the line can't be written.
 fn refuse<E: Write>(faults: &mut E) -> u8
     ensures status { result ≡ 2 }
     ensures line { GrowsByBeginning (E.contents faults.old) (E.contents faults.new) usage_line }
@@ -59,7 +59,7 @@ fn refuse<E: Write>(faults: &mut E) -> u8
     2
 }
 
-/// Writes the line of a fault. Returns exit status 1, even if the line can't be written.
+/// Writes the line of `fault` to `faults`. Returns exit status 1, even if the line can't be written.
 fn report<E: Write>(fault: &Fault, faults: &mut E) -> u8
     ensures status { result ≡ 1 }
     ensures line { GrowsByBeginning (E.contents faults.old) (E.contents faults.new) (fault_line fault.now) }
@@ -68,7 +68,7 @@ fn report<E: Write>(fault: &Fault, faults: &mut E) -> u8
     1
 }
 
-/// Reads the input, and then writes the whole answer of the command.
+/// Reads the whole input, and then writes the command's answer to `output`.
 fn answer_to<R: Read, O: Write>(
     alloc: Global,
     command: Command,
@@ -97,8 +97,8 @@ fn answer_to<R: Read, O: Write>(
 ///
 /// The status is the same if the line can't be written to `faults`.
 ///
-/// `input` and `output` decide whether a read or a write fails. So no clause says when the line on `faults` is `cannot
-/// read input`, `cannot write output` or `out of memory`.
+/// `input` and `output` decide whether a read or a write fails. So no clause states when the line on `faults` is
+/// `cannot read input`, `cannot write output` or `out of memory`.
 pub fn run<R: Read, O: Write, E: Write>(
     alloc: Global,
     args: &[String],
@@ -130,7 +130,7 @@ pub fn run<R: Read, O: Write, E: Write>(
     }
 }
 
-/// Runs the program with the arguments that the system gives, and returns the exit status.
+/// Runs the program with the arguments that the system passes, and returns the exit status.
 ///
 /// `given` begins with the program's name. The call passes the arguments after that name to [`run`], and returns the
 /// status that `run` returns. There are two exceptions:

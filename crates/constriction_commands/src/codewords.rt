@@ -1,4 +1,4 @@
-//! Codewords as lists of bits, and bits as digits.
+//! Returns codewords as lists of bits, and writes bits as digits.
 
 ghost use Rattle.std.specs.Prelude.{◌≡◌, ◌++◌, Some, IfOk, OnOk};
 ghost use Rattle.constriction_symbol.specs.Bits.{PutsBit};
@@ -28,11 +28,11 @@ impl WriteBitStream<Queue> for Bits {
     }
 }
 
-/// Returns the bits of a symbol's codeword.
+/// Returns the bits of the codeword of `symbol`.
 ///
 /// # Errors
 ///
-/// `AllocError` if there is no memory, or if `codebook` has no codeword for `symbol`.
+/// Returns `AllocError` if there is no memory, or if `codebook` has no codeword for `symbol`.
 pub fn codeword<C: EncoderCodebook>(
     alloc: Global,
     symbol: &C::Symbol,

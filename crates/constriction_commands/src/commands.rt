@@ -53,11 +53,11 @@ impl Command {
         }
     }
 
-    /// Returns the output of the command for an input.
+    /// Returns the output of the command for the input `text`.
     ///
     /// # Errors
     ///
-    /// The fault that stops the command. The command's file in `specs/commands/` says when each fault is returned.
+    /// Returns the fault that stops the command. The command's file in `specs/commands/` states when each fault comes.
     pub fn answer(self, alloc: Global, text: &[u8]) -> Result<Vec<u8>, Fault>
         ensures ok { IfOk result (λ answer. Answers self text.now answer.items) }
         ensures err { IfErr result (Fails self text.now) }

@@ -1,7 +1,7 @@
 //! The faults that stop a run.
 //!
-//! [`Fault`] has no `Display`. It returns its text as a line of bytes, so that a contract can say which bytes these
-//! are. Some faults hold an error of a coder. A test compares the lines of these faults with the texts of the errors.
+//! [`Fault`] has no `Display`. [`Fault::line`] returns the text of a fault as bytes, so that a contract can state the
+//! bytes. Some faults hold an error of a coder. A test compares the lines of these faults with the texts of the errors.
 
 ghost use Rattle.std.specs.Prelude.{◌≡◌};
 ghost use Rattle.constriction_commands.specs.Written.{fault_line};
@@ -26,11 +26,11 @@ pub enum Fault {
     Unwritable,
     /// A byte is neither a digit nor a blank, or a number is too large for its type.
     BadNumber,
-    /// The second line is blank, in a command that decodes.
+    /// The second line of a decoding command's input is blank.
     NoCount,
     NoWeights,
     WrongTotal,
-    /// There are more weights than a Huffman tree can have, or more symbols than a store holds.
+    /// There are more weights than a Huffman tree can have, or more symbols than a store can hold.
     TooManySymbols,
     /// The sum of the weights of a Huffman tree has more than 64 bits.
     WeightOverflow,

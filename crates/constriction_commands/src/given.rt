@@ -1,4 +1,4 @@
-//! The inputs of the commands that code symbols, parsed from the lines of a text.
+//! Parses the inputs of the commands that code symbols.
 
 pub mod chunks;
 pub mod symbols;
@@ -9,7 +9,7 @@ ghost use Rattle.constriction_commands.specs.Lines.{first_line, second_line};
 
 use crate::input::split_line;
 
-/// Returns the first two lines.
+/// Returns the first two lines of `text`.
 fn two_lines(text: &[u8]) -> (&[u8], &[u8])
     ensures first { result.0.now ≡ first_line text.now }
     ensures second { result.1.now ≡ second_line text.now }

@@ -1,4 +1,4 @@
-//! Reading the whole input, its lines, and the numbers of a line.
+//! Reads the whole input, and parses its lines and the numbers of a line.
 
 ghost use Rattle.std.specs.Prelude.{◌≡◌, ◌⊎◌, ℕ, ◌-◌, ◌^◌, ◌≤◌, Some, None, IfOk, IfErr, IfSome, IsErrOf, map};
 ghost use Rattle.constriction_commands.specs.Lines.{first_line, after_line, is_blank, with_digit, numbers_of};
@@ -27,7 +27,7 @@ pub fn read_all<R: Read>(alloc: Global, input: &mut R) -> Result<Vec<u8>, Fault>
     }
 }
 
-/// Returns the first line without its line feed, and the text after that line feed.
+/// Returns the first line of `text` without its line feed, and the text after that line feed.
 ///
 /// A text without a line feed is one line, and the text after it is empty.
 pub fn split_line(text: &[u8]) -> (&[u8], &[u8])
@@ -40,7 +40,7 @@ pub fn split_line(text: &[u8]) -> (&[u8], &[u8])
     }
 }
 
-/// A type of numbers, in which the numbers of a line can be parsed.
+/// A type for the numbers that are parsed from a line.
 pub trait Number: Copy {
     /// The greatest number of the type.
     const GREATEST: u64;
@@ -85,7 +85,7 @@ fn is_blank(byte: u8) -> bool
     byte == b' ' || byte == b'\t' || byte == b'\r'
 }
 
-/// Returns the number with the digits so far and this one, or `None` if it is no digit or the number is too large.
+/// Returns `10 * so_far` plus the digit `byte`, or `None` if `byte` is no digit or the sum is above `greatest`.
 fn with_digit(so_far: u64, byte: u8, greatest: u64) -> Option<u64>
     ensures { result ≡ with_digit greatest so_far byte }
 {
@@ -96,7 +96,7 @@ fn with_digit(so_far: u64, byte: u8, greatest: u64) -> Option<u64>
     if value <= greatest { Some(value) } else { None }
 }
 
-/// Parses the numbers of a line. They are decimal, with spaces, tabs or carriage returns between them.
+/// Parses the numbers of a line. The numbers are decimal, and separated by spaces, tabs or carriage returns.
 ///
 /// # Errors
 ///

@@ -1,7 +1,7 @@
 //! The commands of the program `constriction`, and whole runs of the program.
 //!
 //! [`cli::run`] runs the command that the arguments name, over any reader and writers. [`cli::start`] runs the program
-//! with the arguments that the system gives. The files of `specs/commands/` define the output of each command, and the
+//! with the arguments that the system passes. The files of `specs/commands/` define the output of each command, and the
 //! inputs for which it fails.
 #![tactic(auto)]
 

@@ -1,4 +1,4 @@
-//! Writing lines of numbers, and the whole output.
+//! Formats lines of numbers, and writes the whole output.
 
 ghost use Rattle.std.specs.Prelude.{◌≡◌, ◌%◌, ◌^◌, ◌++◌, ◌∷◌, [], map, IfOk, OnOk, IfErr};
 ghost use Rattle.std.specs.List.{join_with_byte};
@@ -36,23 +36,23 @@ pub fn line_of_numbers<I: Integer>(alloc: Global, numbers: &[I]) -> Result<Vec<u
     Ok(out)
 }
 
-/// Returns a line of a coder's words.
+/// Returns a line of a coder's words, as [`line_of_numbers`] does.
 pub fn line_of_words(alloc: Global, words: &[u32]) -> Result<Vec<u8>, AllocError>
     ensures { IfOk result (λ line. line.items ≡ line_of (map (λ word. word % 2 ^ 32) words.now)) }
 {
     line_of_numbers(alloc, words)
 }
 
-/// Appends a line of a coder's words to `out`.
+/// Appends a line of a coder's words to `out`, as [`push_numbers`] does.
 pub fn push_words(out: &mut Vec<u8>, words: &[u32]) -> Result<(), AllocError>
     ensures { OnOk result (out.new.items ≡ out.old.items ++ line_of (map (λ word. word % 2 ^ 32) words.now)) }
 {
     push_numbers(out, words)
 }
 
-/// Writes all bytes.
+/// Writes all of `bytes` to `output`.
 ///
-/// It retries an interrupted write. A write of no bytes is an error, as in `write_all`.
+/// The call retries an interrupted write. It fails if a write takes no bytes, as `write_all` does.
 fn write_bytes<O: Write>(output: &mut O, bytes: &[u8]) -> Result<(), Fault>
     ensures ok { OnOk result (Appends (O.contents output.old) (O.contents output.new) bytes.now) }
     ensures begun { GrowsByBeginning (O.contents output.old) (O.contents output.new) bytes.now }
@@ -77,7 +77,7 @@ fn write_bytes<O: Write>(output: &mut O, bytes: &[u8]) -> Result<(), Fault>
 ///
 /// # Errors
 ///
-/// `Unwritable` if a write or the flush fails. By then a part of `bytes` from the beginning may be written.
+/// Returns `Unwritable` if a write or the flush fails. The call may then have written a beginning of `bytes`.
 pub fn write_out<O: Write>(output: &mut O, bytes: &[u8]) -> Result<(), Fault>
     ensures ok { OnOk result (Appends (O.contents output.old) (O.contents output.new) bytes.now) }
     ensures begun { GrowsByBeginning (O.contents output.old) (O.contents output.new) bytes.now }

@@ -13,10 +13,10 @@ use std::alloc::Global;
 /// The precision of the weights, in bits.
 pub const PRECISION: usize = 24;
 
-/// The type of the table of the symbols 0, 1, .. with a list of weights.
+/// A table of the symbols 0, 1, .. by their weights.
 pub type Table = WeightTable<u32, PRECISION>;
 
-/// Makes the table of the symbols 0, 1, .. with these weights.
+/// Builds the table of the symbols 0, 1, .. with the weights `weights`.
 ///
 /// # Errors
 ///

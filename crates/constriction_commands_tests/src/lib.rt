@@ -1,9 +1,9 @@
-//! Tests of the program's runs over lists of bytes, and no code besides.
+//! Tests of the program's runs over lists of bytes.
 //!
-//! What a run answers is proved in `constriction_commands` for all inputs. These tests stand for what no contract can say: that
-//! runs succeed where there is memory, and that the answers are the numbers that a reader expects.
-//! `tests/cases/constriction_commands_tests` has tests that run without a proof, by `tests/unproved`: of texts, and of
-//! readers and writers that fail.
+//! The output of a run is proved in `constriction_commands` for all inputs. These tests check what no contract can
+//! state: runs succeed if there is memory, and the outputs have the numbers that a reader expects.
+//! `tests/cases/constriction_commands_tests` has tests that run without a proof, with `tests/unproved`. They cover
+//! texts, and readers and writers that fail.
 #![tactic(auto)]
 
 #[cfg(test)]

@@ -1,4 +1,4 @@
-//! The worked rows of the program.
+//! Tests of the worked rows of the program.
 
 use crate::runs::{gives, stops};
 use std::test::Fail;
@@ -82,7 +82,7 @@ fn range_one_symbol(rt: HostRuntime) -> Result<(), Fail> {
 fn chain_split(rt: HostRuntime) -> Result<(), Fail> {
     let text = b"8388608 8388608\n1 287454020 256\n";
     gives(rt.alloc(), "chain-split", text, b"0\n\n2149724996 273\n")?;
-    // no decode: the word is the number of the remainders, below a head of no bits
+    // without a decode, the word is the remainders head, and no bits are left over
     gives(
         rt.alloc(),
         "chain-split",
@@ -131,7 +131,7 @@ fn huffman_empty_line(rt: HostRuntime) -> Result<(), Fail> {
     stops(rt.alloc(), "huffman", b"\n", b"no weights\n")
 }
 
-/// Three chunks, looked up from the last to the first.
+/// Checks three chunks, looked up from the last to the first, and a look-up of a missing chunk.
 #[test]
 fn store_program(rt: HostRuntime) -> Result<(), Fail> {
     let text = b"8388608 8388608\n2 1 0\n1 0\n\n1\n";

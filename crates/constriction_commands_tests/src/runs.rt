@@ -4,7 +4,7 @@ use constriction_commands::cli::run;
 use std::alloc::{AllocError, Global};
 use std::test::Fail;
 
-/// What a run answered and wrote.
+/// The exit status of a run, and the bytes that it wrote as output and as faults.
 #[derive(Debug, Drop)]
 pub struct Outcome {
     pub status: u8,
@@ -13,18 +13,18 @@ pub struct Outcome {
 }
 
 impl Outcome {
-    /// Whether the run wrote this answer and no fault.
+    /// Returns whether the run succeeded, and wrote exactly `output` and no fault.
     pub fn answers(&self, output: &[u8]) -> bool {
         self.status == 0 && self.output.as_slice() == output && self.faults.is_empty()
     }
 
-    /// Whether the run wrote this line of a fault and no answer.
+    /// Returns whether the run ended with `status`, and wrote exactly the fault `line` and no output.
     pub fn refuses(&self, status: u8, line: &[u8]) -> bool {
         self.status == status && self.output.is_empty() && self.faults.as_slice() == line
     }
 }
 
-/// The arguments of a run.
+/// Returns `words` as the arguments of a run.
 pub fn arguments(alloc: Global, words: &[&str]) -> Result<Vec<String>, AllocError> {
     let mut args = Vec::new(alloc);
     for word in words {
@@ -33,7 +33,7 @@ pub fn arguments(alloc: Global, words: &[&str]) -> Result<Vec<String>, AllocErro
     Ok(args)
 }
 
-/// Runs the program with these arguments over these bytes.
+/// Runs the program with the arguments `words` and the input `text`.
 pub fn ran_with(alloc: Global, words: &[&str], text: &[u8]) -> Result<Outcome, AllocError> {
     let args = arguments(alloc, words)?;
     let mut input = text;
@@ -47,12 +47,12 @@ pub fn ran_with(alloc: Global, words: &[&str], text: &[u8]) -> Result<Outcome, A
     })
 }
 
-/// Runs a command over these bytes.
+/// Runs `command` with the input `text`.
 pub fn ran(alloc: Global, command: &str, text: &[u8]) -> Result<Outcome, AllocError> {
     ran_with(alloc, &[command], text)
 }
 
-/// Runs a command over these bytes, which has to give this answer.
+/// Runs `command` with the input `text`. Fails unless the run succeeds with exactly the output `line`.
 pub fn gives(alloc: Global, command: &str, text: &[u8], line: &[u8]) -> Result<(), Fail> {
     let ran = ran(alloc, command, text)?;
     if ran.answers(line) {
@@ -61,7 +61,7 @@ pub fn gives(alloc: Global, command: &str, text: &[u8], line: &[u8]) -> Result<(
     Err(Fail::from("another answer"))
 }
 
-/// Runs a command over these bytes, which has to stop with this line.
+/// Runs `command` with the input `text`. Fails unless the run ends with the status 1 and exactly the fault `line`.
 pub fn stops(alloc: Global, command: &str, text: &[u8], line: &[u8]) -> Result<(), Fail> {
     let ran = ran(alloc, command, text)?;
     if ran.refuses(1, line) {

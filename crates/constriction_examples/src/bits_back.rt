@@ -23,7 +23,7 @@ use std::alloc::Global;
 /// The precision of all tables in bits. The weights of a table add up to 4096.
 const PRECISION: usize = 12;
 
-/// The type of all tables here: of latents, and of symbols.
+/// The type of all tables in this example, for latents and for symbols.
 type Table = WeightTable<u32, PRECISION>;
 
 /// The symbols that are sent.
@@ -149,7 +149,7 @@ impl Mixture {
     }
 }
 
-/// Returns the number of bits in a coder's words and in its head, where it counts only those below the leading 1.
+/// Returns the number of bits in a coder's words, plus the number of bits below the leading 1 of its head.
 fn bits_of(coder: &Coder) -> Result<usize> {
     if !coder.sizes_fit() {
         bail!("too many words");

@@ -1,4 +1,4 @@
-//! Appending words to the words that a caller's buffer holds.
+//! Appends words to the words in use of a caller's buffer.
 
 ghost use Rattle.std.specs.Prelude.{◌≡◌, ◌+◌, ◌<◌, ◌≤◌, ◌⊎◌, ◌^◌, length, OnOk, OnErr, IfErr};
 ghost use Rattle.constriction_inputs.specs.Buffers.{Appended};
@@ -7,13 +7,13 @@ ghost use Rattle.constriction_inputs.specs.declared.refusal.Refusal.TheVariants 
 use crate::refusal::Refusal;
 use constriction_words::BitArray;
 
-/// Writes the words of `added` after the first `len` words of `buffer`, and adds the number of these words to `len`.
+/// Writes the words of `added` after the first `len` words of `buffer`, and increases `len` by their number.
 ///
 /// The caller proves that `len` is at most the length of the buffer.
 ///
 /// # Errors
 ///
-/// After an error `buffer` and `len` are unchanged.
+/// After an error, `buffer` and `len` are unchanged.
 ///
 /// - `NoSpace(needed)`: the buffer is too short. `needed` is the number of words that it has to hold.
 /// - `NoMemory`: the number of words that the buffer has to hold doesn't fit a `usize`, so no buffer is long enough.

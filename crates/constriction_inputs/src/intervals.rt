@@ -1,7 +1,7 @@
-//! Intervals that a caller passes without their table, each turned into a row of three weights.
+//! Turns each interval that a caller passes without its table into a row of three weights.
 //!
-//! The row makes a table of three symbols. Symbol 1 has the interval, symbol 0 has the quantiles below it, and symbol 2
-//! has the quantiles above it.
+//! In the row's table, symbol 1 has the interval, symbol 0 has the quantiles below the interval, and symbol 2 has the
+//! quantiles above the interval.
 
 ghost use Rattle.std.specs.Prelude.{◌≡◌, ◌≢◌, ◌↔◌, ◌⊎◌, ◌*◌, ◌+◌, ◌^◌, ◌≤◌, length, map, IsTrue, IfOk, IfErr, OnOk};
 ghost use Rattle.std.specs.Prelude.{IsErrOf};
@@ -16,9 +16,9 @@ use std::alloc::{AllocError, Global};
 
 /// Returns a row of three weights for each interval, and a list that has the number 1 for each row.
 ///
-/// `lefts` has the start of each interval, and `ps` has its length. The rows stand one after another in the first list
-/// returned. In the table of each row, symbol 1 has the interval. So encoding the second list under the rows encodes
-/// the intervals.
+/// `lefts` has the start of each interval, and `ps` has its length. The first list returned has the rows one after
+/// another. In the table of each row, symbol 1 has the interval. So encoding the second list under the rows encodes the
+/// intervals.
 ///
 /// # Errors
 ///
@@ -68,7 +68,7 @@ pub fn rows_by_intervals<P: BitArray, const PRECISION: usize>(
     Ok((rows, symbols))
 }
 
-/// Returns whether a start and a length make an interval of the numbers below `2 ^ PRECISION`.
+/// Returns whether the interval from `left` of length `p` isn't empty and ends at most at `2 ^ PRECISION`.
 fn is_interval<P: BitArray, const PRECISION: usize>(left: P, p: P) -> bool
     requires { (1 ≤ PRECISION) × (PRECISION ≤ P.BITS) }
     ensures { IsTrue result ↔ IsIntervalWithin PRECISION (P.number left) (P.number p) }
@@ -80,7 +80,7 @@ fn is_interval<P: BitArray, const PRECISION: usize>(left: P, p: P) -> bool
     !last.minus(left).is_below(p.minus(P::unit()))
 }
 
-/// Returns whether each start and its length make an interval.
+/// Returns whether each start in `lefts` and its length in `ps` make an interval of the numbers below `2 ^ PRECISION`.
 fn are_intervals<P: BitArray, const PRECISION: usize>(lefts: &[P], ps: &[P]) -> bool
     requires sizes { (1 ≤ PRECISION) × (PRECISION ≤ P.BITS) }
     requires counted { length lefts.now ≡ length ps.now }
@@ -94,7 +94,7 @@ fn are_intervals<P: BitArray, const PRECISION: usize>(lefts: &[P], ps: &[P]) -> 
     true
 }
 
-/// Returns the weight of what lies above an interval.
+/// Returns the number of quantiles above the interval from `left` of length `p`.
 fn above<P: BitArray, const PRECISION: usize>(left: P, p: P) -> P
     requires sizes { (1 ≤ PRECISION) × (PRECISION ≤ P.BITS) }
     requires interval { IsIntervalWithin PRECISION (P.number left) (P.number p) }
@@ -103,7 +103,7 @@ fn above<P: BitArray, const PRECISION: usize>(left: P, p: P) -> P
     ones::<P>(PRECISION).minus(left).minus(p.minus(P::unit()))
 }
 
-/// Returns the weights of intervals, one row behind another.
+/// Returns a row of three weights for each interval, one row after another.
 fn rows_made<P: BitArray, const PRECISION: usize>(
     alloc: Global,
     lefts: &[P],

@@ -1,4 +1,4 @@
-//! Whether the symbols to encode have weights above 0.
+//! Checks whether the symbols to encode have weights above 0.
 
 ghost use Rattle.std.specs.Prelude.{◌≡◌, ◌↔◌, ◌*◌, length, map, IsTrue};
 ghost use Rattle.constriction_base.specs.Models.{AreKnown, Knows};

@@ -28,7 +28,7 @@ pub use weights::Weights;
 ///
 /// A caller selects an index of the list with `turn_to`, and `model` then returns the model at that index. So an
 /// implementor can keep one model in memory, and change it at each `turn_to`. The implementor defines the list of all
-/// tables (`tables`). It proves that the model returned has the table at the selected index.
+/// tables (`tables`). It proves that the model that `model` returns has the table at the selected index.
 pub trait ModelList<P: BitArray, const PRECISION: usize>: Drop {
     /// The type of the models.
     type Model: EncoderModel<PRECISION, Symbol = usize, Probability = P>
@@ -53,19 +53,19 @@ pub trait ModelList<P: BitArray, const PRECISION: usize>: Drop {
             ≡ get_or (tables self.now) (turned_to self.now) (Self.Model.table result.now) };
 }
 
-/// The arguments of a caller from which the models of a list of symbols are made.
+/// A caller's arguments, which make the models of a list of symbols.
 ///
-/// An implementor is one form of these arguments. Its definition `coded` says which arguments are refused, and which
-/// models are made from all other arguments. The implementor proves three things:
+/// An implementor is one form of these arguments. Its definition `coded` states which arguments are valid, and which
+/// models the valid arguments make. The implementor proves three facts:
 ///
-/// - `check` refuses exactly the arguments that `coded` says.
+/// - `check` refuses exactly the arguments that aren't valid.
 /// - `know` decides whether each model has an entry for its symbol.
 /// - `list` returns the models.
 pub trait Models<P: BitArray, const PRECISION: usize> {
     /// The type of the list of models.
     type List: ModelList<P, PRECISION>;
 
-    // The symbols, together with what their models are made from.
+    // The symbols with their models, and which arguments are valid.
     ghost coded: { Self → List ℕ → Coded };
 
     /// Checks that the caller's arguments make a model for each symbol. The call needs no memory.
@@ -73,7 +73,7 @@ pub trait Models<P: BitArray, const PRECISION: usize> {
     /// # Errors
     ///
     /// The call checks for `WrongLength`, `WrongInterval` and `WrongWeights`, in this order. [`Refusal`] lists the
-    /// cases of each error. `coded` says which cases exist for an implementor. The call fails exactly in these cases.
+    /// cases of each error. `coded` states which cases an implementor has. The call fails exactly in these cases.
     fn check(&self, symbols: &[usize]) -> Result<(), Refusal>
         requires { (1 ≤ PRECISION) × (PRECISION ≤ P.BITS) }
         ensures { AsksFit PRECISION (coded self.now symbols.now) (Else Never) result };

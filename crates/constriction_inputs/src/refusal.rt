@@ -2,7 +2,7 @@
 
 use thiserror::Error;
 
-/// The error of a call that refuses its arguments. The call left the caller's buffers and numbers unchanged.
+/// The error of a call that refuses its arguments. The call leaves the caller's coder and buffers unchanged.
 ///
 /// # Examples
 ///
@@ -14,13 +14,13 @@ pub enum Refusal {
     /// A model has no entry for its symbol.
     #[error("impossible symbol")]
     ImpossibleSymbol,
-    /// The weights make no model, or the other numbers of a model make no weights. The cases are:
+    /// The numbers that the caller passed make no model, no weights or no Huffman tree. The cases are:
     ///
     /// - The weights of a table don't add up to `2 ^ PRECISION`.
     /// - No family has the caller's family number, or a scale is 0.
     /// - The weights of a mixture add up to 0 or to more than `2^32`, or mixtures have no components.
     /// - No count is above 0, or more than `2 ^ PRECISION` counts are above 0.
-    /// - The weights make no Huffman tree: there are none, or their sum doesn't fit the type.
+    /// - A Huffman tree has no weights, or their sum doesn't fit the type.
     #[error("wrong weights")]
     WrongWeights,
     /// An interval is empty or ends past `2 ^ PRECISION`, or a range has too few or too many symbols.

@@ -15,8 +15,9 @@ use std::alloc::{AllocError, Global};
 
 /// A model of the symbols `0`, `1`, .. that borrows their weights.
 ///
-/// The intervals lie in the order of the list, and each is as long as its symbol's weight. A symbol of weight 0 and a
-/// number past the end of the list have no interval. Each look-up adds up the weights from the beginning of the list.
+/// The intervals lie in the order of the list. The length of each interval is its symbol's weight. A symbol of weight 0
+/// and a number past the end of the list have no interval. Each look-up adds up the weights from the beginning of the
+/// list.
 ///
 /// # Examples
 ///
@@ -34,7 +35,7 @@ pub struct Row<'a, P: BitArray, const PRECISION: usize> {
 }
 
 impl<'a, P: BitArray, const PRECISION: usize> Row<'a, P, PRECISION> {
-    /// Creates the model of these weights, or returns `None` if they don't add up to `2 ^ PRECISION`.
+    /// Creates the model of `weights`, or returns `None` if they don't add up to `2 ^ PRECISION`.
     ///
     /// [`Row`] has an example.
     pub fn new(weights: &'a [P]) -> Option<Self>
@@ -58,7 +59,7 @@ impl<'a, P: BitArray, const PRECISION: usize> Row<'a, P, PRECISION> {
 ///
 /// # Errors
 ///
-/// `AllocError` if there is no memory.
+/// Returns `AllocError` if there is no memory.
 pub fn total_rows<'a, P: BitArray, const PRECISION: usize>(
     alloc: Global,
     weights: &'a [P],

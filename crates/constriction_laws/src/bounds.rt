@@ -1,6 +1,6 @@
 //! Upper bounds on the number of words, for any list of steps with any precisions.
 //!
-//! The bounds are inequalities of products of whole numbers. `w` and `s` are the widths in bits of a word and of a
+//! The bounds are inequalities between products of whole numbers. `w` and `s` are the widths in bits of a word and of a
 //! head. `k = s - w - P` is the number of spare bits: the bits that a head has beyond a word and a precision of `P`
 //! bits. In logarithms, a step of probability `p / 2^P` costs at most `log2(2^P / p) + log2(1 + 2^-k)` bits. The first
 //! term is the step's information content, the second term is due to rounding.
@@ -40,9 +40,10 @@ pub fn stack_bound_at_one_precision()
         ≤ 2 ^ (s - w) * ((2 ^ precision) ^ length steps * (2 ^ (s - w - precision) + 1) ^ length steps) }
 {}
 
-/// Bounds the number of exported words that encodes and decodes in any order add to a stack coder.
+/// Bounds how many exported words a sequence of encodes and decodes adds to a stack coder.
 ///
-/// The bound is on the net cost of bits-back coding: the bits that encodes add, minus the bits that decodes take off.
+/// The encodes and decodes may come in any order. The bound is stated by their net cost, as in bits-back coding: the
+/// bits that encodes add, minus the bits that decodes take off.
 /// The coder begins in a valid state. Its head is at least `2^(s-w)` at the beginning and after each decode.
 pub fn stack_net_bound()
     ensures { (w s : ℕ) (acts : List Act) (old new : AnsState) → IsSizes w s → AreAllowed w acts → IsValid w s old →

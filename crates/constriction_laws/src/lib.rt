@@ -2,17 +2,17 @@
 //!
 //! A law is a public function whose body is empty or calls the law from which it follows. Its `ensures` is the theorem.
 //! The theorem is about definitions alone (numbers, lists and tables), not about the code of a coder. The contract of a
-//! coder's call says which definition the call meets. A law says what follows for a list of calls. Words are listed in
-//! reading order, the next word first.
+//! coder's call names the definition that the call meets. A law proves what follows for a list of calls. Words are
+//! listed in reading order, the next word first.
 //!
 //! The public functions of the modules `round_trips`, `costs`, `flagged` and `bounds::words` make the coders' calls.
-//! Their contracts say what these calls do together.
+//! Their contracts describe the combined effect of these calls.
 //!
 //! - [`bounds`]: upper bounds on the number of words, and sealed words that any words may follow.
 //! - [`chain`]: the chain coder, whose symbols are isolated.
 //! - [`errors`]: the reasons why symbols weren't encoded or decoded.
-//! - [`lists`]: one law for all coders: if each step can be undone, a list of steps can be undone, from the last step
-//!   to the first.
+//! - [`lists`]: a law for all coders. If each step can be undone, a list of steps can be undone, from the last step to
+//!   the first.
 //! - [`queue`]: the range coder.
 //! - [`stack`]: the stack coder (asymmetric numeral systems).
 //! - [`symbol`]: bit coders and codebooks.

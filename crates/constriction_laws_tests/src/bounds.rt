@@ -1,4 +1,4 @@
-//! The caller of the bounds, at words of 8 bits and heads of 16.
+//! A test of the caller of the bounds, with 8-bit words and 16-bit heads.
 
 use crate::given::{Table, tables_of};
 use crate::stack::coder_of;
@@ -6,7 +6,9 @@ use constriction_laws::bounds::words::exchange;
 use std::alloc::Global;
 use std::test::Fail;
 
-/// The head of the words 1, 2 and 3 is 770, whose quantile is 2.
+/// Decodes a symbol from the words 1, 2 and 3, and encodes another symbol. Returns whether the first symbol is 0.
+///
+/// The head of these words is 770, and its quantile is 2.
 fn is_exchanged(alloc: Global, tables: &[Table; 2]) -> bool {
     let Some(mut coder) = coder_of(alloc, &[1, 2, 3]) else {
         return false;

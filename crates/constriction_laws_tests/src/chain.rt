@@ -1,7 +1,8 @@
-//! The callers of the chain coder, at words of 8 bits and numbers of the remainders of 16.
+//! Tests of the callers of the chain coder, with 8-bit words and 16-bit states.
 //!
-//! The last word begins the remainders. At 8 bits of precision each symbol is decoded from a word of its own, the last
-//! one first: 30 is a quantile of 1 under the first table, and 20 one of 0 under the second.
+//! The last word, 9, begins the remainders. At 8 bits of precision each symbol is decoded from its own word, from the
+//! last word to the first. 30 is a quantile of symbol 1 under the first table, and 20 is a quantile of symbol 0 under
+//! the second.
 
 use crate::given::{SYMBOLS, Table, are_back, tables_of, words_of};
 use constriction_chain::ChainCoder;
@@ -12,12 +13,14 @@ use std::test::Fail;
 
 type Small = ChainCoder<u8, u16, Vec<u8>, Vec<u8>, 8>;
 
-/// The coder of words in compressed form.
+/// Imports a coder from the words 20, 30 and 9.
 fn coder_of(alloc: Global) -> Option<Small> {
     Small::from_compressed(alloc, words_of(alloc, &[20, 30, 9])?).ok()
 }
 
-/// The remainders are 9 * 240 + 14, whose low word goes, and 8 * 100 + 20.
+/// Decodes the symbols. Returns whether the symbols and the remainders are as expected.
+///
+/// The remainders head is first `9 * 240 + 14`, and its low word moves out. Then the head is `8 * 100 + 20`.
 fn taken(alloc: Global, tables: &[Table; 2]) -> bool {
     let Some(coder) = coder_of(alloc) else {
         return false;

@@ -1,7 +1,7 @@
-//! What all tests of coders are given: two tables, and the symbols 1 and 0 under them.
+//! The values that all tests of coders use: two tables, and the symbols 1 and 0 under them.
 //!
-//! The stack coder's word for these symbols is 16, and so is the range coder's: the first symbol's interval begins at
-//! 16, and the second one's at 0.
+//! The stack coder and the range coder both encode these symbols as the word 16. The first symbol's interval begins at
+//! 16, and the second symbol's interval begins at 0.
 
 use constriction_base::weights::WeightTable;
 use std::alloc::Global;
@@ -18,12 +18,12 @@ pub(crate) fn tables_of(alloc: Global) -> Result<[Table; 2], Fail> {
     ])
 }
 
-/// Words on the heap.
+/// Returns `words` in a vector, or `None` if there is no memory.
 pub(crate) fn words_of(alloc: Global, words: &[u8]) -> Option<Vec<u8>> {
     words.to_vec(alloc).ok()
 }
 
-/// Whether the symbols are back.
+/// Returns whether `again` has exactly the symbols of `SYMBOLS`.
 pub(crate) fn are_back(again: &[usize]) -> bool {
     again == SYMBOLS.as_slice()
 }

@@ -1,7 +1,7 @@
-//! Tests of the laws' callers, and no code besides: each of them once, at a concrete type.
+//! Tests of the laws' callers, each caller once, at a concrete type.
 //!
-//! What a caller promises is proved in `constriction_laws` for all values. These tests stand for what no contract can
-//! say: that the calls succeed where there is memory, and give the numbers that a reader expects. Calls that cost more
+//! The contracts of the callers are proved in `constriction_laws` for all values. These tests check what no contract
+//! can state: the calls succeed if there is memory, and return the values that a reader expects. Calls that cost more
 //! to prove are in `tests/cases/constriction_laws_tests`.
 #![tactic(auto)]
 

@@ -1,4 +1,4 @@
-//! The callers of the range coder, at words of 8 bits and states of 16.
+//! Tests of the callers of the range coder, with 8-bit words and 16-bit states.
 
 use crate::given::{SYMBOLS, Table, are_back, tables_of, words_of};
 use constriction_base::backends::Pos;
@@ -20,7 +20,7 @@ fn put_in(alloc: Global, tables: &[Table; 2]) -> bool {
     }
 }
 
-/// The symbols come back, and the word has been read.
+/// Decodes the word 16. Returns whether the symbols are the same, and the decoder may be exhausted.
 fn from_words(alloc: Global, tables: &[Table; 2]) -> bool {
     let Some(words) = words_of(alloc, &[16]) else {
         return false;
@@ -31,7 +31,7 @@ fn from_words(alloc: Global, tables: &[Table; 2]) -> bool {
     }
 }
 
-/// The position of a new encoder is that of all symbols.
+/// Decodes the word 16 from the position of a new encoder. Returns whether the symbols are the same.
 fn from_position(alloc: Global, tables: &[Table; 2]) -> bool {
     let Some(words) = words_of(alloc, &[16]) else {
         return false;
@@ -43,7 +43,7 @@ fn from_position(alloc: Global, tables: &[Table; 2]) -> bool {
     }
 }
 
-/// An encoder that holds nothing lends no words, which are read as zeros.
+/// Decodes the words that a new encoder lends. Returns whether missing words are read as zeros.
 fn from_lent_words(alloc: Global, tables: &[Table; 2]) -> bool {
     let mut encoder = Small::new(alloc);
     match decode_lent_words_by_models::<u8, u16, Global, _, 8>(alloc, &mut encoder, tables) {
@@ -52,7 +52,7 @@ fn from_lent_words(alloc: Global, tables: &[Table; 2]) -> bool {
     }
 }
 
-/// The symbol 1 is the flag.
+/// Decodes the word 16 with a switch. Returns whether the symbols are the same. The symbol 1 is the flag.
 fn from_a_switch(alloc: Global, tables: &[Table; 2]) -> bool {
     let decoder = match RangeDecoder::<u8, u16, Cursor<u8, &[u8]>>::from_compressed([
         16u8,

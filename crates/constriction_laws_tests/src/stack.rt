@@ -1,4 +1,4 @@
-//! The callers of the stack coder, at words of 8 bits and heads of 16.
+//! Tests of the callers of the stack coder, with 8-bit words and 16-bit heads.
 
 use crate::given::{SYMBOLS, Table, are_back, tables_of, words_of};
 use constriction_laws::stack::round_trips::binary::{
@@ -53,7 +53,7 @@ fn from_items(alloc: Global, tables: &[Table; 2]) -> bool {
     }
 }
 
-/// The coder of some words.
+/// Imports a coder from `words`.
 pub(crate) fn coder_of(alloc: Global, words: &[u8]) -> Option<Small> {
     Small::from_compressed(words_of(alloc, words)?).ok()
 }
@@ -68,7 +68,7 @@ fn from_lent_words(alloc: Global, tables: &[Table; 2]) -> bool {
     }
 }
 
-/// The position of a head of 16 below which there are no words.
+/// Decodes from the position with the head 16 and no words below it. Returns whether the symbols are the same.
 fn at_position(alloc: Global, tables: &[Table; 2]) -> bool {
     let coder = Small::new(alloc);
     match pairs_at_position::<u8, u16, _, 8>(alloc, &coder, (0, 16), tables) {
@@ -77,7 +77,7 @@ fn at_position(alloc: Global, tables: &[Table; 2]) -> bool {
     }
 }
 
-/// The word 16 as any word, which comes back from the symbols that are decoded from it.
+/// Decodes symbols from the word 16 in binary form, and encodes them again. Returns whether the word is the same.
 fn from_any_word(alloc: Global, tables: &[Table; 2]) -> bool {
     let Some(words) = words_of(alloc, &[16]) else {
         return false;

@@ -1,4 +1,4 @@
-//! The callers of the bit coders, with Exp-Golomb codewords, and a tree of least cost.
+//! Tests of the callers of the bit coders, with Exp-Golomb codewords, and of a tree of least cost.
 
 use constriction_base::backends::Stack;
 use constriction_laws::symbol::costs::tree_of_least_cost;

@@ -10,7 +10,7 @@ use constriction_base::model::{DecoderModel, EncoderModel, EntropyModel};
 use constriction_words::{BitArray, WordOf};
 use std::marker::PhantomData;
 
-/// A model of the symbols `false` and `true`, whose intervals lie in this order.
+/// A model of the symbols `false` and `true`. The interval of `false` begins at 0.
 ///
 /// # Examples
 ///
@@ -58,7 +58,7 @@ impl<Probability: WordOf<u32>, const PRECISION: usize> BernoulliModel<Probabilit
         })
     }
 
-    /// Returns the start and the length of a symbol's interval.
+    /// Returns the start and the length of the interval of `symbol`.
     #[inline(always)]
     fn interval_of(&self, symbol: bool) -> (Probability, <Probability as BitArray>::NonZero)
         ensures { Has (bernoulli PRECISION self.now.weight) symbol (Probability.number result.0)

@@ -74,11 +74,13 @@ pub enum Family {
     Logistic,
 }
 
-/// A distribution of one of the families.
+/// A distribution of any of the families in [`Family`].
 pub type FamilyDistribution = OneOf<Gaussian, Laplace, Logistic>;
 
 impl Family {
-    /// Returns the distribution with a location and a scale in multiples of `2^-16`, or `None` if the scale is 0.
+    /// Returns the family's distribution with `location` and `scale`, or `None` if `scale` is 0.
+    ///
+    /// Both are given in multiples of `2^-16`.
     #[inline]
     pub fn distribution(self, location: i64, scale: u32) -> Option<FamilyDistribution>
         ensures ok { IfSome result

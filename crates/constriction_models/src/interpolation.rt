@@ -1,13 +1,13 @@
 //! Functions given by a table of values, and interpolated linearly between the values.
 //!
-//! The division by the scale happens once, in `Scale::new`, which gives the `rate`. If the values were 1/32 of a
+//! The division by the scale happens once, in `Scale::new`, which computes the `rate`. If the values were 1/32 of a
 //! standard deviation apart instead of 1/128, coding would cost 2e-6 bits a symbol more.
 
 ghost use Rattle.std.specs.Prelude.{◌≡◌, ◌+◌, ◌-◌, ◌*◌, ◌/◌, ◌<◌, ◌≤◌, length, ℤ, pos, ◌+ℤ◌, ◌-ℤ◌};
 ghost use Rattle.constriction_models.specs.Interpolation.{AreValues, value_at, located};
 ghost use Rattle.constriction_models.specs.laws.Interpolating.{Fits};
 
-/// Returns the value at a place, which is a number of 65536ths of a step.
+/// Returns the value at `place`, which is given in 65536ths of the table's spacing.
 #[inline(always)]
 fn value_at(values: &[u64], place: u64) -> u64
     requires values { AreValues values.now }
@@ -20,7 +20,7 @@ fn value_at(values: &[u64], place: u64) -> u64
     low + long * (place % 65536) / 65536
 }
 
-/// Returns how far a place lies above the beginning of a table of this width around `middle`.
+/// Returns how far `place` lies above the first place of a table of width `wide` around `middle`.
 #[inline(always)]
 fn far_above(wide: u64, middle: i64, place: i64) -> i128
     ensures { result ≡ place -ℤ middle +ℤ pos (wide / 2) }
@@ -28,7 +28,9 @@ fn far_above(wide: u64, middle: i64, place: i64) -> i128
     place as i128 - middle as i128 + (wide / 2) as i128
 }
 
-/// Returns the value at a place, for a table of this width around `middle`.
+/// Returns the value at `place` of a table of width `wide` around `middle`.
+///
+/// The value is 0 below the table, and `2^32` above it.
 #[inline(always)]
 pub fn located(values: &[u64], wide: u64, rate: u64, middle: i64, place: i64) -> u64
     requires values { AreValues values.now }
@@ -45,7 +47,7 @@ pub fn located(values: &[u64], wide: u64, rate: u64, middle: i64, place: i64) ->
     value_at(values, far as u64 * rate / 68719476736)
 }
 
-/// Returns about where the table has this value, in 65536ths of a step.
+/// Returns about where the table reaches the value `below`, in 65536ths of the table's spacing.
 #[inline(always)]
 fn place_of(places: &[u32], below: u64) -> u64
     requires { length places.now ≡ 1025 }
@@ -60,7 +62,10 @@ fn place_of(places: &[u32], below: u64) -> u64
     low + (high - low) * (below % 4194304) / 4194304
 }
 
-/// Returns a place below which about this much lies, for a table of this width around `middle`.
+/// Estimates the place at which a distribution reaches the value `below`, in units of `2^-32`.
+///
+/// `places` lists where the family's tabulated function reaches each of 1025 values. The table spans the width `wide`
+/// around `middle`. Places are in units of `2^-16`. The result is limited to the range from `-2^51` to `2^51`.
 #[inline(always)]
 pub fn guessed(places: &[u32], wide: u64, middle: i64, below: u64) -> i64
     requires count { length places.now ≡ 1025 }

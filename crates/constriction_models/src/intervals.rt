@@ -1,10 +1,10 @@
-//! Intervals as words.
+//! Conversion of intervals to the type of a model's probabilities.
 
 ghost use Rattle.std.specs.Prelude.{◌≡◌, ◌-◌, ◌^◌, ◌<◌};
 
 use constriction_words::{BitArray, WordOf};
 
-/// Returns the start and the length of an interval as words.
+/// Returns the start and the length of the interval from `left` to below `end`, as values of type `Probability`.
 #[inline(always)]
 pub fn interval<Probability: WordOf<u32>>(
     left: u64,

@@ -3,12 +3,12 @@
 //! A decoder needs exactly the encoder's table. A table computed in floating point may differ on another machine, and
 //! then the message is lost. All models of this crate are computed in integers, and each is proved to be a table.
 //!
-//! - [`distribution`]: `CumulativeDistribution`, a cumulative distribution function in integers, whose one law is that
-//!   it never falls.
-//! - [`quantizer`]: `LeakyQuantizer`, which cuts a distribution function halfway between symbols. It makes two models:
-//!   `LeakilyQuantizedDistribution`, and `IndexedDistribution`, whose symbols are indices of type `usize`.
+//! - [`distribution`]: `CumulativeDistribution`, a cumulative distribution function in integers, with the law
+//!   `never_falls`.
+//! - [`quantizer`]: `LeakyQuantizer`, which cuts a distribution function halfway between symbols. It creates two
+//!   models: `LeakilyQuantizedDistribution`, and `IndexedDistribution`, which has symbols of type `usize` from 0 on.
 //! - [`location_scale`]: `LocationScale`, a standard distribution moved to a location and stretched by a scale;
-//!   `Scale`, which makes a `LocationScale` without a division.
+//!   `Scale`, which creates a `LocationScale` without a division.
 //! - [`gaussian`], [`laplace`], [`logistic`]: the distributions `Gaussian`, `Laplace` and `Logistic`.
 //! - [`families`]: `Family`, which chooses one of these three at run time.
 //! - [`mixture`]: `Mixture`, the weighted mean of distributions, each a `Component`. `MixtureError` is the error for

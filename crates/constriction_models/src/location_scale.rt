@@ -44,7 +44,7 @@ pub trait StandardDistribution: Copy {
 
     /// Returns approximate arguments at which the distribution function reaches 0, 1/1024, 2/1024, .., 1.
     ///
-    /// Each number is the distance from the first of the 2049 grid points, in 65536ths of the spacing of the grid.
+    /// Each number is the distance from the first of the 2049 places, in 65536ths of the table's spacing.
     /// Every list of 1025 numbers is allowed. Accurate numbers make decoding fast.
     fn guesses() -> &'static [u32]
         ensures { length result.now ≡ 1025 };
@@ -52,7 +52,8 @@ pub trait StandardDistribution: Copy {
 
 /// The distribution of a family with a location and a scale, both multiples of `2^-16`.
 ///
-/// The type `D` is the family's standard distribution. The distribution function interpolates its table linearly.
+/// The type `D` is the family's standard distribution. The distribution function interpolates the table of `D`
+/// linearly.
 ///
 /// # Examples
 ///
@@ -66,14 +67,16 @@ pub trait StandardDistribution: Copy {
 pub struct LocationScale<D: StandardDistribution> {
     location: i64,
     scale: u32,
-    /// `2^36` times the number of 65536ths of the distance between neighbouring places of the table in one unit.
+    /// `2^63 / (D::WIDTH * scale)`, rounded down.
+    ///
+    /// A distance in multiples of `2^-16`, times `rate` and divided by `2^36`, is in 65536ths of the table's spacing.
     rate: u64,
     standard: PhantomData<D>,
     ghost rated: { rate ≡ 9223372036854775808 / D.WIDTH / scale },
 }
 
 impl<D: StandardDistribution> LocationScale<D> {
-    /// Creates the distribution of a location and a scale, or returns `None` if the scale is 0.
+    /// Creates the distribution with `location` and `scale`, or returns `None` if `scale` is 0.
     ///
     /// Both are given in multiples of `2^-16`. Each call divides once. If scales repeat, [`Scale::at`] saves the
     /// division. The type has an example.

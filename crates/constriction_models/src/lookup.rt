@@ -1,8 +1,7 @@
 //! `ContiguousLookupDecoderModel`: a model with a row for each quantile.
 //!
-//! A row holds the symbol and its interval, so decoding a symbol reads one entry of one list and not of two. A symbol
-//! takes 16 bits of a row. If probabilities are `u16`, a row takes 6 bytes, and at a precision of 12 bits all rows fit
-//! the first-level cache.
+//! A row holds a symbol and its interval, so a decode reads one list instead of two. A symbol takes 16 bits of a row.
+//! If probabilities are `u16`, a row takes 6 bytes. At a precision of 12 bits, all rows then fit the first-level cache.
 
 ghost use Rattle.std.specs.Prelude.{◌≡◌, ◌+◌, ◌^◌, ◌<◌, ◌≤◌, IfOk, IsErrOf};
 ghost use Rattle.constriction_base.specs.Tables.{Has, Covers};
@@ -13,7 +12,7 @@ use constriction_words::{BitArray, WordOf};
 use std::alloc::Global;
 use thiserror::Error;
 
-/// The error of making a lookup table from a model.
+/// The error of building a lookup table from a model.
 ///
 /// # Examples
 ///
@@ -34,7 +33,7 @@ pub enum LookupError {
     Memory,
 }
 
-/// The symbol of a quantile, with the start and the length of its interval.
+/// A symbol, with the start and the length of its interval.
 #[derive(Drop, Clone, Copy)]
 struct Row<P: Copy + Drop, N: Copy + Drop> {
     symbol: u16,
@@ -44,7 +43,7 @@ struct Row<P: Copy + Drop, N: Copy + Drop> {
 
 /// A model of the symbols `0`, `1`, .. with a row for each quantile, so that one look-up finds a quantile's symbol.
 ///
-/// It has the same table as the model that it is made from. A row holds a symbol and its interval. A row takes 6 bytes
+/// It has the same table as the model that it is built from. A row holds a symbol and its interval. A row takes 6 bytes
 /// if probabilities are `u16`, and 12 bytes if they are `u32`. At a precision of 12 bits, all rows together take 24 or
 /// 48 KiB.
 ///
@@ -53,7 +52,7 @@ struct Row<P: Copy + Drop, N: Copy + Drop> {
 /// ```
 /// let model = UniformModel::<u8, 8>::new(10)?;
 /// let lookup = ContiguousLookupDecoderModel::new(alloc, model)?;
-/// lookup.quantile_function(60) // (2, 50, 25), as the weights are 25
+/// lookup.quantile_function(60) // (2, 50, 25): symbol 2 has the quantiles from 50 to 74
 /// ```
 #[derive(Drop)]
 pub struct ContiguousLookupDecoderModel<
@@ -66,7 +65,7 @@ pub struct ContiguousLookupDecoderModel<
     ghost found: { AreRows M.Probability.number M.Probability.nonzero_number (M.table model) rows.items (2 ^ PRECISION) },
 }
 
-/// Returns the row of a quantile, and the end of its interval.
+/// Returns the row of `quantile`, and the end of the row's interval.
 fn row_at<M: DecoderModel<PRECISION, Symbol = usize>, const PRECISION: usize>(
     model: &M,
     quantile: u32,
@@ -104,7 +103,7 @@ where
     ))
 }
 
-/// Returns the row of each quantile of a model.
+/// Returns the rows of all quantiles of `model`, from quantile 0 on.
 fn rows_of<M: DecoderModel<PRECISION, Symbol = usize>, const PRECISION: usize>(
     alloc: Global,
     model: &M,

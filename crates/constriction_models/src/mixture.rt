@@ -68,7 +68,7 @@ pub struct Mixture<'a, D: CumulativeDistribution> {
     components: &'a [Component<D>],
     /// The sum of the weights.
     total: u64,
-    /// `2^64 - 1` divided by `total`.
+    /// `2^64 - 1` divided by `total`, rounded down.
     rate: u64,
     ghost summed: { total ≡ total_weight (weighted D.below components.now) },
     ghost some: { 0 < total_weight (weighted D.below components.now) },
@@ -114,7 +114,7 @@ impl<'a, D: CumulativeDistribution> Mixture<'a, D> {
         })
     }
 
-    /// Returns the quotient of a sum by the sum of the weights.
+    /// Returns `sum` divided by the sum of the weights, rounded down.
     #[inline(always)]
     fn mean(&self, sum: u128) -> u64
         requires { sum ≤ self.now.total * 4294967296 }
@@ -131,16 +131,21 @@ impl<'a, D: CumulativeDistribution> Mixture<'a, D> {
         }
     }
 
-    /// Returns about where the quantile lies if the components don't overlap: the shares below it, in the order of
-    /// their places, say in which component it is, and how much of that lies below.
+    /// Returns a guess for `below` under the assumption that the components don't overlap.
+    ///
+    /// The call finds the component that has `below` in its share, as `share_of` defines shares. It returns this
+    /// component's guess for the part of the share that lies below `below`.
     fn place_by_shares(&self, places: &[i64; FEW], below: u64) -> i64 {
         let sum = below.min(4294967295) * self.total;
         let (k, inside) = self.share_of(places, sum);
         self.components[k].distribution.guess(inside)
     }
 
-    /// Returns the component whose share holds this sum of the shares in the order of places, and how much of `2^32`
-    /// lies below in it.
+    /// Returns the number `k` of the component whose share holds `sum`, and how much of the share lies below `sum`.
+    ///
+    /// A component of weight `w` has a share of `w * 2^32` numbers. The shares follow each other from 0 in the order of
+    /// `places`. The second number of the result is in units of `2^-32` of the share. If no share holds `sum`, the call
+    /// returns 0 and one half of `2^32`.
     fn share_of(&self, places: &[i64; FEW], sum: u64) -> (usize, u64)
         ensures { result.0 < length self.now.components.now }
     {
@@ -154,7 +159,10 @@ impl<'a, D: CumulativeDistribution> Mixture<'a, D> {
         (0, 2147483648)
     }
 
-    /// Returns the sum of the weights of the components whose places are lower, or equal and listed earlier.
+    /// Returns the sum of the weights of the components that come before component `k`, which lies at `place`.
+    ///
+    /// Component `i` comes before component `k` if `places[i]` is below `place`, or if `places[i]` equals `place` and
+    /// `i` is below `k`. Only the first 8 components count.
     #[inline(always)]
     fn weight_before(&self, places: &[i64; FEW], place: i64, k: usize) -> u64 {
         let mut before = 0u64;
@@ -186,12 +194,13 @@ impl<'a, D: CumulativeDistribution> CumulativeDistribution for Mixture<'a, D> {
 
     /// Returns a place where the distribution function is about `below`, computed from the components' guesses.
     ///
-    /// The result is the weighted mean of the guesses. A guess that is more than 32768 symbols from the first
-    /// component's guess counts as a guess 32768 symbols away from it.
+    /// The call follows one of two rules, in which one symbol is a distance of 65536.
     ///
-    /// If there are at most 8 components, and their guesses lie more than 64 symbols apart, the call assumes that the
-    /// components don't overlap. The result is then a guess of the component in which `below` falls, limited to the
-    /// range of all guesses.
+    /// - If the least and the greatest guess lie more than 64 symbols apart, and there are at most 8 components, the
+    ///   call assumes that the components don't overlap. The result is a guess of the component in which `below` falls.
+    ///   It is limited to the range from the least to the greatest guess.
+    /// - Otherwise the result is the weighted mean of the guesses. In this mean, a guess more than 32768 symbols from
+    ///   the first component's guess counts as a guess 32768 symbols from it.
     #[inline(always)]
     fn guess(&self, below: u64) -> i64 {
         let first = self.components[0].distribution.guess(below);
@@ -220,13 +229,15 @@ impl<'a, D: CumulativeDistribution> CumulativeDistribution for Mixture<'a, D> {
     }
 }
 
-/// How far apart places are that a mean says little of: 64 symbols.
+/// The distance between the least and the greatest guess above which `guess` avoids their mean: 64 symbols.
 const FAR: i64 = 4194304;
 
-/// Of how many components the order is looked at.
+/// The greatest number of components for which `guess` uses `place_by_shares`.
 const FEW: usize = 8;
 
-/// Returns how far a place lies above one that is 32768 symbols below the middle, at least 0 and at most twice as far.
+/// Returns how far `place` lies above `middle - 2^31`, limited to the range from 0 to `2^32`.
+///
+/// `2^31` is the distance of 32768 symbols.
 #[inline(always)]
 fn clamped(place: i64, middle: i64) -> u64
     ensures { result ≤ 4294967296 }

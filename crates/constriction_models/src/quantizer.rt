@@ -73,7 +73,7 @@ impl<Probability: WordOf<u32>, const PRECISION: usize> LeakyQuantizer<Probabilit
         })
     }
 
-    /// Returns the model of a distribution, cut halfway between the symbols of the range.
+    /// Cuts `distribution` halfway between the symbols of the range, and returns the model.
     pub fn quantize<D: CumulativeDistribution>(
         &self,
         distribution: D,
@@ -95,10 +95,10 @@ impl<Probability: WordOf<u32>, const PRECISION: usize> LeakyQuantizer<Probabilit
 /// A distribution cut halfway between symbols: a model in which every symbol of a range has an interval.
 ///
 /// At a precision of `P` bits, each of the `n` symbols gets 1 of the `2^P` quantiles. The symbols share the other
-/// quantiles in proportion to their probabilities, up to rounding. The first symbol has `k = 0`, the next symbol
-/// `k = 1`. The interval of a symbol begins at `floor((2^P - n) * F / 2^32) + k`. Here `F` is the probability below the
-/// edge between the symbol and the symbol before it, in units of `2^-32`. For the first symbol, `F` is 0. At the end of
-/// the last interval, `k` is `n` and `F` is `2^32`.
+/// quantiles in proportion to their probabilities, up to rounding. Let `k` be how far a symbol lies above the first
+/// symbol of the range. The interval of the symbol begins at `floor((2^P - n) * F / 2^32) + k`. Here `F` is the
+/// probability below the edge between the symbol and the symbol before it, in units of `2^-32`. For the first symbol,
+/// `F` is 0. The last interval ends at `2^P`, which is the value of the formula for `k = n` and `F = 2^32`.
 ///
 /// # Examples
 ///
@@ -124,7 +124,10 @@ impl<
     Probability: WordOf<u32>,
     const PRECISION: usize,
 > LeakilyQuantizedDistribution<D, Probability, PRECISION> {
-    /// Returns how much of `2^32` lies below the `k`th symbol, or below the end.
+    /// Returns the probability below the edge between symbols `k - 1` and `k`, in units of `2^-32`.
+    ///
+    /// Symbol 0 is the first symbol of the range. The result is 0 if `k` is 0, and `2^32` if `k` is the number of
+    /// symbols.
     #[inline(always)]
     fn below(&self, k: u64) -> u64
         requires { k ≤ self.now.quantizer.count }
@@ -141,7 +144,7 @@ impl<
             .cumulative((self.quantizer.min as i64 + k as i64) * 65536 - 32768)
     }
 
-    /// Returns what is left of `2 ^ PRECISION` after 1 for each symbol.
+    /// Returns `2 ^ PRECISION` minus the number of symbols.
     #[inline(always)]
     fn free(&self) -> u64
         ensures { result ≡ 2 ^ PRECISION - self.now.quantizer.count }
@@ -149,7 +152,9 @@ impl<
         (1u64 << PRECISION as u32) - self.quantizer.count
     }
 
-    /// Returns the start of the `k`th symbol's interval, or the end of the last interval.
+    /// Returns the start of the interval of symbol `k`, or `2 ^ PRECISION` if `k` is the number of symbols.
+    ///
+    /// Symbol 0 is the first symbol of the range. The last interval ends at `2 ^ PRECISION`.
     #[inline(always)]
     fn start(&self, k: u64) -> u64
         requires { k ≤ self.now.quantizer.count }
@@ -159,7 +164,7 @@ impl<
         self.free() * self.below(k) / 4294967296 + k
     }
 
-    /// Returns the symbol that lies `k` above the first.
+    /// Returns the symbol that lies `k` above the first symbol of the range.
     #[inline(always)]
     fn symbol(&self, k: u64) -> i32
         requires { k < self.now.quantizer.count }
@@ -168,7 +173,9 @@ impl<
         (self.quantizer.min as i64 + k as i64) as i32
     }
 
-    /// Returns about how far above the first symbol the symbol of a quantile lies.
+    /// Returns a guess of how far the symbol at `quantile` lies above the first symbol of the range.
+    ///
+    /// The guess may be wrong, and may lie above the last symbol.
     #[inline(always)]
     fn near(&self, quantile: u64) -> u64
         requires { quantile < 2 ^ PRECISION }
@@ -186,7 +193,7 @@ impl<
         symbol as u64
     }
 
-    /// Returns how far above the first symbol a symbol lies, if it is in the range.
+    /// Returns how far `symbol` lies above the first symbol of the range, or `None` if it isn't in the range.
     #[inline(always)]
     fn place(&self, symbol: i32) -> Option<u64>
         ensures { MatchOption result
@@ -276,7 +283,7 @@ impl<D: CumulativeDistribution, Probability: WordOf<u32>, const PRECISION: usize
     }
 }
 
-/// Returns a number strictly between two others: the wanted one where it lies there.
+/// Returns `wanted` if it lies strictly between `low` and `high`, and otherwise their mean, rounded down.
 #[inline(always)]
 fn between(low: u64, high: u64, wanted: u64) -> u64
     requires { low + 1 < high }
@@ -290,9 +297,13 @@ fn between(low: u64, high: u64, wanted: u64) -> u64
     }
 }
 
-/// Returns how many symbols farther a search looks next: one at first, then as many as the last stride's mass says.
+/// Returns the distance, in symbols, from the last probe of a search to the next probe.
 ///
-/// Where a search has turned, it lies between two known symbols, and the answer leads past them, so that halves follow.
+/// - If the search has `turned`, it has probed on both sides of the quantile. The result is `2^64 - 1`. This leads
+///   outside the range that is left, so `between` halves the range.
+/// - Otherwise, if this is the `first` move, the result is 1.
+/// - Otherwise the last move passed `last` symbols, which have the total weight `mass`, and the quantile lies `far`
+///   beyond the start of the last probe. The result is `far * last / mass + 1`, but at most `8 * last`.
 #[inline(always)]
 fn stride(turned: bool, first: bool, far: u64, mass: u64, last: u64) -> u64 {
     if turned {

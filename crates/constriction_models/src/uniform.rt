@@ -69,7 +69,9 @@ impl<Probability: WordOf<u32>, const PRECISION: usize> UniformModel<Probability,
         })
     }
 
-    /// Returns the start of a symbol's interval, or the end of the last interval.
+    /// Returns the start of the interval of `symbol`, or `2 ^ PRECISION` if `symbol` is the number of symbols.
+    ///
+    /// The last interval ends at `2 ^ PRECISION`.
     #[inline(always)]
     fn start(&self, symbol: u64) -> u64
         requires { symbol ≤ self.now.count }
@@ -81,7 +83,7 @@ impl<Probability: WordOf<u32>, const PRECISION: usize> UniformModel<Probability,
         1u64 << PRECISION as u32
     }
 
-    /// Returns the symbol whose interval holds a quantile.
+    /// Returns the symbol whose interval holds `quantile`.
     #[inline(always)]
     fn symbol_at(&self, quantile: u64) -> u64
         requires { quantile < 2 ^ PRECISION }

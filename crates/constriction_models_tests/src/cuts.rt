@@ -1,11 +1,11 @@
-//! Whether a model cuts the quantiles, counted symbol by symbol.
+//! Checks that the intervals of a model partition the quantiles, symbol by symbol.
 
 ghost use Rattle.std.specs.Prelude.{◌≡◌, ◌^◌};
 
 use constriction_base::model::{DecoderModel, EncoderModel};
 use constriction_words::{BitArray, WordOf};
 
-/// Whether a quantile is this symbol's, whose interval begins here and is so long.
+/// Returns whether `quantile` lies in the interval `expected`: a symbol, the interval's start and its length.
 fn finds<S, M, const PRECISION: usize>(
     model: &M,
     all: u64,
@@ -27,7 +27,9 @@ where
     *expected.0 == symbol && left.widen() as u64 == expected.1 && p.widen() as u64 == expected.2
 }
 
-/// Where the interval of a symbol ends, if it begins here and is found again at its first and its last quantile.
+/// Returns the end of the interval of `symbol`, if it begins at `left`, and its first and last quantiles lie in it.
+///
+/// Returns `None` otherwise.
 fn end_of<S, M, const PRECISION: usize>(model: &M, all: u64, left: u64, symbol: &S) -> Option<u64>
 where
     S: PartialEq,
@@ -49,7 +51,7 @@ where
     None
 }
 
-/// Whether the intervals of these symbols follow on one another from 0 to all.
+/// Returns whether the intervals of `symbols`, one after another, cover the numbers from 0 to `all - 1`.
 pub fn cuts<S, M, const PRECISION: usize>(model: &M, all: u64, symbols: &[S]) -> bool
 where
     S: PartialEq,
@@ -67,7 +69,7 @@ where
     end == all
 }
 
-/// Whether the model has no interval for a symbol.
+/// Returns whether the model has no interval for `symbol`.
 pub fn is_unknown<S, M, const PRECISION: usize>(model: &M, symbol: &S) -> bool
 where
     M: EncoderModel<PRECISION, Symbol = S>,
@@ -75,7 +77,7 @@ where
     model.left_cumulative_and_probability(symbol).is_none()
 }
 
-/// Where the interval of a symbol begins, and how long it is.
+/// Returns the start and the length of the interval of `symbol`, or `None` if there is none.
 pub fn interval_of<S, M, const PRECISION: usize>(model: &M, symbol: &S) -> Option<(u64, u64)>
 where
     M: EncoderModel<PRECISION, Symbol = S>,

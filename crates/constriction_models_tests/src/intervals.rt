@@ -1,4 +1,4 @@
-//! Worked intervals: 201 symbols from -100 on, at words of 32 bits and a precision of 24.
+//! Tests of worked intervals of the symbols from -100 to 100, with 32-bit words and a precision of 24 bits.
 
 use crate::cuts::interval_of;
 use constriction_models::distribution::CumulativeDistribution;
@@ -8,10 +8,10 @@ use constriction_models::location_scale::Scale;
 use constriction_models::logistic::Logistic;
 use constriction_models::quantizer::LeakyQuantizer;
 
-/// A location and a scale in 65536ths, a symbol, and where its interval begins and how long it is.
+/// A location and a scale in 65536ths, a symbol, and the start and the length of its interval.
 type Case = (i64, u32, i32, (u64, u64));
 
-/// Whether the symbol's interval is this one.
+/// Returns whether `expected` is the interval of `symbol` under `distribution`.
 fn has<D: CumulativeDistribution>(distribution: &D, symbol: i32, expected: (u64, u64)) -> bool {
     match LeakyQuantizer::<u32, 24>::new(-100, 100) {
         Ok(quantizer) => interval_of(&quantizer.quantize(distribution), &symbol) == Some(expected),
@@ -19,7 +19,7 @@ fn has<D: CumulativeDistribution>(distribution: &D, symbol: i32, expected: (u64,
     }
 }
 
-/// The same at a location and a scale.
+/// Returns whether `expected` is the interval of `symbol` under a Gaussian.
 fn gaussian_has(location: i64, scale: u32, symbol: i32, expected: (u64, u64)) -> bool {
     match Gaussian::new(location, scale) {
         Some(distribution) => has(&distribution, symbol, expected),
@@ -27,7 +27,7 @@ fn gaussian_has(location: i64, scale: u32, symbol: i32, expected: (u64, u64)) ->
     }
 }
 
-/// The same by a kept scale.
+/// Returns whether `expected` is the interval of `symbol` under a Gaussian that is made from a [`Scale`].
 fn kept_scale_has(location: i64, scale: u32, symbol: i32, expected: (u64, u64)) -> bool {
     match Scale::<StandardNormal>::new(scale) {
         Some(kept) => kept.get() == scale && has(&kept.at(location), symbol, expected),
@@ -59,7 +59,7 @@ fn intervals_of_gaussian(rt: HostRuntime) {
     }
 }
 
-/// The same at a location and a scale.
+/// Returns whether `expected` is the interval of `symbol` under a Laplace distribution.
 fn laplace_has(location: i64, scale: u32, symbol: i32, expected: (u64, u64)) -> bool {
     match Laplace::new(location, scale) {
         Some(distribution) => has(&distribution, symbol, expected),
@@ -90,7 +90,7 @@ fn intervals_of_laplace(rt: HostRuntime) {
     }
 }
 
-/// The same at a location and a scale.
+/// Returns whether `expected` is the interval of `symbol` under a logistic distribution.
 fn logistic_has(location: i64, scale: u32, symbol: i32, expected: (u64, u64)) -> bool {
     match Logistic::new(location, scale) {
         Some(distribution) => has(&distribution, symbol, expected),

@@ -1,13 +1,13 @@
-//! Tests of models in whole numbers, and no code besides: intervals that cut the quantiles, worked values, weights of
-//! counts, and lists through the stack coder with a model for each symbol, at concrete types.
+//! Tests of models at concrete types: intervals that partition the quantiles, worked values, weights of counts, and
+//! lists through the stack coder with a model for each symbol.
 //!
-//! What a contract of `constriction_models` says is proved there for all values. These tests stand for what no contract
-//! can say: that the definitions give the numbers that a reader expects, that calls which take memory succeed where
-//! there is some, and that a caller reaches them. `tests/cases/constriction_models_tests` has tests that run without a proof,
-//! by `tests/unproved`: of many ranges at each width of words, and of many symbols.
+//! The contracts of `constriction_models` are proved there for all values. These tests check what no contract can
+//! state: the definitions have the values that a reader expects, calls that need memory succeed if there is some, and a
+//! caller can make each call. `tests/cases/constriction_models_tests` has tests that run without a proof, with
+//! `tests/unproved`. They cover many ranges at each word width, and many symbols.
 //!
-//! `tests/models expected` prints the worked values of [`intervals`], [`mixtures`] and [`weights`]: it makes them of the formulas of the
-//! distributions, and of another program for weights, and not of this library.
+//! `tests/models expected` prints the worked values of [`intervals`], [`mixtures`] and [`weights`]. It computes them
+//! from the formulas of the distributions, and with another program for weights, and not with this library.
 #![tactic(auto)]
 
 #[cfg(test)]

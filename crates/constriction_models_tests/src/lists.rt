@@ -1,4 +1,4 @@
-//! Lists of symbols through the stack coder, with a model for each symbol.
+//! A test of lists of symbols through the stack coder, with a model for each symbol.
 
 use constriction_models::gaussian::Gaussian;
 use constriction_models::quantizer::LeakyQuantizer;
@@ -7,10 +7,10 @@ use constriction_stream::decoding::Decode;
 use constriction_stream::encoding::Encode;
 use std::alloc::Global;
 
-/// A symbol, and the mean and the deviation under which it is coded.
+/// A symbol, and the location and the scale of its Gaussian.
 type Item = (i32, i64, u32);
 
-/// Puts a symbol on under the model of its parameters.
+/// Encodes the symbol of `item` with its Gaussian. Returns whether the call succeeds.
 fn put(coder: &mut DefaultAnsCoder, quantizer: &LeakyQuantizer<u32, 24>, item: Item) -> bool {
     match Gaussian::new(item.1, item.2) {
         Some(gaussian) => coder
@@ -20,7 +20,7 @@ fn put(coder: &mut DefaultAnsCoder, quantizer: &LeakyQuantizer<u32, 24>, item: I
     }
 }
 
-/// Takes a symbol off under the model of its parameters, and compares it.
+/// Decodes a symbol with the Gaussian of `item`. Returns whether it is the symbol of `item`.
 fn takes(coder: &mut DefaultAnsCoder, quantizer: &LeakyQuantizer<u32, 24>, item: Item) -> bool {
     match Gaussian::new(item.1, item.2) {
         Some(gaussian) => match coder.decode_symbol(quantizer.quantize(gaussian)) {
@@ -31,7 +31,7 @@ fn takes(coder: &mut DefaultAnsCoder, quantizer: &LeakyQuantizer<u32, 24>, item:
     }
 }
 
-/// Whether a list comes back, last symbol first, and leaves an empty coder.
+/// Encodes `items`, and decodes them from last to first. Returns whether they are the same, and the coder is empty.
 fn comes_back(alloc: Global, items: &[Item]) -> bool {
     let Ok(quantizer) = LeakyQuantizer::<u32, 24>::new(-1000, 1000) else {
         return false;

@@ -1,4 +1,4 @@
-//! A model with the symbol of each quantile in a list.
+//! Tests of a model that has the symbol of each quantile in a list.
 
 use crate::cuts::{cuts, is_unknown};
 use constriction_base::weights::WeightTable;
@@ -7,7 +7,7 @@ use constriction_models::uniform::UniformModel;
 use std::alloc::Global;
 use std::test::Fail;
 
-/// Weights with zeros among them.
+/// Returns whether the lookup model of weights with zeros has the intervals of the other weights, and no others.
 fn weights_are_looked_up(alloc: Global) -> bool {
     match WeightTable::<u16, 12>::new(alloc, &[1000, 0, 0, 3095, 1]) {
         Ok(table) => match ContiguousLookupDecoderModel::new(alloc, table) {
@@ -18,7 +18,7 @@ fn weights_are_looked_up(alloc: Global) -> bool {
     }
 }
 
-/// A lent model, with one symbol for each quantile.
+/// Returns whether the lookup model of a borrowed model has one symbol of `symbols` for each quantile.
 fn quantiles_are_looked_up(alloc: Global, symbols: &[usize]) -> bool {
     match UniformModel::<u32, 8>::new(256) {
         Ok(model) => match ContiguousLookupDecoderModel::new(alloc, &model) {

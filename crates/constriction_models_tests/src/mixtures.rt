@@ -1,4 +1,4 @@
-//! Worked intervals of mixtures: 201 symbols from -100 on, at words of 32 bits and a precision of 24.
+//! Tests of worked intervals of mixtures: the symbols from -100 to 100, with 32-bit words and a precision of 24 bits.
 
 use crate::cuts::interval_of;
 use constriction_base::model::DecoderModel;
@@ -9,7 +9,7 @@ use constriction_models::quantizer::LeakyQuantizer;
 /// A weight, and a location and a scale in 65536ths.
 type Part = (u32, i64, u32);
 
-/// The component of these numbers, if the scale isn't 0.
+/// Returns the component of `part`, or `None` if the scale is 0.
 fn component(part: Part) -> Option<Component<Logistic>> {
     let distribution = Logistic::new(part.1, part.2)?;
     Some(Component {
@@ -18,7 +18,7 @@ fn component(part: Part) -> Option<Component<Logistic>> {
     })
 }
 
-/// Whether a symbol has this interval under the mixture, and is found at the interval's beginning.
+/// Returns whether `expected` is the interval of `symbol` under the mixture, and its first quantile finds `symbol`.
 fn has(components: &[Component<Logistic>], symbol: i32, expected: (u64, u64)) -> bool {
     let Ok(mixture) = Mixture::new(components) else {
         return false;
@@ -34,7 +34,7 @@ fn has(components: &[Component<Logistic>], symbol: i32, expected: (u64, u64)) ->
     found == symbol && interval_of(&model, &symbol) == Some(expected)
 }
 
-/// Whether a symbol has this interval under three components.
+/// Returns whether [`has`] holds for a mixture of three components.
 fn three_have(parts: [Part; 3], symbol: i32, expected: (u64, u64)) -> bool {
     match (
         component(parts[0]),
@@ -48,7 +48,7 @@ fn three_have(parts: [Part; 3], symbol: i32, expected: (u64, u64)) -> bool {
     }
 }
 
-/// The interval of a symbol under one component alone.
+/// Checks the interval of a symbol under a mixture of one component.
 #[test]
 fn one_component(rt: HostRuntime) {
     let holds = match component((7, 229376, 147456)) {

@@ -1,4 +1,4 @@
-//! A distribution of a program's own, and references to one.
+//! A test of a user-defined distribution, and of references to it.
 
 ghost use Rattle.std.proofs.Common.{arith};
 
@@ -6,7 +6,7 @@ use crate::cuts::{cuts, interval_of};
 use constriction_models::distribution::CumulativeDistribution;
 use constriction_models::quantizer::LeakyQuantizer;
 
-/// Half of all lies far below, and half far above.
+/// A distribution with one half far below all symbols, and one half far above.
 #[derive(Clone, Copy)]
 struct FarEnds;
 
@@ -24,7 +24,9 @@ impl CumulativeDistribution for FarEnds {
     }
 }
 
-/// Of 256 quantiles each of five symbols gets one, the first gets 125 more, which is half of 251, and the last the rest.
+/// Returns whether five symbols share 256 quantiles as expected.
+///
+/// Each symbol gets one quantile. Of the other 251, the first symbol gets 125, and the last symbol gets 126.
 fn ends_share<D: CumulativeDistribution>(distribution: &D) -> bool {
     match LeakyQuantizer::<u32, 8>::new(-2, 2) {
         Ok(quantizer) => {

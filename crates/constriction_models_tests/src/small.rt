@@ -1,11 +1,11 @@
-//! Models of equal symbols and of two.
+//! Tests of models of equally likely symbols, and of models of two symbols.
 
 use crate::cuts::{cuts, interval_of};
 use constriction_models::bernoulli::BernoulliModel;
 use constriction_models::errors::SupportError;
 use constriction_models::uniform::UniformModel;
 
-/// Whether so many symbols are refused for this reason, at a precision of 8 bits.
+/// Returns whether a uniform model of `count` symbols is refused with `expected`, at a precision of 8 bits.
 fn refuses(count: usize, expected: SupportError) -> bool {
     match UniformModel::<u16, 8>::new(count) {
         Ok(_) => false,
@@ -13,7 +13,7 @@ fn refuses(count: usize, expected: SupportError) -> bool {
     }
 }
 
-/// Ten symbols share 256 quantiles: 25 each, and the last has 6 more.
+/// Returns whether ten symbols share 256 quantiles: 25 for each symbol, and 6 more for the last.
 fn ten_share() -> bool {
     match UniformModel::<u32, 8>::new(10) {
         Ok(model) => {
@@ -36,7 +36,7 @@ fn equal_symbols_share(rt: HostRuntime) {
     );
 }
 
-/// Whether `true` has this weight of 256, behind `false`.
+/// Returns whether the symbol `true` has the weight `weight` of 256, in an interval after that of `false`.
 fn has_weight(weight: u32) -> bool {
     match BernoulliModel::<u32, 8>::new(weight) {
         Some(model) => {
@@ -48,7 +48,7 @@ fn has_weight(weight: u32) -> bool {
     }
 }
 
-/// Whether either of the two has nothing.
+/// Returns whether a model is refused in which `true` has the weight `weight` of 256.
 fn has_nothing(weight: u32) -> bool {
     BernoulliModel::<u32, 8>::new(weight).is_none()
 }

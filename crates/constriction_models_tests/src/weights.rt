@@ -1,11 +1,11 @@
-//! Weights of counts: shares, and ties.
+//! Tests of weights of counts: shares, and ties.
 
 use constriction_base::weights::WeightTable;
 use constriction_models::counts::weights_of_counts;
 use std::alloc::Global;
 use std::test::Fail;
 
-/// Whether the counts have these weights.
+/// Returns whether `expected` are the weights of `counts` at `precision`.
 pub fn are(alloc: Global, counts: &[u64], precision: u32, expected: &[u32]) -> bool {
     if precision > 31 {
         return false;
@@ -41,7 +41,7 @@ fn ties_go_to_the_first(rt: HostRuntime) {
     assert!(rt; are(rt.alloc(), &[u64::MAX, u64::MAX, 1], 8, &[128, 127, 1]));
 }
 
-/// Whether the weights of a histogram are those of a table.
+/// Returns whether a table can be made with the weights of `counts`.
 fn make_a_table(alloc: Global, counts: &[u64]) -> bool {
     match weights_of_counts(alloc, counts, 24) {
         Ok(weights) => WeightTable::<u32, 24>::new(alloc, weights.as_slice()).is_ok(),

@@ -12,7 +12,7 @@ use std::alloc::Allocator;
 /// `into_compressed`. An implementor chooses nothing. It proves that the lent words, in reverse, are the words that the
 /// backend holds as a stack.
 pub trait LendsAsWritten<Word>: Holds<Word, Stack> + Words<Word> {
-    // The stack is what is lent, turned round.
+    // The words as a stack are the lent words in reverse.
     ghost written_law: { (b : Self) →
         ⟦<Self as Holds<Word, Stack>>⟧.words b ≡ reverse (⟦<Self as Words<Word>>⟧.lent b) };
 }

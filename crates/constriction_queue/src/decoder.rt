@@ -1,7 +1,7 @@
 //! The decoder of the range coder.
 //!
 //! - [`symbols`]: the step, `decode_symbol`.
-//! - [`words`]: making a decoder from words or from its parts, and splitting it into its parts.
+//! - [`words`]: creating a decoder from words or from its parts, and splitting it into its parts.
 //! - [`seeking`]: seeking to positions.
 
 pub mod seeking;
@@ -19,11 +19,11 @@ use std::marker::Model;
 /// The symbols form a queue: the symbol encoded first is decoded first.
 ///
 /// The width of `State` is a whole number of words, at least two. The decoder narrows its interval by each symbol
-/// exactly as the encoder did. The words read so far determine which part of the interval, and so which symbol, is
-/// next. After the last word, the decoder uses zero words.
+/// exactly as the encoder did. The words read so far determine in which symbol's part of the interval the point lies.
+/// After the last word, the decoder uses zero words.
 ///
 /// The point is the number formed by the last words read. It consists of as many words as a `State` has. The decoder
-/// stores the distance of the point from the lower end of the interval, modulo 2 to the power of `State::BITS`.
+/// stores the distance of the point from the lower end of the interval, modulo `2^State::BITS`.
 /// Contracts describe a decoder by a `Decoder`: the backend, the remaining words, the interval, and the point.
 ///
 /// # Examples

@@ -85,7 +85,7 @@ impl<Word: WordOf<State>, State: BitArray, Backend: Holds<Word, Stack>> Model
 }
 
 impl<Word: WordOf<State>, State: BitArray> RangeEncoder<Word, State, Vec<Word>> {
-    /// Makes an encoder without symbols.
+    /// Creates an encoder without symbols.
     ///
     /// The call allocates nothing. The encoder takes memory for its words from `alloc` later.
     #[inline]
@@ -121,10 +121,10 @@ impl<Word: WordOf<State>, State: BitArray, Backend: Holds<Word, Stack>> RangeEnc
     State,
     Backend,
 > {
-    /// Makes an encoder without symbols that writes after the words of a backend.
+    /// Creates an encoder without symbols that writes after the words of a backend.
     ///
     /// The backend's words stay before the encoder's own words. If the backend holds no words, the encoder starts in
-    /// the same state as an encoder that [`RangeEncoder::new`] makes.
+    /// the same state as an encoder that [`RangeEncoder::new`] creates.
     ///
     /// # Examples
     ///
@@ -148,13 +148,14 @@ impl<Word: WordOf<State>, State: BitArray, Backend: Holds<Word, Stack>> RangeEnc
 
     /// Returns whether an interval and pending words fit together, as [`RangeEncoder::from_raw_parts`] requires.
     ///
-    /// The situation states the pending words. If no words are pending, the parts fit if the interval doesn't pass the
-    /// greatest number of `State`. If words are pending, the parts fit if all of these hold:
+    /// The situation states the pending words. If no words are pending, the parts fit exactly if the end of the
+    /// interval, which is its lower end plus its length, is below `2^State::BITS`. If words are pending, the parts fit
+    /// exactly if all of these conditions hold:
     ///
-    /// - The interval passes the greatest number of `State`.
+    /// - The end of the interval is at least `2^State::BITS`.
     /// - The first pending word isn't all ones.
-    /// - The interval isn't the interval of an encoder without symbols, which has all numbers but the greatest.
-    /// - The number of pending words plus the words of a seal fits a `usize`.
+    /// - The length of the interval isn't `2^State::BITS - 1`, the length in an encoder without symbols.
+    /// - The number of pending words is at most `usize::MAX - 17`, so a `usize` also counts the words of a seal.
     pub fn parts_fit(state: RangeCoderState<Word, State>, situation: EncoderSituation<Word>) -> bool
         ensures { IsTrue result
             ↔ PartsFit Word.number Word.BITS State.BITS situation (lower_of state) (range_of state) }
@@ -174,7 +175,7 @@ impl<Word: WordOf<State>, State: BitArray, Backend: Holds<Word, Stack>> RangeEnc
         }
     }
 
-    /// Makes an encoder from a backend, an interval, and the words that are pending after the backend's words.
+    /// Creates an encoder from a backend, an interval, and the words that are pending after the backend's words.
     ///
     /// The caller proves that the interval and the pending words fit together, as [`RangeEncoder::parts_fit`] tests.
     ///

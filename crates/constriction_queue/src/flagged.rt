@@ -36,8 +36,8 @@ use std::marker::Model;
 
 /// A decoder that uses a model of `P1` bits up to and including a flag symbol, and a model of `P2` bits after it.
 ///
-/// The module has an example. Contracts describe it by a `Switch`: the decoder, the flag, and whether the flag was
-/// decoded.
+/// The module has an example. Contracts describe a `FlagSwitch` by a `Switch`: the decoder, the flag, and whether the
+/// flag was decoded.
 #[derive(Debug, Drop)]
 pub struct FlagSwitch<
     Word: WordOf<State>,
@@ -74,7 +74,7 @@ impl<
     const P1: usize,
     const P2: usize,
 > FlagSwitch<Word, State, Backend, P1, P2> {
-    /// Makes a switch over a decoder. The switch uses the first model until it has decoded `flag`.
+    /// Creates a switch over a decoder. The switch uses the first model until it has decoded `flag`.
     pub fn new(decoder: RangeDecoder<Word, State, Backend>, flag: usize) -> Self
         ensures { result ≡ record { decoder = decoder; flag = flag; switched = false } }
     {

@@ -8,8 +8,8 @@ use std::num::NonZeroUsize;
 
 /// The pending words of an encoder.
 ///
-/// Words are pending while the interval passes the greatest number of `State`, because a later symbol may still add 1
-/// to them (a carry).
+/// Words are pending while the interval's lower end plus its length is at least `2^State::BITS`, because a later symbol
+/// may still add 1 to the pending words (a carry).
 ///
 /// # Examples
 ///
@@ -34,9 +34,9 @@ impl<Word> Default for EncoderSituation<Word> {
     }
 }
 
-/// Held words that are ready to be written.
+/// Words that are ready to be written.
 ///
-/// `count` is their number, and `first` is the first of them. Each other word equals `others`.
+/// `count` is the number of words, and `first` is the first word. Each other word equals `others`.
 #[derive(Drop, Debug, Clone, Copy)]
 pub struct HeldWords<Word> {
     pub count: NonZeroUsize,
@@ -44,7 +44,7 @@ pub struct HeldWords<Word> {
     pub others: Word,
 }
 
-/// Converts a count that isn't 0 to its nonzero type.
+/// Converts `count`, which isn't 0, to a `NonZeroUsize`.
 #[inline]
 pub(crate) fn nonzero_count(count: usize) -> NonZeroUsize
     requires { 0 < count }

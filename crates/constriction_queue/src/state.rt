@@ -12,8 +12,8 @@ use std::marker::PhantomData;
 
 /// An interval of numbers, given by its lower end and its length.
 ///
-/// The length is at least 2 to the power of (bits of `State` - bits of `Word`). Contracts refer to the two numbers as
-/// `lower_of` and `range_of`.
+/// The length is at least `2^(State::BITS - Word::BITS)`. Contracts refer to the lower end as `lower_of`, and to the
+/// length as `range_of`.
 ///
 /// # Examples
 ///
@@ -40,7 +40,7 @@ impl<Word: WordOf<State>, State: BitArray> Clone for RangeCoderState<Word, State
     }
 }
 
-/// Converts a number that isn't 0 to its nonzero type.
+/// Converts `number`, which isn't 0, to the nonzero type of `State`.
 #[inline]
 fn nonzero<State: BitArray>(number: State) -> State::NonZero
     requires { 0 < State.number number }
@@ -66,13 +66,13 @@ impl<Word: WordOf<State>, State: BitArray> Default for RangeCoderState<Word, Sta
 impl<Word: WordOf<State>, State: BitArray> RangeCoderState<Word, State> {
     ghost use Rattle.constriction_queue.specs.States.{lower_of, range_of};
 
-    /// Makes the interval of `range` numbers from `lower` on.
+    /// Creates the interval of `range` numbers from `lower` on.
     ///
     /// Any `lower` is allowed. An interval that passes the greatest number of `State` continues at 0.
     ///
     /// # Errors
     ///
-    /// Returns `Err(())` exactly if `range` is below 2 to the power of (bits of `State` - bits of `Word`).
+    /// Returns `Err(())` exactly if `range` is below `2^(State::BITS - Word::BITS)`.
     pub fn new(lower: State, range: State) -> Result<Self, ()>
         ensures variant { IsOk result ↔ (2 ^ (State.BITS - Word.BITS) ≤ State.number range) }
         ensures lower { IfOk result (λ state. lower_of state ≡ State.number lower) }
@@ -88,7 +88,7 @@ impl<Word: WordOf<State>, State: BitArray> RangeCoderState<Word, State> {
         })
     }
 
-    /// Makes an interval that is known to be long enough.
+    /// Creates the interval of `range` numbers from `lower` on. The caller proves that the interval is long enough.
     #[inline]
     pub(crate) fn long(lower: State, range: State) -> Self
         requires { 2 ^ (State.BITS - Word.BITS) ≤ State.number range }

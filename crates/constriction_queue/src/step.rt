@@ -16,7 +16,7 @@ use constriction_base::backends::{Holds, Stack, WriteWords};
 use constriction_words::{BitArray, WordOf};
 use std::num::NonZeroUsize;
 
-/// Returns whether an interval passes the greatest number.
+/// Returns whether `lower + range`, the end of an interval, is above the greatest number of `State`.
 #[inline(always)]
 pub fn reaches_over<State: BitArray>(lower: State, range: State) -> bool
     ensures { IsTrue result ↔ (2 ^ State.BITS ≤ State.number lower + State.number range) }
@@ -24,7 +24,7 @@ pub fn reaches_over<State: BitArray>(lower: State, range: State) -> bool
     State::greatest().minus(lower).is_below(range)
 }
 
-/// Returns the pending words, after a carry into them if there is one.
+/// Returns the pending words, with a carry added to them if `carry` is true.
 #[inline]
 pub fn carried<Word: BitArray>(count: NonZeroUsize, first: Word, carry: bool) -> HeldWords<Word>
     requires { Word.number first + 1 < 2 ^ Word.BITS }
@@ -46,7 +46,7 @@ pub fn carried<Word: BitArray>(count: NonZeroUsize, first: Word, carry: bool) ->
     }
 }
 
-/// A part of an interval, and the pending words that it releases.
+/// The part of an interval that belongs to a symbol, and the pending words that the step releases.
 #[derive(Drop)]
 pub struct Part<Word, State> {
     pub lower: State,
@@ -55,7 +55,7 @@ pub struct Part<Word, State> {
     pub released: Option<HeldWords<Word>>,
 }
 
-/// Returns the part of an interval that belongs to a symbol.
+/// Returns the part of an interval that belongs to the symbol with the start `left` and the weight `p`.
 #[inline(always)]
 pub fn narrowed<Word: WordOf<State>, State: BitArray>(
     lower: State,
@@ -110,7 +110,7 @@ pub fn narrowed<Word: WordOf<State>, State: BitArray>(
     }
 }
 
-/// The result of a shift: a normalized interval, and a word that left it and isn't pending.
+/// The result of a shift: the interval, its pending words, and the word that is to be written, if there is one.
 #[derive(Drop)]
 pub struct Shifted<Word, State> {
     pub lower: State,
@@ -119,7 +119,7 @@ pub struct Shifted<Word, State> {
     pub top: Option<Word>,
 }
 
-/// Extends a short interval by a word.
+/// Extends the interval by a word if `range` is below `2^(State::BITS - Word::BITS)`.
 #[inline(always)]
 pub fn grow<Word: WordOf<State>, State: BitArray>(
     lower: State,
@@ -178,7 +178,7 @@ pub fn grow<Word: WordOf<State>, State: BitArray>(
     }
 }
 
-/// Makes an encoder's step: writes its words, and returns the new interval and situation.
+/// Encodes a step: writes the words that it completes, and returns the new interval and situation.
 #[inline(always)]
 pub fn step_onto<Word: WordOf<State>, State: BitArray, Backend: WriteWords<Word>>(
     bulk: &mut Backend,

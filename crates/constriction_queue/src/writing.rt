@@ -11,7 +11,7 @@ use crate::situation::HeldWords;
 use constriction_base::backends::{Holds, Stack, WriteWords};
 use constriction_words::BitArray;
 
-/// Writes released words.
+/// Writes the words of `held`.
 fn write_held<Word: BitArray, Backend: WriteWords<Word>>(
     bulk: &mut Backend,
     held: HeldWords<Word>,
@@ -32,7 +32,7 @@ fn write_held<Word: BitArray, Backend: WriteWords<Word>>(
     Ok(())
 }
 
-/// Writes released words if there are any.
+/// Writes the words of `held`, if there are any.
 fn write_released<Word: BitArray, Backend: WriteWords<Word>>(
     bulk: &mut Backend,
     held: Option<HeldWords<Word>>,
@@ -46,7 +46,7 @@ fn write_released<Word: BitArray, Backend: WriteWords<Word>>(
     }
 }
 
-/// Writes a word if there is one.
+/// Writes `word`, if there is one.
 #[inline]
 fn write_word<Word: BitArray, Backend: WriteWords<Word>>(
     bulk: &mut Backend,
@@ -64,7 +64,7 @@ fn write_word<Word: BitArray, Backend: WriteWords<Word>>(
     }
 }
 
-/// Returns the number of released words.
+/// Returns the number of words of `held`.
 #[inline]
 fn held_count<Word: BitArray>(held: &Option<HeldWords<Word>>) -> usize
     ensures { result ≡ length (released_of Word.number held.now) }
@@ -75,6 +75,7 @@ fn held_count<Word: BitArray>(held: &Option<HeldWords<Word>>) -> usize
     }
 }
 
+/// Returns 1 if there is a word, and otherwise 0.
 #[inline]
 fn count_in<Word: BitArray>(word: &Option<Word>) -> usize
     ensures count { result ≡ length (word_of Word.number word.now) }
@@ -86,7 +87,7 @@ fn count_in<Word: BitArray>(word: &Option<Word>) -> usize
     }
 }
 
-/// Returns the number of words that a call has to write.
+/// Returns the number of words of `held`, `top` and `last` together.
 #[inline]
 pub fn owed_count<Word: BitArray>(
     held: &Option<HeldWords<Word>>,
@@ -99,7 +100,7 @@ pub fn owed_count<Word: BitArray>(
     held_count(held) + count_in(top) + count_in(last)
 }
 
-/// Writes released words, then one, then another, without asking for room.
+/// Writes the words of `held`, then `top`, then `last`, without asking for room. Skips each argument that is `None`.
 fn write_parts<Word: BitArray, Backend: WriteWords<Word>>(
     bulk: &mut Backend,
     held: Option<HeldWords<Word>>,
@@ -120,7 +121,7 @@ fn write_parts<Word: BitArray, Backend: WriteWords<Word>>(
     write_word(bulk, last)
 }
 
-/// Writes released words, then `top`, then `last`, then the words of `behind`, each if there is one.
+/// Writes the words of `held`, then `top`, then `last`, then the words of `behind`. Skips what is `None`.
 ///
 /// If there is any word to write, the call first asks for room for all of them.
 pub fn write_owed_behind<Word: BitArray, Backend: WriteWords<Word>>(
@@ -165,7 +166,7 @@ pub fn write_owed<Word: BitArray, Backend: WriteWords<Word>>(
     write_owed_behind(bulk, held, top, last, None)
 }
 
-/// Writes a word, and another if there is one. It first asks for room for both.
+/// Writes `first`, then `second` if there is one, after asking for room for all words to write.
 #[inline(always)]
 fn write_two<Word: BitArray, Backend: WriteWords<Word>>(
     bulk: &mut Backend,
@@ -201,7 +202,7 @@ fn write_two<Word: BitArray, Backend: WriteWords<Word>>(
     }
 }
 
-/// Writes several released words, and then another if there is one. This is rare, so it isn't inlined.
+/// Writes the words of `held`, then `top` if there is one. This call is rare, so it isn't inlined.
 #[cold]
 #[inline(never)]
 fn write_several<Word: BitArray, Backend: WriteWords<Word>>(
@@ -216,7 +217,9 @@ fn write_several<Word: BitArray, Backend: WriteWords<Word>>(
     write_owed(bulk, Some(held), top, None)
 }
 
-/// Writes the words of a step: the released words, and then `top` if there is one. Usually this is at most one word.
+/// Writes the words of a step: the words of `held`, then `top`. Skips each argument that is `None`.
+///
+/// Usually a step has at most one word. The call first asks for room for all words to write.
 #[inline(always)]
 pub fn write_step<Word: BitArray, Backend: WriteWords<Word>>(
     bulk: &mut Backend,

@@ -1,4 +1,4 @@
-//! Each public call once that no row makes.
+//! Tests of the public calls that no worked row makes, each call once.
 
 use crate::coders::{INVERTING, Table, small, small_of};
 use crate::decoding::Lent;
@@ -8,7 +8,7 @@ use constriction_base::weights::WeightTable;
 use constriction_scripts::taking::take_each;
 use std::test::Fail;
 
-/// An encoder over words, taken apart, and that becomes each decoder.
+/// Checks an encoder over words, taking an encoder apart, and each way to get a decoder from an encoder.
 #[test]
 fn calls_of_an_encoder(rt: HostRuntime) -> Result<(), Fail> {
     small(
@@ -28,7 +28,7 @@ fn calls_of_an_encoder(rt: HostRuntime) -> Result<(), Fail> {
     )
 }
 
-/// Lists by one model, as pairs and as items, and back by each iterator.
+/// Checks list calls with one model, pairs and items, and decoding with each iterator.
 #[test]
 fn calls_of_lists(rt: HostRuntime) -> Result<(), Fail> {
     small(
@@ -50,7 +50,7 @@ fn calls_of_lists(rt: HostRuntime) -> Result<(), Fail> {
     )
 }
 
-/// Decoders of words that they borrow, by each constructor.
+/// Makes decoders that borrow `words` by two constructors. Returns whether both decode 1 and 3 and reach the end.
 fn lent_give(words: &Vec<u8>, table: &Table) -> bool {
     let (Ok(mut first), Ok(mut second)) = (
         Lent::<u8, u16>::for_compressed(words),
@@ -72,7 +72,7 @@ fn calls_of_a_decoder(rt: HostRuntime) -> Result<(), Fail> {
     Ok(())
 }
 
-/// The decoder of a switch, once it has given the flag, gives the third symbol under the first table.
+/// Checks that the decoder inside a switch decodes the third symbol with the first table, after the flag.
 #[test]
 fn calls_of_a_switch(rt: HostRuntime) -> Result<(), Fail> {
     let tables = tables_of(rt.alloc(), &[128, 64, 64])?;

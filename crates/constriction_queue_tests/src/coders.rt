@@ -1,4 +1,4 @@
-//! Scripts at concrete types: each call of the interpreters stands here once.
+//! Functions that run scripts at concrete types, so that most tests don't call the interpreters themselves.
 
 ghost use Rattle.constriction_base.specs.Steps.{IsSizes};
 ghost use Rattle.std.specs.Prelude.{◌≤◌};
@@ -21,13 +21,13 @@ pub type Coder = RangeEncoder<u8, u16>;
 /// The table of most tests.
 pub type Table = WeightTable<u8, 8>;
 
-/// The weights by which an interval most easily reaches over the end of the states.
+/// The weights of a table under which symbol 1 makes an encoder hold a word back.
 pub const INVERTING: &[u8] = &[127, 1, 127, 1];
 
-/// Weights of a table, and a script.
+/// The weights of a table, and a script.
 pub type Part<'a, Probability> = (&'a [Probability], &'static str);
 
-/// What a script came to, as a test says it: by the first act that failed.
+/// Turns the first act that failed, if there is one, into the error of a test.
 pub fn said(failed: Option<&'static str>) -> Result<(), Fail> {
     match failed {
         Some(act) => Err(Fail::from(act)),
@@ -35,7 +35,7 @@ pub fn said(failed: Option<&'static str>) -> Result<(), Fail> {
     }
 }
 
-/// Makes a table, and reads a script.
+/// Makes the table and reads the script of `part`.
 fn read<Probability: BitArray, const PRECISION: usize>(
     alloc: Global,
     part: Part<'_, Probability>,
@@ -46,7 +46,9 @@ fn read<Probability: BitArray, const PRECISION: usize>(
     Ok((table, Script::read(alloc, part.1)?))
 }
 
-/// Goes through scripts with a new encoder, each by a table of its own.
+/// Runs the scripts of `parts` with a new encoder, each script with its own table.
+///
+/// Returns the first act that failed, or another reason why the run stopped.
 pub fn go<Word, State, Probability, const PRECISION: usize>(
     alloc: Global,
     parts: &[Part<'_, Probability>],
@@ -71,7 +73,9 @@ where
     None
 }
 
-/// Goes through scripts with a decoder of words, each by a table of its own.
+/// Runs the scripts of `parts` with a decoder of `words`, each script with its own table.
+///
+/// Returns the first act that failed, or another reason why the run stopped.
 pub fn decode<Word, State, Probability, const PRECISION: usize>(
     alloc: Global,
     words: &[Word],
@@ -102,32 +106,32 @@ where
     None
 }
 
-/// An encoder of words of 8 bits, with a state of 16.
+/// Runs scripts with an encoder of 8-bit words and 16-bit states.
 pub fn small(alloc: Global, parts: &[Part<'_, u8>]) -> Result<(), Fail> {
     said(go::<u8, u16, u8, 8>(alloc, parts))
 }
 
-/// An encoder of words of 8 bits, with a state of 32.
+/// Runs scripts with an encoder of 8-bit words and 32-bit states.
 pub fn tall(alloc: Global, parts: &[Part<'_, u8>]) -> Result<(), Fail> {
     said(go::<u8, u32, u8, 8>(alloc, parts))
 }
 
-/// An encoder of words of 32 bits, with a state of 64.
+/// Runs scripts with an encoder of 32-bit words and 64-bit states.
 pub fn wide(alloc: Global, parts: &[Part<'_, u32>]) -> Result<(), Fail> {
     said(go::<u32, u64, u32, 24>(alloc, parts))
 }
 
-/// A decoder of words of 8 bits, with a state of 16.
+/// Runs scripts with a decoder of `words`, with 8-bit words and 16-bit states.
 pub fn small_of(alloc: Global, words: &[u8], parts: &[Part<'_, u8>]) -> Result<(), Fail> {
     said(decode::<u8, u16, u8, 8>(alloc, words, parts))
 }
 
-/// A decoder of words of 8 bits, with a state of 32.
+/// Runs scripts with a decoder of `words`, with 8-bit words and 32-bit states.
 pub fn tall_of(alloc: Global, words: &[u8], parts: &[Part<'_, u8>]) -> Result<(), Fail> {
     said(decode::<u8, u32, u8, 8>(alloc, words, parts))
 }
 
-/// A decoder of words of 32 bits, with a state of 64.
+/// Runs scripts with a decoder of `words`, with 32-bit words and 64-bit states.
 pub fn wide_of(alloc: Global, words: &[u32], parts: &[Part<'_, u32>]) -> Result<(), Fail> {
     said(decode::<u32, u64, u32, 24>(alloc, words, parts))
 }

@@ -1,8 +1,10 @@
-//! The acts of scripts on decoders.
+//! The interpreter of scripts on decoders. Besides the acts of `constriction_scripts::taking`, it runs these acts:
 //!
-//! A decoder is `at` a lower end and a length; it `stands` there, before words of this number, with so many words left
-//! behind them; it `seek`s a place, a lower end and a length; of `parts` it has a lower end, a length and a point, and
-//! no words left. It may be `exhausted`, or is `unfinished`.
+//! - `at` compares the interval's lower end and length.
+//! - `stands` compares the interval, the point, and the number of words left.
+//! - `seek` seeks to a place and an interval.
+//! - `parts` makes a decoder from an interval and a point, with no words left.
+//! - `exhausted` checks that the decoder may be exhausted, and `unfinished` checks that it isn't.
 
 ghost use Rattle.constriction_base.specs.Steps.{IsSizes};
 
@@ -24,11 +26,12 @@ use std::alloc::{AllocError, Global};
 /// A decoder over words that it borrows.
 pub type Lent<'a, Word, State> = RangeDecoder<Word, State, Cursor<Word, &'a [Word]>>;
 
-/// A decoder that owns its words: scripts go through these, since the checker has no proof of a generic call on a borrowing one
-/// that returns a text.
+/// A decoder that owns its words.
+///
+/// Scripts use this type, because the checker has no proof of a generic call on a borrowing decoder that returns text.
 pub type Owning<Word, State> = RangeDecoder<Word, State, Cursor<Word, Vec<Word>>>;
 
-/// Compares where a decoder stands, by taking a clone apart.
+/// Returns whether the decoder's interval, point and number of words left are the numbers of `act`.
 fn stands<Word, State>(decoder: &Owning<Word, State>, act: &Act<'_>) -> bool
 where
     Word: WordOf<State>,
@@ -44,7 +47,7 @@ where
         && act.symbols.get(3) == Some(&BoundedReadWords::<Word, Queue>::remaining(&bulk))
 }
 
-/// Whether going to a place answers what an act says.
+/// Seeks to the place and the interval of `act`. Returns whether the answer is as `act` expects.
 fn seeks<Word, State>(decoder: &mut Owning<Word, State>, act: &Act<'_>) -> bool
 where
     Word: WordOf<State>,
@@ -59,8 +62,9 @@ where
     answer == act.answer
 }
 
-/// Whether making a decoder of parts, over the end of no words, answers what an act says: none where the point isn't in
-/// the interval.
+/// Makes a decoder from the interval and the point of `act`. Returns whether the answer is as `act` expects.
+///
+/// The decoder has no words left. The answer is `none` if the point isn't in the interval.
 fn makes_parts<Word, State>(alloc: Global, decoder: &mut Owning<Word, State>, act: &Act<'_>) -> bool
 where
     Word: WordOf<State>,
@@ -81,7 +85,7 @@ where
     }
 }
 
-/// Whether a decoder takes symbols off as an act says.
+/// Decodes symbols with the call that `act` names. Returns whether the answer is as `act` expects.
 fn takes<C, M, const PRECISION: usize>(
     alloc: Global,
     coder: &mut C,
@@ -98,12 +102,12 @@ where
     take_by(alloc, coder, model, act).unwrap_or(OTHER) == act.answer
 }
 
-/// Whether an act says of what it expects whether it is so.
+/// Returns whether the answer that stands for `is_so` is the answer that `act` expects.
 fn tells(is_so: bool, act: &Act<'_>) -> bool {
     answer_if(is_so) == act.answer
 }
 
-/// Whether a decoder does what an act says.
+/// Runs an act with a decoder. Returns whether the answer is as `act` expects.
 fn decode_by<Word, State, Probability, const PRECISION: usize>(
     alloc: Global,
     decoder: &mut Owning<Word, State>,
@@ -127,7 +131,7 @@ where
     }
 }
 
-/// Goes through a script with a decoder, and returns the first act that it doesn't do as the script says.
+/// Runs a script with a decoder. Returns the text of the first act with an unexpected answer.
 pub fn follow_decoding<Word, State, Probability, const PRECISION: usize>(
     alloc: Global,
     decoder: &mut Owning<Word, State>,

@@ -1,16 +1,16 @@
-//! The acts of scripts on encoders over vectors.
+//! The interpreter of scripts on encoders over vectors. Besides the acts of `constriction_scripts::putting`, it runs
+//! these acts:
 //!
-//! `clear` takes all off; `of` has these words before its own; `parts` has a lower end, a length, a number of held words,
-//! the first of these, and words; `again` takes the encoder apart and puts it together.
-//!
-//! The sealed words are `sealed` one by one, `shown` by a guard, `lent` to a function; `export` and `delimited` are both
-//! seals, and leave a new encoder.
-//!
-//! An encoder has words `written`, a number of words `held` and the first of these; it stands `at` a place, a lower end
-//! and a length; it has `sizes` in words and bits, so many symbols `left`, or is `empty`.
-//!
-//! Symbols are `decoded` by a decoder that borrows the encoder, which may be at its end then in `ended`, or `owned` by one
-//! that it becomes, of which a trait and a conversion are other ways.
+//! - `clear` clears the encoder. `of` makes an encoder over words. `parts` makes an encoder from an interval, a number
+//!   of held words, the first held word, and words. `again` takes the encoder apart and puts it together again.
+//! - `sealed`, `shown` and `lent` compare the sealed words, which an iterator returns, a guard lends, or
+//!   `with_compressed` lends. `export` and `delimited` compare the words of either seal, and leave a new encoder.
+//! - `written` compares the words written. `held` compares the number of held words and the first held word. `at`
+//!   compares the position: a place and an interval. `sizes` compares the numbers of words and bits. `left` compares
+//!   the number of symbols that the encoder can still encode. `empty` checks that the encoder is empty.
+//! - `decoded` decodes symbols with a decoder that borrows the encoder, and `ended` also checks that the decoder may be
+//!   exhausted afterwards. `owned`, `owned-by-trait` and `owned-by-conversion` turn the encoder into a decoder in three
+//!   ways, and decode symbols.
 
 ghost use Rattle.constriction_base.specs.Steps.{IsSizes};
 
@@ -34,7 +34,7 @@ use constriction_words::{BitArray, WordOf};
 use std::alloc::{AllocError, Global};
 use std::mem;
 
-/// Returns the encoder, and leaves a new one in its place.
+/// Returns the encoder, and leaves a new encoder in its place.
 fn taken<Word, State>(
     alloc: Global,
     encoder: &mut RangeEncoder<Word, State>,
@@ -47,7 +47,9 @@ where
     mem::replace(encoder, RangeEncoder::new(alloc))
 }
 
-/// Makes an encoder of parts: none where the interval is too `short`, or where they don't `fit`.
+/// Makes an encoder from the parts in `numbers`. Returns the answer.
+///
+/// The answer is `short` if the interval is too short, and `unfit` if the parts don't fit together.
 fn make_parts<Word, State>(
     alloc: Global,
     encoder: &mut RangeEncoder<Word, State>,
@@ -74,7 +76,7 @@ where
     }
 }
 
-/// Takes an encoder apart, and puts its parts together again.
+/// Takes an encoder apart, and puts its parts together again. Returns `None` if the parts don't fit together.
 fn put_together<Word, State>(
     encoder: RangeEncoder<Word, State>,
 ) -> Option<RangeEncoder<Word, State>>
@@ -89,7 +91,7 @@ where
     Some(RangeEncoder::from_raw_parts(bulk, state, situation))
 }
 
-/// Makes another encoder, if an act says so.
+/// Runs an act that makes another encoder, and returns the answer. Returns `None` for other acts.
 fn make_by<Word, State>(
     alloc: Global,
     encoder: &mut RangeEncoder<Word, State>,
@@ -116,7 +118,7 @@ where
     Some(DONE)
 }
 
-/// Whether an encoder gives its sealed words one by one.
+/// Returns whether the encoder's iterator returns exactly the words `numbers`.
 fn are_given<Word, State>(encoder: &RangeEncoder<Word, State>, numbers: &[u128]) -> bool
 where
     Word: WordOf<State> + Number,
@@ -132,7 +134,7 @@ where
     given.next().is_none()
 }
 
-/// Compares the words that a guard shows.
+/// Compares the words that a guard lends with `numbers`. Returns the answer.
 fn shown<Word, State>(encoder: &mut RangeEncoder<Word, State>, numbers: &[u128]) -> &'static str
 where
     Word: WordOf<State> + Number,
@@ -144,7 +146,7 @@ where
     }
 }
 
-/// Compares the words that are lent to a function.
+/// Compares the words that `with_compressed` lends with `numbers`. Returns the answer.
 fn lent<Word, State>(encoder: &mut RangeEncoder<Word, State>, numbers: &[u128]) -> &'static str
 where
     Word: WordOf<State> + Number,
@@ -156,7 +158,7 @@ where
     }
 }
 
-/// Compares the words that an encoder exports, by either seal.
+/// Exports an encoder with either seal, and compares the words with `numbers`. Returns the answer.
 fn exported<Word, State>(
     encoder: RangeEncoder<Word, State>,
     numbers: &[u128],
@@ -177,7 +179,7 @@ where
     }
 }
 
-/// Compares the sealed words, if an act says so.
+/// Runs an act that compares the sealed words, and returns the answer. Returns `None` for other acts.
 fn show_by<Word, State>(
     alloc: Global,
     encoder: &mut RangeEncoder<Word, State>,
@@ -198,7 +200,7 @@ where
     })
 }
 
-/// Compares where an encoder stands: how many words were written and are held, and the interval.
+/// Returns whether the encoder's position is the place, the lower end and the length of `act`.
 pub fn stands_at<Word, State>(encoder: &RangeEncoder<Word, State>, act: &Act<'_>) -> bool
 where
     Word: WordOf<State>,
@@ -211,7 +213,7 @@ where
     act.symbols.first() == Some(&place) && is_interval(state, act.numbers, 1)
 }
 
-/// Compares how many words an encoder holds back, by taking a clone apart.
+/// Returns whether `numbers` are the number of held words and the first held word, by taking a clone apart.
 fn has_held<Word, State>(encoder: &RangeEncoder<Word, State>, numbers: &[u128]) -> bool
 where
     Word: WordOf<State> + Number,
@@ -223,7 +225,7 @@ where
     }
 }
 
-/// Whether an encoder is as an act says, if it says that.
+/// Runs an act that checks the encoder, and returns whether the check holds. Returns `None` for other acts.
 fn is_as_said<Word, State, const PRECISION: usize>(
     encoder: &RangeEncoder<Word, State>,
     act: &Act<'_>,
@@ -249,7 +251,9 @@ where
     })
 }
 
-/// Has a decoder that borrows an encoder give symbols.
+/// Decodes with a decoder that borrows the encoder, and compares the result with `symbols`. Returns the answer.
+///
+/// If `is_ended` is true, the decoder must report afterwards that it may be exhausted.
 fn decoded<Word, State, Probability, const PRECISION: usize>(
     encoder: &mut RangeEncoder<Word, State>,
     table: &WeightTable<Probability, PRECISION>,
@@ -267,7 +271,9 @@ where
     }
 }
 
-/// The same of the decoder, which is dropped then.
+/// Decodes with `decoder`, compares the result with `symbols`, and drops the decoder. Returns the answer.
+///
+/// If `is_ended` is true, the decoder must report afterwards that it may be exhausted.
 fn decoded_by<'a, Word, State, Probability, const PRECISION: usize>(
     mut decoder: RangeDecoder<Word, State, Cursor<Word, EncoderGuard<'a, Word, State, Global>>>,
     table: &WeightTable<Probability, PRECISION>,
@@ -285,7 +291,7 @@ where
     answer_if(!is_ended || Decode::<PRECISION>::maybe_exhausted(&decoder))
 }
 
-/// Whether a decoder gives these symbols.
+/// Returns whether the next symbols that `coder` decodes are `symbols`.
 fn takes_each<C, M, const PRECISION: usize>(coder: &mut C, model: &M, symbols: &[usize]) -> bool
 where
     C: Decode<PRECISION>,
@@ -297,7 +303,7 @@ where
     take_each(coder, model, symbols) == DONE
 }
 
-/// Has a decoder that an encoder became give symbols.
+/// Decodes with the decoder that an encoder became, and compares the result with `symbols`. Returns the answer.
 fn owned_by<Word, State, Probability, const PRECISION: usize>(
     became: Result<Owning<Word, State>, ReadWriteError<std::convert::Infallible, AllocError>>,
     table: &WeightTable<Probability, PRECISION>,
@@ -315,7 +321,7 @@ where
     }
 }
 
-/// Has a decoder give symbols, if an act says so.
+/// Runs an act that decodes the encoder's words, and returns the answer. Returns `None` for other acts.
 fn decode_by<Word, State, Probability, const PRECISION: usize>(
     alloc: Global,
     encoder: &mut RangeEncoder<Word, State>,
@@ -339,7 +345,7 @@ where
     Some(owned_by(became, table, act.symbols))
 }
 
-/// Does an act with an encoder.
+/// Runs an act with an encoder, and returns the answer.
 pub fn encode_by<Word, State, Probability, const PRECISION: usize>(
     alloc: Global,
     encoder: &mut RangeEncoder<Word, State>,
@@ -367,7 +373,7 @@ where
     decode_by(alloc, encoder, table, act).unwrap_or(OTHER)
 }
 
-/// Goes through a script with an encoder, and returns the first act that it doesn't do as the script says.
+/// Runs a script with an encoder. Returns the text of the first act with an unexpected answer.
 pub fn follow<Word, State, Probability, const PRECISION: usize>(
     alloc: Global,
     encoder: &mut RangeEncoder<Word, State>,

@@ -1,4 +1,7 @@
-//! Symbols under two models in one stream: of 8 bits up to and with the flag, which is symbol 1, and of 4 bits behind it.
+//! Symbols under two models in one stream. The flag is symbol 1.
+//!
+//! The first model has a precision of 8 bits, and codes the symbols up to the flag and the flag itself. The second
+//! model has a precision of 4 bits, and codes the symbols after the flag.
 
 use crate::coders::{Coder, Table, small_of};
 use constriction_base::cursor::Cursor;
@@ -12,21 +15,21 @@ use std::test::Fail;
 /// A switch over borrowed words.
 pub type Switch<'a> = FlagSwitch<u8, u16, Cursor<u8, &'a [u8]>, 8, 4>;
 
-/// The tables up to the flag and behind it.
+/// The table of the symbols up to the flag, and the table of the symbols after it.
 #[derive(Drop)]
 pub struct Tables {
     pub first: Table,
     pub second: WeightTable<u8, 4>,
 }
 
-/// These weights up to the flag, and four equal ones behind it.
+/// Makes the tables: `weights` up to the flag, and four equal weights after it.
 pub fn tables_of(alloc: Global, weights: &[u8]) -> Result<Tables, Fail> {
     let first = WeightTable::new(alloc, weights)?;
     let second = WeightTable::new(alloc, &[4, 4, 4, 4])?;
     Ok(Tables { first, second })
 }
 
-/// Puts symbols on.
+/// Encodes `symbols` with the two tables. Returns the answer.
 pub fn put_flagged(encoder: &mut Coder, tables: &Tables, symbols: &[usize]) -> &'static str {
     if Encode::<8>::symbols_left(encoder) < symbols.len() {
         return OTHER;
@@ -34,7 +37,7 @@ pub fn put_flagged(encoder: &mut Coder, tables: &Tables, symbols: &[usize]) -> &
     answer_of(encode_flagged(encoder, symbols, 1, &tables.first, &tables.second))
 }
 
-/// Returns a switch over words.
+/// Returns a switch that reads `words`.
 pub fn switch_of(words: &[u8]) -> Option<Switch<'_>> {
     match RangeDecoder::with_backend(Cursor::new_at_write_beginning(words)) {
         Ok(decoder) => Some(FlagSwitch::new(decoder, 1)),
@@ -42,7 +45,7 @@ pub fn switch_of(words: &[u8]) -> Option<Switch<'_>> {
     }
 }
 
-/// Takes symbols, and compares each.
+/// Returns whether the next symbols that the switch decodes are `symbols`.
 pub fn gives(switch: &mut Switch<'_>, tables: &Tables, symbols: &[usize]) -> bool {
     for symbol in symbols {
         match switch.next_symbol(&tables.first, &tables.second) {
@@ -53,7 +56,9 @@ pub fn gives(switch: &mut Switch<'_>, tables: &Tables, symbols: &[usize]) -> boo
     true
 }
 
-/// Takes symbols of words, and compares whether the switch has switched before them and behind them.
+/// Returns whether a new switch decodes `symbols` from `words`.
+///
+/// The method `switched` must return `false` before the symbols, and the parameter `switched` after them.
 pub fn come_from(words: &[u8], tables: &Tables, symbols: &[usize], switched: bool) -> bool {
     match switch_of(words) {
         Some(mut switch) => {
@@ -65,7 +70,7 @@ pub fn come_from(words: &[u8], tables: &Tables, symbols: &[usize], switched: boo
     }
 }
 
-/// Whether symbols have these words, and come back from them.
+/// Encodes `symbols` and decodes them. Returns whether the words are `words` and the symbols are the same.
 pub fn come_back(
     alloc: Global,
     tables: &Tables,

@@ -1,16 +1,15 @@
-//! Tests of the range coder, and no code besides: the worked rows, and each public call once, at concrete types.
+//! Tests of the range coder at concrete types: the worked rows, and each public call once.
 //!
-//! What a contract of `constriction_queue` says is proved there for all values. These tests stand for what no contract
-//! can say: that the definitions give the numbers that a reader expects, that calls which take memory succeed where
-//! there is some, and that a caller reaches each call. `tests/cases` has more tests of this coder, which are run without
-//! a proof.
+//! The contracts of `constriction_queue` are proved there for all values. These tests check what no contract can state:
+//! the definitions have the values that a reader expects, calls that need memory succeed if there is some, and a caller
+//! can make each call. `tests/cases` has more tests of this coder, which run without a proof.
 //!
-//! All expected values are those of one growing number: an interval that begins at a whole number and has a length, both
-//! multiplied by a word's values where the length gets short. They were worked out apart, without held words and
-//! without numbers that wrap.
+//! The expected values were computed separately, without held words and without numbers that wrap. They come from an
+//! interval with a lower end and a length. Both are multiplied by `2^w` when the length gets short.
 //!
-//! A test is a script (`constriction_scripts`): what is done with a coder and what is expected of it, as text. [`encoding`]
-//! and [`decoding`] go through it, at the types of [`coders`]. So each call stands once in a helper without clauses.
+//! A test is a script (`constriction_scripts`): a text that says what to do with a coder, and what to expect of it.
+//! [`encoding`] and [`decoding`] run scripts, at the types of [`coders`]. So one helper without postconditions makes
+//! each call.
 #![tactic(auto)]
 
 #[cfg(test)]

@@ -7,7 +7,7 @@ use constriction_scripts::numbers::Number;
 use constriction_words::{BitArray, WordOf};
 use std::num::NonZeroUsize;
 
-/// Compares an interval with the two numbers at a place of an act.
+/// Returns whether the two numbers from `numbers[at]` on are the interval's lower end and length.
 pub fn is_interval<Word, State>(
     state: RangeCoderState<Word, State>,
     numbers: &[u128],
@@ -21,7 +21,7 @@ where
         && numbers.get(at.saturating_add(1)) == Some(&State::from_nonzero(state.range()).shown())
 }
 
-/// Returns the interval that stands at a place of an act, if it is long enough.
+/// Returns the interval of the two numbers from `numbers[at]` on, if it is long enough.
 pub fn state_of<Word, State>(numbers: &[u128], at: usize) -> Option<RangeCoderState<Word, State>>
 where
     Word: WordOf<State>,
@@ -36,7 +36,9 @@ where
     }
 }
 
-/// Returns so many held words, of which this is the first.
+/// Returns the situation of an encoder with `numbers[0]` held words, the first of which is `numbers[1]`.
+///
+/// If `numbers[0]` is 0 or a number is missing, no words are held.
 pub fn situation_of<Word: Number>(numbers: &[u128]) -> EncoderSituation<Word> {
     match (numbers.first(), numbers.get(1)) {
         (Some(count), Some(first)) => {
@@ -49,7 +51,9 @@ pub fn situation_of<Word: Number>(numbers: &[u128]) -> EncoderSituation<Word> {
     }
 }
 
-/// Compares how many words are held back, and the first of them.
+/// Returns whether `numbers` are the number of held words and the first held word.
+///
+/// If no words are held, `numbers` must be empty.
 pub fn is_situation<Word: Number + Drop>(
     situation: EncoderSituation<Word>,
     numbers: &[u128],

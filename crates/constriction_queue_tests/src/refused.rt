@@ -1,8 +1,9 @@
-//! Requests for memory that are refused, one at a time, of calls over a vector.
+//! Tests of calls over a vector with requests for memory refused, one at a time.
 //!
-//! `tests/refused-memory` runs these tests once for each request that they make, and has it refused. A test then says
-//! by its error which call it was, where that call answered want of memory, left what it has to, and went when it was
-//! made again. It says `Memory` where the request was the test's own. Where none is refused, a test passes.
+//! `tests/refused-memory` runs these tests once for each request for memory that they make, and refuses it. A test then
+//! fails with the name of the call that made the request, if the call reported that there was no memory, left the coder
+//! as it must, and succeeded when it was made again. A test fails with `Memory` if the test itself made the request. If
+//! no request is refused, a test passes.
 
 use crate::coders::{Coder, INVERTING, Table};
 use crate::encoding::{encode_by, follow};
@@ -14,24 +15,24 @@ use constriction_scripts::script::Script;
 use std::alloc::{AllocError, Global};
 use std::test::Fail;
 
-/// An encoder of one word, for which alone its vector has room, that holds one word back.
+/// The act that makes an encoder with one written word, one held word, and a vector without room for another word.
 const START: &str = "parts 33024 65280 1 126 7";
 
-/// What it is then.
+/// The acts that check the encoder that `START` makes.
 const STARTED: &str = "written 7 at 2 33024 65280 sealed 7 126 129";
 
-/// A call, and what it leaves.
+/// A call, and the scripts that check the encoder after the call.
 #[derive(Clone, Copy)]
 struct Call {
     name: &'static str,
     act: &'static str,
-    /// What the encoder is where memory was refused, and the call that is left then.
+    /// The script that checks the encoder after a refusal, and makes the rest of the call.
     kept: &'static str,
-    /// What it is in the end.
+    /// The script that checks the encoder in the end.
     done: &'static str,
 }
 
-/// Goes through a script with an encoder of bytes.
+/// Runs a script. Returns `DONE`, `OTHER` if an act fails, or `MEMORY` if there is no memory for the script.
 fn goes(alloc: Global, encoder: &mut Coder, table: &Table, text: &'static str) -> &'static str {
     match Script::read(alloc, text) {
         Ok(script) => match follow(alloc, encoder, table, &script) {
@@ -42,7 +43,7 @@ fn goes(alloc: Global, encoder: &mut Coder, table: &Table, text: &'static str) -
     }
 }
 
-/// Does one act.
+/// Runs the first act of a script, and returns its answer.
 fn does(alloc: Global, encoder: &mut Coder, table: &Table, text: &'static str) -> &'static str {
     match Script::read(alloc, text) {
         Ok(script) => encode_by(alloc, encoder, table, &script.act(0)),
@@ -50,7 +51,9 @@ fn does(alloc: Global, encoder: &mut Coder, table: &Table, text: &'static str) -
     }
 }
 
-/// Makes a call, and what is left of it where memory was refused. Returns what is said of that, or nothing.
+/// Makes a call and checks the encoder. Returns the error of the test, or `DONE`.
+///
+/// If memory is refused, the function makes the rest of the call. The error is then the call's name.
 fn comes_of(alloc: Global, encoder: &mut Coder, table: &Table, call: &Call) -> &'static str {
     if goes(alloc, encoder, table, START) != DONE {
         return MEMORY;
@@ -67,7 +70,7 @@ fn comes_of(alloc: Global, encoder: &mut Coder, table: &Table, call: &Call) -> &
     }
 }
 
-/// The calls of lists. The second symbol owes two words, of which the vector has room for none.
+/// The names and acts of the list calls. The second symbol owes two words, and the vector has no room for them.
 const LISTS: &[(&str, &str)] = &[
     ("encode_iid_symbols", "list 1 3 1"),
     ("encode_symbols", "pairs 1 3 1"),
@@ -102,7 +105,7 @@ const CALLS: &[Call] = &[
     },
 ];
 
-/// Makes a call on an encoder of its own.
+/// Makes a call on a new encoder. Fails with the error that [`comes_of`] returns.
 fn call_goes(alloc: Global, table: &Table, call: &Call) -> Result<(), Fail> {
     let mut encoder = Coder::new(alloc);
     match comes_of(alloc, &mut encoder, table, call) {
@@ -111,7 +114,7 @@ fn call_goes(alloc: Global, table: &Table, call: &Call) -> Result<(), Fail> {
     }
 }
 
-/// Puts flagged symbols on, and those from the second one on where memory was refused.
+/// Encodes symbols with a flag, and after a refusal the remaining symbols. Returns the error of the test, or `DONE`.
 fn flagged_goes(alloc: Global, encoder: &mut Coder, tables: &Tables) -> &'static str {
     if goes(alloc, encoder, &tables.first, START) != DONE {
         return MEMORY;
@@ -156,7 +159,7 @@ fn refused_requests_of_calls(rt: HostRuntime) -> Result<(), Fail> {
     }
 }
 
-/// Takes an encoder away by an act. Where that finds no memory, so does a copy from before, which held the same.
+/// Exports an encoder with an act, and exports `copy` if there was no memory. Returns the test's error, or `DONE`.
 fn take_or_copy(
     alloc: Global,
     encoder: &mut Coder,
@@ -174,7 +177,7 @@ fn take_or_copy(
     }
 }
 
-/// Copies an encoder, and takes it away. A copy that found no memory is made then.
+/// Clones an encoder and exports it. If the clone is refused, clones it again. Returns the test's error, or `DONE`.
 fn export_goes(
     alloc: Global,
     encoder: &mut Coder,

@@ -1,4 +1,4 @@
-//! The worked rows.
+//! Tests of the worked rows.
 
 use crate::coders::{
     Coder, INVERTING, Table, decode, said, small, small_of, tall, tall_of, wide, wide_of,
@@ -29,7 +29,7 @@ fn range_one_symbol(rt: HostRuntime) -> Result<(), Fail> {
     )
 }
 
-/// After symbol 1 one word is held back.
+/// Checks that the encoder holds one word back after symbol 1.
 #[test]
 fn range_inverted(rt: HostRuntime) -> Result<(), Fail> {
     small(
@@ -45,7 +45,7 @@ fn range_inverted(rt: HostRuntime) -> Result<(), Fail> {
     )
 }
 
-/// The carry adds 1 to the held word, and the interval ends exactly at the end of the states.
+/// Checks a carry, which adds 1 to the held word. The interval ends exactly at the end of the states.
 #[test]
 fn range_carry(rt: HostRuntime) -> Result<(), Fail> {
     small(
@@ -72,7 +72,7 @@ fn range_seek_before_carry(rt: HostRuntime) -> Result<(), Fail> {
     )
 }
 
-/// The held word is released as it is.
+/// Checks that the encoder writes the held word unchanged if there is no carry.
 #[test]
 fn range_no_carry(rt: HostRuntime) -> Result<(), Fail> {
     small(
@@ -89,7 +89,7 @@ fn range_no_carry(rt: HostRuntime) -> Result<(), Fail> {
     )
 }
 
-/// An encoder that was cleared holds nothing back.
+/// Checks that a cleared encoder holds no words back.
 #[test]
 fn range_clear(rt: HostRuntime) -> Result<(), Fail> {
     small(
@@ -102,8 +102,9 @@ fn range_clear(rt: HostRuntime) -> Result<(), Fail> {
     )
 }
 
-/// The interval lies within the values of one top word, so that a zero word has to follow. With it the symbols come
-/// whatever follows, and without it they don't.
+/// Checks a seal that needs a zero word, because the interval lies within the values of one top word.
+///
+/// With the zero word, the symbols are decoded whatever words follow. Without it, another symbol is decoded.
 #[test]
 fn range_zero_word(rt: HostRuntime) -> Result<(), Fail> {
     let first: &[u8] = &[129, 127];
@@ -165,7 +166,7 @@ fn range_invalid_and_empty(rt: HostRuntime) -> Result<(), Fail> {
     )
 }
 
-/// The carry goes through the second held word, which is all ones.
+/// Checks a carry through the second held word, in which all bits are 1.
 #[test]
 fn range_two_held(rt: HostRuntime) -> Result<(), Fail> {
     small(
@@ -205,7 +206,7 @@ fn range_point_in_range(rt: HostRuntime) -> Result<(), Fail> {
     )
 }
 
-/// The quantiles 299 of 256 and 16 of 16 aren't there.
+/// Checks that quantiles of at least `2^P` are invalid: 299 at 8 bits of precision, and 16 at 4 bits.
 #[test]
 fn range_quantile_too_large(rt: HostRuntime) -> Result<(), Fail> {
     small_of(
@@ -237,7 +238,7 @@ fn range_distance_raw_parts(rt: HostRuntime) -> Result<(), Fail> {
     )
 }
 
-/// Missing words are read as zeros.
+/// Checks that a decoder reads missing words as zeros.
 #[test]
 fn range_cut_short(rt: HostRuntime) -> Result<(), Fail> {
     small_of(rt.alloc(), &[127, 127], &[(INVERTING, "take 1 2")])?;
@@ -245,7 +246,7 @@ fn range_cut_short(rt: HostRuntime) -> Result<(), Fail> {
     small_of(rt.alloc(), &[], &[(INVERTING, "take 0 0")])
 }
 
-/// A place past the end is refused. At a place with other words a decode may find no symbol.
+/// Checks that a seek past the end is refused, and that a decode after a seek to another interval may be invalid.
 #[test]
 fn range_seek_refused(rt: HostRuntime) -> Result<(), Fail> {
     small_of(
@@ -271,7 +272,7 @@ fn range_wide_state(rt: HostRuntime) -> Result<(), Fail> {
     )
 }
 
-/// Four words of all ones, or four zero words, behind the sealed ones.
+/// Checks that four words of ones or of zeros after the sealed words don't change the symbols.
 #[test]
 fn range_whatever_follows(rt: HostRuntime) -> Result<(), Fail> {
     let halves: &[u32] = &[8388608, 8388608];
@@ -330,7 +331,7 @@ fn seal_one_zero_word(rt: HostRuntime) -> Result<(), Fail> {
     )
 }
 
-/// Forgets a guard, whose words stay.
+/// Forgets a guard, so that its words stay in the vector. Returns whether the encoder had memory for the guard.
 fn forgets(encoder: &mut Coder) -> bool {
     match encoder.get_compressed() {
         Ok(guard) => {
@@ -356,7 +357,9 @@ fn range_forgotten_guard(rt: HostRuntime) -> Result<(), Fail> {
     said(follow(rt.alloc(), &mut encoder, &table, &last))
 }
 
-/// Three symbols, of which the last finds no room for the second of the words that it owes.
+/// Encodes three symbols over `buf`, which has room for one word. Returns whether the third symbol is refused.
+///
+/// The third symbol owes two words. The first word is written, and the second word finds no room.
 fn is_full(buf: &mut [u8], table: &Table) -> bool {
     let words: Cursor<u8, &mut [u8]> = Cursor::new_at_write_beginning(buf);
     let mut encoder: RangeEncoder<u8, u16, Cursor<u8, &mut [u8]>> =
@@ -369,7 +372,7 @@ fn is_full(buf: &mut [u8], table: &Table) -> bool {
         && is_situation(situation, &[2, 126])
 }
 
-/// Room for one word of the two that are owed: the first is written, and the interval stays.
+/// Checks that an encode with room for one of two owed words writes the first word and keeps the interval.
 #[test]
 fn range_cursor_full(rt: HostRuntime) -> Result<(), Fail> {
     let table: Table = WeightTable::new(rt.alloc(), INVERTING)?;

@@ -1,4 +1,4 @@
-//! A backend that passes so many calls, and refuses all later ones.
+//! A backend that passes a limited number of calls, and refuses all later calls.
 
 ghost use Rattle.std.specs.Prelude.{◌≡◌, ◌<◌, ◌≤◌, true, false, reverse};
 ghost use Rattle.constriction_base.specs.laws.Room.{within, no_room_at};
@@ -11,10 +11,10 @@ use constriction_base::backends::{
 };
 use std::alloc::{AllocError, Global};
 
-/// Why a call was refused.
+/// The reason why a backend refused a call.
 #[derive(Debug, Clone, Copy, PartialEq, Eq)]
 pub enum Refused {
-    /// No more calls are passed.
+    /// The budget had no calls left.
     Call,
     /// There was no memory.
     Memory,
@@ -28,7 +28,9 @@ impl From<AllocError> for Refused {
     }
 }
 
-/// Words that are read and written as long as calls are passed.
+/// A backend of words that counts its calls against a budget, and refuses them when the budget is used up.
+///
+/// Writes that a `prepare` made room for don't count.
 #[derive(Drop)]
 pub struct Refusing<'a> {
     words: Vec<u8>,
@@ -37,7 +39,7 @@ pub struct Refusing<'a> {
 }
 
 impl<'a> Refusing<'a> {
-    /// A backend of these words, with memory for some more.
+    /// Makes a backend that holds `words`, with memory for at least 32 more words.
     pub fn new(alloc: Global, words: &[u8], budget: &'a Budget) -> Result<Self, AllocError> {
         let mut held = words.to_vec(alloc)?;
         held.reserve(32)?;
@@ -48,7 +50,7 @@ impl<'a> Refusing<'a> {
         })
     }
 
-    /// The words that it holds.
+    /// Returns the words that the backend holds.
     pub fn held(&self) -> &[u8] {
         self.words.as_slice()
     }
@@ -121,7 +123,7 @@ impl WriteWords<u8> for Refusing<'_> {
 
     ghost prepare_fails = { λ _ count _. 0 < count };
 
-    // What room there is isn't told, though it is made where the budget says so.
+    // The contract promises no room, though `prepare` makes room if the budget says so.
     ghost room = { λ _. 0 };
 
     ghost makes_room = { ⊥ };
@@ -185,7 +187,7 @@ impl Seek for Refusing<'_> {
 
     ghost stays = { λ _ _ _. Unit {0} };
 
-    /// Keeps so many words.
+    /// Keeps the first `position` words. Fails if the backend holds fewer words, or if the budget is used up.
     fn seek(&mut self, position: usize) -> Result<(), ()> {
         if position > self.words.len() || !self.budget.passes() {
             return Err(());

@@ -1,4 +1,4 @@
-//! The bit coders over backends that refuse.
+//! The bit coders over backends that refuse calls.
 
 use crate::backend::{Refused, Refusing};
 use crate::budget::Budget;
@@ -45,7 +45,7 @@ pub enum Form {
     StackFromCompressed,
 }
 
-/// Writes a 1 and then zeros and ones in turn, up to the first that is refused.
+/// Writes the bits 1, 0, 1, 0, .. until 20 bits are written or one is refused. Returns the outcome.
 fn writes_bits<S: BitOrder, W: WriteBitStream<S>>(stream: &mut W) -> Answer
 where
     W::WriteError: Drop,
@@ -58,7 +58,7 @@ where
     Answer::Done
 }
 
-/// Writes codewords one by one, up to the first that is refused.
+/// Writes the codewords of `NUMBERS` one by one until one is refused. Returns the outcome.
 fn writes_each<S: BitOrder, W: WriteBitStream<S>>(stream: &mut W) -> Answer
 where
     W::WriteError: Drop,
@@ -72,7 +72,7 @@ where
     Answer::Done
 }
 
-/// Writes by a call.
+/// Writes bits or numbers with the call `call`, and returns the outcome.
 pub fn writes<S: BitOrder, W: WriteBitStream<S>>(stream: &mut W, call: Write) -> Answer
 where
     W::WriteError: Drop,
@@ -85,7 +85,7 @@ where
     }
 }
 
-/// Adds so many bits that are read, or that there are none.
+/// Reads `count` bits, and adds the outcome of each read to `sum`.
 fn add_bits<S: Semantics, R: ReadBitStream<S>>(stream: &mut R, count: u32, sum: &mut Sum)
 where
     R::ReadError: Drop,
@@ -99,7 +99,7 @@ where
     }
 }
 
-/// Adds a number, or that there is none.
+/// Adds a decoded number, or the error in its place, to `sum`.
 fn add_number<E: Drop>(number: Result<u8, CoderError<E, Refused>>, sum: &mut Sum) {
     match number {
         Ok(number) => sum.add(number as u64),
@@ -108,7 +108,7 @@ fn add_number<E: Drop>(number: Result<u8, CoderError<E, Refused>>, sum: &mut Sum
     }
 }
 
-/// Adds what an iterator gives.
+/// Adds what an iterator returned to `sum`: a number, an error, or 3 for its end.
 fn add_given<E: Drop>(given: Option<Result<u8, CoderError<E, Refused>>>, sum: &mut Sum) {
     match given {
         Some(number) => add_number(number, sum),
@@ -116,7 +116,7 @@ fn add_given<E: Drop>(given: Option<Result<u8, CoderError<E, Refused>>>, sum: &m
     }
 }
 
-/// Four numbers by one codebook.
+/// Decodes four numbers with one list call, and adds the outcomes to `sum`.
 fn reads_list<S: Semantics, R: ReadBitStream<S, ReadError = Refused>>(
     stream: &mut R,
     codebook: &ExpGolomb<u8>,
@@ -128,7 +128,7 @@ fn reads_list<S: Semantics, R: ReadBitStream<S, ReadError = Refused>>(
     }
 }
 
-/// Reads by a call, also behind what is refused.
+/// Reads with the call `call`, also after a refusal, and adds the outcomes to `sum`.
 fn reads<S: Semantics, R: ReadBitStream<S, ReadError = Refused>>(
     stream: &mut R,
     call: Read,
@@ -146,7 +146,7 @@ fn reads<S: Semantics, R: ReadBitStream<S, ReadError = Refused>>(
     }
 }
 
-/// The words that a queue is exported to.
+/// Exports a queue, and adds the words, or the refusal, to `sum`.
 fn close_queue(coder: QueueEncoder<u8, Refusing<'_>>, sum: &mut Sum) {
     match coder.into_compressed() {
         Ok(backend) => sum.add_words(backend.held()),
@@ -154,7 +154,7 @@ fn close_queue(coder: QueueEncoder<u8, Refusing<'_>>, sum: &mut Sum) {
     }
 }
 
-/// The same of a stack.
+/// Exports a stack, and adds the words, or the refusal, to `sum`.
 fn close_stack(coder: StackCoder<u8, Refusing<'_>>, sum: &mut Sum) {
     match coder.into_compressed() {
         Ok(backend) => sum.add_words(backend.held()),
@@ -162,7 +162,7 @@ fn close_stack(coder: StackCoder<u8, Refusing<'_>>, sum: &mut Sum) {
     }
 }
 
-/// The bits of the decoder that a queue becomes.
+/// Turns a queue into a decoder, and adds the outcomes of 60 reads, or the refusal, to `sum`.
 fn queue_into_decoder(coder: QueueEncoder<u8, Refusing<'_>>, budget: &Budget, sum: &mut Sum) {
     match coder.into_decoder() {
         Ok(mut decoder) => {
@@ -173,7 +173,7 @@ fn queue_into_decoder(coder: QueueEncoder<u8, Refusing<'_>>, budget: &Budget, su
     }
 }
 
-/// Makes a call of a queue behind three bits, and adds its words then.
+/// Writes the bits 1 and 0 to a queue, makes the call `form` on it, and adds the outcome to `sum`.
 fn queue(backend: Refusing<'_>, form: Form, budget: &Budget, sum: &mut Sum) {
     let mut coder: QueueEncoder<u8, Refusing<'_>> = QueueEncoder::from_compressed(backend);
     let is_begun = coder.write_bit(true).is_ok() && coder.write_bit(false).is_ok();
@@ -190,7 +190,7 @@ fn queue(backend: Refusing<'_>, form: Form, budget: &Budget, sum: &mut Sum) {
     }
 }
 
-/// Reads from a queue, and adds the bits that are left.
+/// Reads from a queue with the call `call`, and adds the outcomes and the bits left to `sum`.
 fn queue_decoder(backend: Refusing<'_>, call: Read, budget: &Budget, sum: &mut Sum) {
     let mut decoder: QueueDecoder<u8, Refusing<'_>> = QueueDecoder::from_compressed(backend);
     reads::<Queue, _>(&mut decoder, call, sum);
@@ -198,7 +198,7 @@ fn queue_decoder(backend: Refusing<'_>, call: Read, budget: &Budget, sum: &mut S
     add_bits::<Queue, _>(&mut decoder, 60, sum);
 }
 
-/// Makes a call of a stack, and adds its words then.
+/// Makes the call `form` on a stack, and adds the outcome and the exported words to `sum`.
 fn stack(mut coder: StackCoder<u8, Refusing<'_>>, form: Form, budget: &Budget, sum: &mut Sum) {
     match form {
         Form::StackReads(call) => reads::<Stack, _>(&mut coder, call, sum),
@@ -213,7 +213,7 @@ fn stack(mut coder: StackCoder<u8, Refusing<'_>>, form: Form, budget: &Budget, s
     close_stack(coder, sum);
 }
 
-/// Writes a byte of zeros. Returns whether nothing is refused.
+/// Writes eight zero bits. Returns whether all of them were written.
 fn writes_byte(coder: &mut StackCoder<u8, Refusing<'_>>) -> bool {
     for _ in 0..8 {
         if coder.write_bit(false).is_err() {
@@ -223,7 +223,9 @@ fn writes_byte(coder: &mut StackCoder<u8, Refusing<'_>>) -> bool {
     true
 }
 
-/// Makes a call of a stack of the words, behind a byte of zeros where the stack is exported.
+/// Imports a stack from `backend`, makes the call `form` on it, and adds the outcome to `sum`.
+///
+/// Before the call `StackIntoCompressed`, the function writes eight zero bits.
 fn stack_of(backend: Refusing<'_>, form: Form, budget: &Budget, sum: &mut Sum) {
     if !matches!(form, Form::StackFromCompressed) {
         budget.refuse_nothing();
@@ -244,7 +246,7 @@ fn stack_of(backend: Refusing<'_>, form: Form, budget: &Budget, sum: &mut Sum) {
     }
 }
 
-/// Makes a call over a backend.
+/// Makes the call `form` of a bit coder over `backend`, and adds the outcome to `sum`.
 pub fn run(backend: Refusing<'_>, form: Form, budget: &Budget, sum: &mut Sum) {
     match form {
         Form::QueueReads(call) => queue_decoder(backend, call, budget, sum),

@@ -1,8 +1,8 @@
-//! How many calls backends pass before they refuse all later ones.
+//! The number of calls that backends pass before they refuse all later calls.
 
 use std::cell::Cell;
 
-/// Calls that are left to all backends that share it, and a sum of what they took.
+/// The number of calls left to the backends that share this budget, and a sum of what the backends took.
 #[derive(Drop)]
 pub struct Budget {
     calls: u64,
@@ -13,8 +13,9 @@ pub struct Budget {
 }
 
 impl Budget {
-    /// So many calls. After a `prepare` that makes room, the writes for which it asked are no calls that can be
-    /// refused.
+    /// Makes a budget of `calls` calls.
+    ///
+    /// If `makes_room` is true, the writes that a `prepare` asked room for don't count as calls.
     pub fn new(calls: u64, makes_room: bool) -> Budget {
         Budget {
             calls,
@@ -25,7 +26,7 @@ impl Budget {
         }
     }
 
-    /// Whether a call passes.
+    /// Uses one call of the budget. If no call is left, returns `false` and records a refusal.
     pub fn passes(&self) -> bool {
         match self.left.get().checked_sub(1) {
             Some(left) => {
@@ -39,27 +40,27 @@ impl Budget {
         }
     }
 
-    /// Begins anew.
+    /// Sets the number of calls left to the full budget.
     pub fn begin(&self) {
         self.left.set(self.calls);
     }
 
-    /// Whether a call was refused.
+    /// Returns whether a call was refused.
     pub fn has_refused(&self) -> bool {
         self.refused.get()
     }
 
-    /// Whether `prepare` makes room.
+    /// Returns whether `prepare` makes room.
     pub fn makes_room(&self) -> bool {
         self.makes_room
     }
 
-    /// From now on nothing is refused.
+    /// Sets the number of calls left to 1000, so that no later call is refused.
     pub fn refuse_nothing(&self) {
         self.left.set(1000);
     }
 
-    /// Notes a word that a backend took, or how many words a `prepare` asked for.
+    /// Adds `number` to the sum: a word that a backend took, or the number of words that a `prepare` asked for.
     pub fn note(&self, number: u64) {
         let taken = self.taken.get();
         self.taken.set(
@@ -70,8 +71,7 @@ impl Budget {
         );
     }
 
-    /// The sum of the words that backends took, also of those that are gone, and of how many words they were asked
-    /// to make room for.
+    /// Returns the sum of all numbers passed to [`Budget::note`], also by backends that were dropped.
     pub fn taken(&self) -> u64 {
         self.taken.get()
     }

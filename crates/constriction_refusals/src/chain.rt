@@ -1,4 +1,4 @@
-//! The chain coder over backends that refuse, both of which share the calls that pass.
+//! The chain coder over two backends that refuse calls and share one budget.
 
 use crate::backend::Refusing;
 use crate::putting::{Put, Table, Take, puts, takes};
@@ -30,14 +30,14 @@ pub enum Form {
     FromRemainders,
 }
 
-/// Adds the two heads.
+/// Adds the two heads to `sum`.
 fn add_heads<const PRECISION: usize>(heads: ChainCoderHeads<u8, u32, PRECISION>, sum: &mut Sum) {
     let (h, r) = heads.parts();
     sum.add(h as u64);
     sum.add(r as u64);
 }
 
-/// Adds the heads and the words of both sides.
+/// Adds the heads and the words of both sides to `sum`.
 fn add_coder<const PRECISION: usize>(coder: At<'_, PRECISION>, sum: &mut Sum) {
     let (compressed, remainders, heads) = coder.into_raw_parts();
     add_heads(heads, sum);
@@ -45,7 +45,7 @@ fn add_coder<const PRECISION: usize>(coder: At<'_, PRECISION>, sum: &mut Sum) {
     sum.add_words(remainders.held());
 }
 
-/// Goes to a position of both sides. Returns whether that is done.
+/// Seeks to 2 compressed words, 3 words of remainders and fixed heads. Returns whether the seek succeeded.
 fn seeks(coder: &mut Coder<'_>) -> bool {
     match ChainCoderHeads::new(3, 0x0020_0000) {
         Some(heads) => {
@@ -59,7 +59,7 @@ fn seeks(coder: &mut Coder<'_>) -> bool {
     }
 }
 
-/// Makes a call of a coder that is lent, and adds what is left of the coder.
+/// Makes a call that borrows the coder, and adds the outcome and the coder's parts to `sum`.
 fn lent(mut coder: Coder<'_>, form: Form, table: &Table, sum: &mut Sum) {
     match form {
         Form::Put(call) => {
@@ -75,7 +75,7 @@ fn lent(mut coder: Coder<'_>, form: Form, table: &Table, sum: &mut Sum) {
     add_coder(coder, sum);
 }
 
-/// Adds the words of both sides, if there are any.
+/// Adds the words of both sides, or the refusal, to `sum`.
 fn add_sides<E: Drop>(sides: Result<(Refusing<'_>, Refusing<'_>), E>, sum: &mut Sum) {
     match sides {
         Ok((prefix, suffix)) => {
@@ -86,7 +86,7 @@ fn add_sides<E: Drop>(sides: Result<(Refusing<'_>, Refusing<'_>), E>, sum: &mut 
     }
 }
 
-/// Makes a call that raises the precision to 8 bits.
+/// Makes a call that raises the precision to 8 bits, and adds the coder, or the refusal, to `sum`.
 fn raised(coder: Coder<'_>, form: Form, sum: &mut Sum) {
     let made: Option<At<'_, 8>> = match form {
         Form::Increase => coder.increase_precision::<8>().ok(),
@@ -98,7 +98,7 @@ fn raised(coder: Coder<'_>, form: Form, sum: &mut Sum) {
     }
 }
 
-/// Makes a call that lowers the precision to 2 bits.
+/// Makes a call that lowers the precision to 2 bits, and adds the coder, or the refusal, to `sum`.
 fn lowered(coder: Coder<'_>, form: Form, sum: &mut Sum) {
     let made: Option<At<'_, 2>> = match form {
         Form::Decrease => coder.decrease_precision::<2>().ok(),
@@ -110,7 +110,7 @@ fn lowered(coder: Coder<'_>, form: Form, sum: &mut Sum) {
     }
 }
 
-/// Makes a call of a coder.
+/// Makes the call `form` of a coder, and adds the outcome to `sum`.
 fn called(coder: Coder<'_>, form: Form, table: &Table, sum: &mut Sum) {
     match form {
         Form::IntoRemainders => add_sides(coder.into_remainders(), sum),
@@ -122,8 +122,10 @@ fn called(coder: Coder<'_>, form: Form, table: &Table, sum: &mut Sum) {
     }
 }
 
-/// The heads from which a call goes out: a whole number of remainders' words, a number that a lower precision finds
-/// too small, or others.
+/// Returns the heads that a coder has before the call `form`.
+///
+/// Before an export to words, no bits are left over. Before the precision is lowered, the remainders head is below
+/// the window of the new precision.
 fn heads_of(form: Form) -> Option<ChainCoderHeads<u8, u32, 4>> {
     match form {
         Form::IntoCompressed | Form::IntoBinary => ChainCoderHeads::new(1, 0x0123_4567),
@@ -132,7 +134,7 @@ fn heads_of(form: Form) -> Option<ChainCoderHeads<u8, u32, 4>> {
     }
 }
 
-/// Makes a call over two backends.
+/// Makes the call `form` of a coder over two backends, and adds the outcome to `sum`.
 pub fn run(
     compressed: Refusing<'_>,
     remainders: Refusing<'_>,
@@ -150,7 +152,7 @@ pub fn run(
     }
 }
 
-/// A coder of compressed words in one of both forms.
+/// Imports compressed words, or words in binary form, and adds the outcome to `sum`.
 fn of_words(alloc: Global, backend: Refusing<'_>, form: Form, sum: &mut Sum) {
     let made: Result<ChainCoder<u8, u32, Refusing<'_>, Vec<u8>, 4>, _> = match form {
         Form::FromCompressed => ChainCoder::from_compressed(alloc, backend),
@@ -167,7 +169,7 @@ fn of_words(alloc: Global, backend: Refusing<'_>, form: Form, sum: &mut Sum) {
     }
 }
 
-/// A coder of remainders.
+/// Imports words of remainders, and adds the outcome to `sum`.
 fn of_remainders(alloc: Global, backend: Refusing<'_>, sum: &mut Sum) {
     let made: Result<ChainCoder<u8, u32, Vec<u8>, Refusing<'_>, 4>, _> =
         ChainCoder::from_remainders(alloc, backend);
@@ -182,7 +184,7 @@ fn of_remainders(alloc: Global, backend: Refusing<'_>, sum: &mut Sum) {
     }
 }
 
-/// Makes a coder over a backend.
+/// Imports the words of `backend` with the call `form`, and adds the outcome to `sum`.
 pub fn make(alloc: Global, backend: Refusing<'_>, form: Form, sum: &mut Sum) {
     match form {
         Form::FromRemainders => of_remainders(alloc, backend, sum),

@@ -1,13 +1,15 @@
-//! Calls of backends that are refused.
+//! A program that calls coders over backends that refuse calls.
 //!
-//! Of list calls those by one model or codebook are tried: the others go by the same steps, as their contracts say.
+//! Among the list calls, the program makes only the calls with one model or one codebook. The other list calls take the
+//! same steps, as their contracts say.
 //!
-//! Each call is made over backends that pass no call, one, two, .. until a run meets no refusal: once where
-//! `prepare` makes room, and once where it makes none. Each answer, the numbers of the coder and the words that the
-//! backends hold then go into a sum that depends on their order, with the words that backends took that are gone,
-//! and how many words each `prepare` asked for. A line for each call says how many runs there were, and the sum.
+//! The program makes each call over backends that pass 0, 1, 2, .. calls, until a run meets no refusal. It does so
+//! twice: with backends on which `prepare` makes room, and with backends on which `prepare` makes no room.
 //!
-//! `tests/refused-requests` computes the sums apart, from the definitions.
+//! A sum that depends on the order collects each answer, the coder's numbers, the words that the backends hold
+//! afterwards, the words that backends took, and the number of words that each `prepare` asked for. The program prints
+//! a line for each call: the number of runs, and the sum. `tests/refused-requests` computes the sums separately, from
+//! the definitions.
 #![tactic(auto)]
 
 mod backend;
@@ -43,7 +45,7 @@ const WORDS: [u8; 5] = [9, 200, 31, 7, 1];
 /// The words that the remainders of a chain coder begin with.
 const REMAINDERS: [u8; 4] = [77, 3, 250, 18];
 
-/// All calls.
+/// All calls, with their names.
 const CASES: &[(&str, Case)] = &[
     (
         "stack, encode_symbol",
@@ -230,7 +232,7 @@ const CASES: &[(&str, Case)] = &[
     ),
 ];
 
-/// Makes a call over backends that share a budget.
+/// Makes the call `case` over backends that share `budget`, and adds the outcome to `sum`.
 fn run(
     alloc: Global,
     table: &Table,
@@ -252,8 +254,9 @@ fn run(
     Ok(())
 }
 
-/// Makes a call over backends that pass no call, one, two, .. up to the first run that meets no refusal. Returns
-/// whether there is one.
+/// Makes the call `case` over backends that pass 0, 1, 2, .. calls, until a run meets no refusal.
+///
+/// Returns `false` if each of 100 runs meets a refusal.
 fn run_all(
     alloc: Global,
     table: &Table,
@@ -273,7 +276,7 @@ fn run_all(
     Ok(false)
 }
 
-/// Makes a call over backends of both kinds, and prints what comes of it.
+/// Makes the call `case` with budgets that make room and with budgets that don't, and prints the call's line.
 fn show(rt: &impl Print, alloc: Global, table: &Table, name: &str, case: Case) -> Result<()> {
     let mut sum = Sum::new();
     if !run_all(alloc, table, case, true, &mut sum)?

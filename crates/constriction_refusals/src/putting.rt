@@ -1,4 +1,4 @@
-//! The calls that put symbols on a coder, and those that take symbols off.
+//! The calls that encode symbols with a coder, and the calls that decode symbols.
 
 use crate::sum::{Answer, Sum};
 use constriction_base::errors::CoderError;
@@ -7,30 +7,30 @@ use constriction_stream::decoding::Decode;
 use constriction_stream::encoding::Encode;
 use constriction_words::WordOf;
 
-/// A table of the precision at which all coders are tried.
+/// The type of the table for all coders, with a precision of 4 bits.
 pub type Table = WeightTable<u8, 4>;
 
 /// The weights of the table.
 pub const WEIGHTS: [u8; 3] = [5, 10, 1];
 
-/// The symbols that are put on.
+/// The symbols to encode.
 pub const SYMBOLS: [usize; 6] = [2, 1, 0, 2, 2, 1];
 
-/// A call that puts symbols on from the first to the last.
+/// A call that encodes symbols from the first to the last.
 #[derive(Clone, Copy)]
 pub enum Put {
     Each,
     List,
 }
 
-/// A call that takes symbols off.
+/// A call that decodes symbols.
 #[derive(Clone, Copy)]
 pub enum Take {
     Each,
     List,
 }
 
-/// What a step or a list comes to.
+/// Returns the outcome of a step or of a list call.
 pub fn answer_of<F: Drop, E: Drop>(answer: Result<(), CoderError<F, E>>) -> Answer {
     match answer {
         Ok(()) => Answer::Done,
@@ -39,7 +39,7 @@ pub fn answer_of<F: Drop, E: Drop>(answer: Result<(), CoderError<F, E>>) -> Answ
     }
 }
 
-/// Puts the symbols on one by one, up to the first that is refused.
+/// Encodes `SYMBOLS` one by one until one is refused. Returns the outcome.
 fn puts_each<C>(coder: &mut C, table: &Table) -> Answer
 where
     C: Encode<4>,
@@ -59,7 +59,7 @@ where
     Answer::Done
 }
 
-/// Puts the symbols on by a call.
+/// Encodes `SYMBOLS` with the call `call`. Returns the outcome.
 pub fn puts<C>(coder: &mut C, table: &Table, call: Put) -> Answer
 where
     C: Encode<4>,
@@ -76,7 +76,7 @@ where
     }
 }
 
-/// Adds a symbol, or why there is none.
+/// Adds a decoded symbol, or the error in its place, to `sum`.
 pub fn add_symbol<F: Drop, E: Drop>(symbol: Result<usize, CoderError<F, E>>, sum: &mut Sum) {
     match symbol {
         Ok(symbol) => sum.add(symbol as u64),
@@ -84,7 +84,7 @@ pub fn add_symbol<F: Drop, E: Drop>(symbol: Result<usize, CoderError<F, E>>, sum
     }
 }
 
-/// Takes six symbols off one by one, also behind those that are refused.
+/// Decodes six symbols one by one, also after a refusal, and adds the outcomes to `sum`.
 fn takes_each<C>(coder: &mut C, table: &Table, sum: &mut Sum)
 where
     C: Decode<4>,
@@ -97,7 +97,7 @@ where
     }
 }
 
-/// Adds what an iterator gives.
+/// Adds what an iterator returned to `sum`: a symbol, an error, or 3 for its end.
 fn add_given<F: Drop, E: Drop>(given: Option<Result<usize, CoderError<F, E>>>, sum: &mut Sum) {
     match given {
         Some(symbol) => add_symbol(symbol, sum),
@@ -105,7 +105,7 @@ fn add_given<F: Drop, E: Drop>(given: Option<Result<usize, CoderError<F, E>>>, s
     }
 }
 
-/// The same by one call.
+/// Decodes six symbols with one list call, also after a refusal, and adds the outcomes to `sum`.
 fn takes_list<C>(coder: &mut C, table: &Table, sum: &mut Sum)
 where
     C: Decode<4>,
@@ -119,7 +119,7 @@ where
     }
 }
 
-/// Takes six symbols off by a call, also behind those that are refused.
+/// Decodes six symbols with the call `call`, also after a refusal, and adds the outcomes to `sum`.
 pub fn takes<C>(coder: &mut C, table: &Table, call: Take, sum: &mut Sum)
 where
     C: Decode<4>,

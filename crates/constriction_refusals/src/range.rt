@@ -1,4 +1,4 @@
-//! The range coder over backends that refuse.
+//! The range coder over backends that refuse calls.
 
 use crate::backend::Refusing;
 use crate::putting::{Put, SYMBOLS, Table, Take, add_symbol, answer_of, puts, takes};
@@ -30,13 +30,13 @@ pub enum Form {
     FromCompressed,
 }
 
-/// Adds the interval.
+/// Adds the interval's lower end and length to `sum`.
 fn add_interval(state: RangeCoderState<u8, u32>, sum: &mut Sum) {
     sum.add(state.lower() as u64);
     sum.add(state.range().get() as u64);
 }
 
-/// Adds the interval, the words written and those held back.
+/// Adds the interval, the words written and the held words to `sum`.
 fn add_encoder(encoder: Encoder<'_>, sum: &mut Sum) {
     let (backend, state, situation) = encoder.into_raw_parts();
     add_interval(state, sum);
@@ -50,7 +50,7 @@ fn add_encoder(encoder: Encoder<'_>, sum: &mut Sum) {
     }
 }
 
-/// Adds the interval, the point and the words behind it.
+/// Adds the interval, the point and the words still to read to `sum`.
 fn add_decoder(decoder: Decoder<'_>, sum: &mut Sum) {
     let (backend, state, point) = decoder.into_raw_parts();
     add_interval(state, sum);
@@ -58,7 +58,7 @@ fn add_decoder(decoder: Decoder<'_>, sum: &mut Sum) {
     sum.add_words(backend.held());
 }
 
-/// Puts the symbols on by two models, of which the second begins behind the symbol 0.
+/// Encodes `SYMBOLS` with two models. The flag is symbol 0. Returns the outcome.
 fn puts_flagged(encoder: &mut Encoder<'_>, table: &Table) -> Answer {
     if Encode::<4>::symbols_left(encoder) < 6 {
         return Answer::Faulty;
@@ -68,7 +68,7 @@ fn puts_flagged(encoder: &mut Encoder<'_>, table: &Table) -> Answer {
     ))
 }
 
-/// Puts symbols on, and adds what is left of the encoder.
+/// Encodes `SYMBOLS` with the call `form`, and adds the outcome and the encoder's parts to `sum`.
 fn put_on(mut encoder: Encoder<'_>, form: Form, table: &Table, sum: &mut Sum) {
     let answer = match form {
         Form::Put(call) => puts(&mut encoder, table, call),
@@ -78,7 +78,7 @@ fn put_on(mut encoder: Encoder<'_>, form: Form, table: &Table, sum: &mut Sum) {
     add_encoder(encoder, sum);
 }
 
-/// The words that are exported.
+/// Exports the words of `encoder`, and adds them, or the refusal, to `sum`.
 fn into_compressed(encoder: Encoder<'_>, sum: &mut Sum) {
     match encoder.into_compressed() {
         Ok(backend) => sum.add_words(backend.held()),
@@ -86,7 +86,7 @@ fn into_compressed(encoder: Encoder<'_>, sum: &mut Sum) {
     }
 }
 
-/// The same with zeros behind them as far as they need some.
+/// Exports the self-delimiting words of `encoder`, and adds them, or the refusal, to `sum`.
 fn into_self_delimited(encoder: Encoder<'_>, sum: &mut Sum) {
     match encoder.into_self_delimited() {
         Ok(backend) => sum.add_words(backend.held()),
@@ -94,7 +94,7 @@ fn into_self_delimited(encoder: Encoder<'_>, sum: &mut Sum) {
     }
 }
 
-/// The decoder that an encoder becomes.
+/// Turns `encoder` into a decoder, and adds the decoder's parts, or the refusal, to `sum`.
 fn into_decoder(encoder: Encoder<'_>, sum: &mut Sum) {
     match encoder.into_decoder() {
         Ok(decoder) => add_decoder(decoder, sum),
@@ -102,7 +102,7 @@ fn into_decoder(encoder: Encoder<'_>, sum: &mut Sum) {
     }
 }
 
-/// Makes a call of an encoder that holds two words back.
+/// Makes the call `form` of an encoder that holds two words back, and adds the outcome to `sum`.
 fn encoding(backend: Refusing<'_>, form: Form, table: &Table, sum: &mut Sum) {
     let Ok(state) = RangeCoderState::<u8, u32>::new(0xff00_0000, 0x0200_0000) else {
         return;
@@ -123,7 +123,7 @@ fn encoding(backend: Refusing<'_>, form: Form, table: &Table, sum: &mut Sum) {
     }
 }
 
-/// Takes symbols by two models, of which the second begins behind the symbol 0.
+/// Decodes six symbols with two models, and adds the outcomes and the decoder's parts to `sum`. The flag is symbol 0.
 fn switched(decoder: Decoder<'_>, table: &Table, sum: &mut Sum) {
     let mut switch: FlagSwitch<u8, u32, Refusing<'_>, 4, 4> = FlagSwitch::new(decoder, 0);
     for _ in 0..6 {
@@ -132,7 +132,7 @@ fn switched(decoder: Decoder<'_>, table: &Table, sum: &mut Sum) {
     add_decoder(switch.into_inner(), sum);
 }
 
-/// Takes symbols or seeks, and adds what is left of the decoder.
+/// Decodes symbols or seeks, and adds the outcomes and the decoder's parts to `sum`.
 fn taken(mut decoder: Decoder<'_>, form: Form, table: &Table, sum: &mut Sum) {
     match form {
         Form::Take(call) => takes(&mut decoder, table, call, sum),
@@ -144,7 +144,7 @@ fn taken(mut decoder: Decoder<'_>, form: Form, table: &Table, sum: &mut Sum) {
     add_decoder(decoder, sum);
 }
 
-/// Makes a call of a decoder of which a part of the words was read.
+/// Makes the call `form` of a decoder made from raw parts, and adds the outcome to `sum`.
 fn decoding(backend: Refusing<'_>, form: Form, table: &Table, sum: &mut Sum) {
     let Ok(state) = RangeCoderState::<u8, u32>::new(0xff00_0000, 0x0200_0000) else {
         return;
@@ -158,7 +158,7 @@ fn decoding(backend: Refusing<'_>, form: Form, table: &Table, sum: &mut Sum) {
     }
 }
 
-/// A decoder of all words.
+/// Makes a decoder that reads `backend` from its beginning, and adds the decoder's parts, or the refusal, to `sum`.
 fn of_words(backend: Refusing<'_>, form: Form, sum: &mut Sum) {
     let made = match form {
         Form::WithBackend => Decoder::with_backend(backend),
@@ -170,7 +170,7 @@ fn of_words(backend: Refusing<'_>, form: Form, sum: &mut Sum) {
     }
 }
 
-/// Makes a call over a backend.
+/// Makes the call `form` of the range coder over `backend`, and adds the outcome to `sum`.
 pub fn run(backend: Refusing<'_>, form: Form, table: &Table, sum: &mut Sum) {
     match form {
         Form::WithBackend | Form::FromCompressed => of_words(backend, form, sum),

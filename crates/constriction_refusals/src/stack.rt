@@ -1,4 +1,4 @@
-//! The stack coder over backends that refuse.
+//! The stack coder over backends that refuse calls.
 
 use crate::backend::Refusing;
 use crate::putting::{Put, Table, Take, puts, takes};
@@ -23,13 +23,13 @@ pub enum Form {
     GetBinary,
 }
 
-/// Adds the head and the words.
+/// Adds the head and the words to `sum`.
 fn add_state(coder: &Coder<'_>, sum: &mut Sum) {
     sum.add(coder.state() as u64);
     sum.add_words(coder.bulk().held());
 }
 
-/// A coder of words that are imported, or the words that come back.
+/// Imports the words of `backend`, and adds the coder's state, or the words that the error returns, to `sum`.
 fn compressed(backend: Refusing<'_>, sum: &mut Sum) {
     match Coder::from_compressed(backend) {
         Ok(coder) => add_state(&coder, sum),
@@ -37,7 +37,7 @@ fn compressed(backend: Refusing<'_>, sum: &mut Sum) {
     }
 }
 
-/// The same in the binary form.
+/// Imports words in binary form, and adds the coder's state, or the refusal, to `sum`.
 fn binary(backend: Refusing<'_>, sum: &mut Sum) {
     match Coder::from_binary(backend) {
         Ok(coder) => add_state(&coder, sum),
@@ -45,7 +45,7 @@ fn binary(backend: Refusing<'_>, sum: &mut Sum) {
     }
 }
 
-/// The words that are exported.
+/// Exports the words of `coder`, and adds them, or the refusal, to `sum`.
 fn into_compressed(coder: Coder<'_>, sum: &mut Sum) {
     match coder.into_compressed() {
         Ok(backend) => sum.add_words(backend.held()),
@@ -53,7 +53,7 @@ fn into_compressed(coder: Coder<'_>, sum: &mut Sum) {
     }
 }
 
-/// The same in the binary form.
+/// Exports the words of `coder` in binary form, and adds them, or the refusal, to `sum`.
 fn into_binary(coder: Coder<'_>, sum: &mut Sum) {
     match coder.into_binary() {
         Ok(backend) => sum.add_words(backend.held()),
@@ -61,7 +61,7 @@ fn into_binary(coder: Coder<'_>, sum: &mut Sum) {
     }
 }
 
-/// The words that a guard shows.
+/// Adds the words that a guard lends, or the refusal, to `sum`.
 fn get_compressed(coder: &mut Coder<'_>, sum: &mut Sum) {
     match coder.get_compressed() {
         Ok(guard) => sum.add_words(guard.backend().held()),
@@ -69,7 +69,7 @@ fn get_compressed(coder: &mut Coder<'_>, sum: &mut Sum) {
     }
 }
 
-/// The same in the binary form.
+/// Adds the words in binary form that a guard lends, or the refusal, to `sum`.
 fn get_binary(coder: &mut Coder<'_>, sum: &mut Sum) {
     match coder.get_binary() {
         Ok(guard) => sum.add_words(guard.backend().held()),
@@ -77,7 +77,7 @@ fn get_binary(coder: &mut Coder<'_>, sum: &mut Sum) {
     }
 }
 
-/// Makes a call of a coder that is lent.
+/// Makes a call that borrows the coder, and adds the outcome to `sum`.
 fn borrowed(coder: &mut Coder<'_>, form: Form, table: &Table, sum: &mut Sum) {
     match form {
         Form::Put(call) => {
@@ -94,13 +94,13 @@ fn borrowed(coder: &mut Coder<'_>, form: Form, table: &Table, sum: &mut Sum) {
     }
 }
 
-/// Makes a call of a coder that is lent, and adds what is left of the coder.
+/// Makes a call that borrows the coder, and adds the outcome and the coder's state to `sum`.
 fn lent(mut coder: Coder<'_>, form: Form, table: &Table, sum: &mut Sum) {
     borrowed(&mut coder, form, table, sum);
     add_state(&coder, sum);
 }
 
-/// Makes a call over a backend.
+/// Makes the call `form` of the stack coder over `backend`, and adds the outcome to `sum`.
 pub fn run(backend: Refusing<'_>, form: Form, table: &Table, sum: &mut Sum) {
     match form {
         Form::Compressed => compressed(backend, sum),

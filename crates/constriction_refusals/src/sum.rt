@@ -1,16 +1,16 @@
-//! A number that tells a list of numbers in order, as far as one number can.
+//! A sum that depends on the numbers added and on their order.
 
-/// What a call comes to.
+/// The outcome of a call.
 #[derive(Clone, Copy, PartialEq, Eq)]
 pub enum Answer {
     Done,
     /// A backend refused a call.
     Refused,
-    /// The coder or a codebook refused it.
+    /// The coder or a codebook refused the call.
     Faulty,
 }
 
-/// How many runs there were, and the sum of their numbers.
+/// The number of runs, and the sum of the numbers that the runs added.
 #[derive(Clone, Copy)]
 pub struct Sum {
     pub runs: u64,
@@ -18,18 +18,18 @@ pub struct Sum {
 }
 
 impl Sum {
-    /// That of nothing.
+    /// Makes the sum of no numbers and no runs.
     pub fn new() -> Sum {
         Sum { runs: 0, value: 0 }
     }
 
-    /// Begins the next run.
+    /// Counts the next run, and adds 1.
     pub fn begin(&mut self) {
         self.runs = self.runs.wrapping_add(1);
         self.add(1);
     }
 
-    /// Adds a number behind the others.
+    /// Adds `number` after the numbers already added.
     pub fn add(&mut self, number: u64) {
         self.value = self
             .value
@@ -38,7 +38,7 @@ impl Sum {
             .wrapping_add(1);
     }
 
-    /// Adds what a call came to.
+    /// Adds the outcome of a call.
     pub fn add_answer(&mut self, answer: Answer) {
         match answer {
             Answer::Done => self.add((1 << 41) + 1),
@@ -47,12 +47,12 @@ impl Sum {
         }
     }
 
-    /// Adds that a backend refused a call.
+    /// Adds [`Answer::Refused`].
     pub fn add_refusal(&mut self) {
         self.add_answer(Answer::Refused);
     }
 
-    /// Adds whether a call was done, which only a backend can have refused.
+    /// Adds `Done` if `is_done` is true, and `Refused` otherwise.
     pub fn add_whether(&mut self, is_done: bool) {
         self.add_answer(if is_done {
             Answer::Done
@@ -61,7 +61,7 @@ impl Sum {
         });
     }
 
-    /// Adds a list of words, and behind them how many there are.
+    /// Adds the words of a list, and then the number of these words.
     pub fn add_words(&mut self, words: &[u8]) {
         for word in words {
             self.add(*word as u64);

@@ -1,4 +1,4 @@
-//! What a call answers, as a word of a script: the empty one where it is done.
+//! Answers of calls, as words of a script. The empty word stands for success.
 
 use constriction_base::errors::{BoundedWriteError, CoderError, DefaultEncoderFrontendError};
 use constriction_chain::{BackendError, EncoderFrontendError};
@@ -6,18 +6,18 @@ use constriction_stream::errors::TryCodingError;
 use std::alloc::AllocError;
 use std::convert::Infallible;
 
-/// The call is done, with what is expected.
+/// The answer of a call that succeeded with the expected result.
 pub const DONE: &str = "";
 
-/// The call is done, with something else, or wasn't made.
+/// The answer of a call that succeeded with another result, or that wasn't made.
 pub const OTHER: &str = "other";
 
-/// The test itself finds no memory.
+/// The answer if there was no memory for the test itself.
 pub const MEMORY: &str = "Memory";
 
 /// An error that has a word in scripts.
 pub trait Told {
-    /// Returns the word of an error, or of a type whose errors never come.
+    /// Returns the word of `error`, or a word for the type if `error` is `None`.
     fn word(error: Option<&Self>) -> &'static str;
 
     /// Returns the word of this error.
@@ -116,7 +116,7 @@ impl<C: Told, E: Told> Told for TryCodingError<C, E> {
     }
 }
 
-/// Returns the word of a call that gives nothing.
+/// Returns the answer of a call without a result: [`DONE`], or the word of its error.
 pub fn answer_of<E: Told + Drop>(answer: Result<(), E>) -> &'static str {
     match answer {
         Ok(()) => DONE,
@@ -124,7 +124,7 @@ pub fn answer_of<E: Told + Drop>(answer: Result<(), E>) -> &'static str {
     }
 }
 
-/// Returns the word of a call that gives something.
+/// Returns [`DONE`] if `is_expected` is true, and [`OTHER`] otherwise.
 pub fn answer_if(is_expected: bool) -> &'static str {
     if is_expected { DONE } else { OTHER }
 }

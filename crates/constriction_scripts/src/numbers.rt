@@ -3,7 +3,7 @@
 use constriction_words::WordOf;
 use std::alloc::{AllocError, Global};
 
-/// What a script writes as a number.
+/// A type whose values a script writes as numbers.
 pub trait Number {
     fn of(number: u128) -> Self;
 
@@ -70,7 +70,7 @@ impl Number for usize {
     }
 }
 
-/// Whether words are these numbers.
+/// Returns whether `words` are exactly the numbers `numbers`, in this order.
 pub fn same<Word: Number>(words: &[Word], numbers: &[u128]) -> bool {
     let mut at: usize = 0;
     for word in words {
@@ -83,7 +83,7 @@ pub fn same<Word: Number>(words: &[Word], numbers: &[u128]) -> bool {
     at == numbers.len()
 }
 
-/// Returns the words of these numbers, in a vector that has no room for another one.
+/// Returns `numbers` as words, in a vector without room for another word.
 pub fn words_of<Word: Number + Drop>(
     alloc: Global,
     numbers: &[u128],

@@ -1,4 +1,4 @@
-//! Symbols that are put on any encoder.
+//! Acts that encode symbols with any encoder.
 
 use crate::answers::{DONE, MEMORY, OTHER, Told, answer_of};
 use crate::script::{Act, error_at, find};
@@ -8,7 +8,7 @@ use constriction_stream::encoding::{Encode, EncodeReverse};
 use constriction_words::WordOf;
 use std::alloc::{AllocError, Global};
 
-/// Puts symbols on one by one.
+/// Encodes `symbols` one by one until one is refused. Returns the answer.
 pub fn put_each<C, M, const PRECISION: usize>(
     coder: &mut C,
     model: &M,
@@ -33,7 +33,7 @@ where
     DONE
 }
 
-/// Puts a list on by one model.
+/// Encodes `symbols` with one model and one list call. Returns the answer.
 fn put_list<C, M, const PRECISION: usize>(
     coder: &mut C,
     model: &M,
@@ -52,7 +52,7 @@ where
     answer_of(coder.encode_iid_symbols(symbols, model))
 }
 
-/// The same, the last symbol first.
+/// Encodes `symbols` from last to first, with one model and one list call. Returns the answer.
 fn put_list_back<C, M, const PRECISION: usize>(
     coder: &mut C,
     model: &M,
@@ -74,7 +74,7 @@ where
 /// A symbol with its model.
 type Pair<'a, M> = (&'a usize, &'a M);
 
-/// Symbols, each with the model.
+/// Returns each of `symbols`, paired with `model`.
 fn pairs_of<'a, M>(
     alloc: Global,
     model: &'a M,
@@ -87,7 +87,7 @@ fn pairs_of<'a, M>(
     Ok(pairs)
 }
 
-/// Puts pairs on.
+/// Encodes `symbols` with one list call of pairs. Returns the answer.
 fn put_pairs<C, M, const PRECISION: usize>(
     alloc: Global,
     coder: &mut C,
@@ -110,7 +110,7 @@ where
     answer_of(coder.encode_symbols(pairs))
 }
 
-/// The same, the last one first.
+/// Encodes `symbols` from last to first, with one list call of pairs. Returns the answer.
 fn put_pairs_back<C, M, const PRECISION: usize>(
     alloc: Global,
     coder: &mut C,
@@ -133,7 +133,7 @@ where
     answer_of(coder.encode_symbols_reverse(pairs))
 }
 
-/// Symbols, each with the model, and errors.
+/// Returns an item for each symbol: the error in its place in `numbers`, or else the symbol with `model`.
 fn items_of<'a, M>(
     alloc: Global,
     model: &'a M,
@@ -152,7 +152,7 @@ fn items_of<'a, M>(
     Ok(items)
 }
 
-/// Puts items on, each of which may be an error.
+/// Encodes items, which may be errors, with one list call. Returns the answer.
 fn put_items<C, M, const PRECISION: usize>(
     alloc: Global,
     coder: &mut C,
@@ -175,7 +175,7 @@ where
     answer_of(coder.try_encode_symbols(items))
 }
 
-/// The same, the last one first.
+/// Encodes items, which may be errors, from last to first with one list call. Returns the answer.
 fn put_items_back<C, M, const PRECISION: usize>(
     alloc: Global,
     coder: &mut C,
@@ -198,7 +198,7 @@ where
     answer_of(coder.try_encode_symbols_reverse(items))
 }
 
-/// How symbols are put on.
+/// A way to encode symbols.
 #[derive(Clone, Copy)]
 enum Put {
     Each,
@@ -207,8 +207,9 @@ enum Put {
     Items,
 }
 
-/// The verbs that put symbols on: one by one, as a list by one model, as pairs with a model each, and as items, of which
-/// `bad7` is an error.
+/// The verbs that encode symbols: one by one, as a list with one model, as pairs of a symbol and a model, and as items.
+///
+/// Among the items, `bad7` is an error.
 const PUTS: &[(&str, Put)] = &[
     ("put", Put::Each),
     ("list", Put::List),
@@ -216,7 +217,7 @@ const PUTS: &[(&str, Put)] = &[
     ("items", Put::Items),
 ];
 
-/// Puts symbols on by the call that an act names, if it names one.
+/// Encodes symbols with the call that `act` names. Returns the answer, or `None` for other acts.
 pub fn put_by<C, M, const PRECISION: usize>(
     alloc: Global,
     coder: &mut C,
@@ -238,14 +239,14 @@ where
     })
 }
 
-/// The verbs that put symbols on from the last to the first.
+/// The verbs that encode symbols from last to first.
 const BACK: &[(&str, Put)] = &[
     ("back", Put::List),
     ("pairs-back", Put::Pairs),
     ("items-back", Put::Items),
 ];
 
-/// The same from the last symbol to the first.
+/// Encodes symbols from last to first, with the call that `act` names. Returns the answer, or `None` for other acts.
 pub fn put_back_by<C, M, const PRECISION: usize>(
     alloc: Global,
     coder: &mut C,

@@ -1,32 +1,32 @@
 //! Reading a script.
 //!
-//! A script is a text of acts. An act is a word, its verb, and the numbers behind it: what is done with them, or what is
-//! expected. `put 1 head 255` encodes the symbol 1, and expects the head 255 then. An act that is refused says so
-//! behind a `!`, as `list!full 1 1`. Among the items of a list `bad7` stands for the error 7. A line's end is a space
-//! like any other.
+//! A script is a text of acts. An act is a verb and the numbers after it. The verb names a call that uses the numbers,
+//! or a check that expects them. `put 1 head 255` encodes the symbol 1, and then expects the head 255. If an act
+//! expects a refusal, the answer follows the verb after a `!`, as in `list!full 1 1`. Among the items of a list, `bad7`
+//! stands for the error 7. Spaces and line ends separate the words of a script.
 
 use std::alloc::{AllocError, Global};
 
 /// An act of a script.
 #[derive(Drop)]
 pub struct Act<'a> {
-    /// The act as it stands in the script, which tells a failure.
+    /// The act's text in the script, which a failing test reports.
     pub text: &'static str,
     pub verb: &'static str,
-    /// What the call has to answer (see [`crate::answers`]).
+    /// The answer that the act expects of the call (see [`crate::answers`]).
     pub answer: &'static str,
     pub numbers: &'a [u128],
     /// The numbers as symbols.
     pub symbols: &'a [usize],
 }
 
-/// Where an act stands in a script.
+/// The place of an act in a script.
 #[derive(Clone, Copy)]
 struct Place {
     word: &'static str,
     /// The script from the act on.
     rest: &'static str,
-    /// How many numbers stand before its own.
+    /// How many numbers of the script come before the act's numbers.
     from: usize,
 }
 
@@ -38,10 +38,10 @@ pub struct Script {
     symbols: Vec<usize>,
 }
 
-/// The number of the error 0 in a script.
+/// The number that stands for the error 0. The error `k` has the number `BAD + k`.
 const BAD: u128 = 1 << 64;
 
-/// Returns the error that stands at a place of a script's numbers, if one does.
+/// Returns the error that `numbers[at]` stands for, or `None` if it stands for no error.
 pub fn error_at(numbers: &[u128], at: usize) -> Option<u8> {
     match numbers.get(at) {
         Some(number) if *number >= BAD => u8::try_from(*number - BAD).ok(),
@@ -49,7 +49,7 @@ pub fn error_at(numbers: &[u128], at: usize) -> Option<u8> {
     }
 }
 
-/// Returns the number that a word of a script is, if it is one.
+/// Returns the number that `word` stands for, or `None` if `word` is a verb.
 fn number_of(word: &str) -> Option<u128> {
     match word.strip_prefix("bad") {
         Some(rest) => rest.parse::<u8>().ok().map(|error| BAD + error as u128),
@@ -57,7 +57,7 @@ fn number_of(word: &str) -> Option<u128> {
     }
 }
 
-/// Returns what a verb means, by a table of verbs.
+/// Returns the meaning of `word` in the table `verbs`, or `None` if the table doesn't have it.
 pub fn find<Verb: Copy>(verbs: &[(&str, Verb)], word: &str) -> Option<Verb> {
     for (name, verb) in verbs {
         if *name == word {
@@ -67,13 +67,13 @@ pub fn find<Verb: Copy>(verbs: &[(&str, Verb)], word: &str) -> Option<Verb> {
     None
 }
 
-/// Returns a text from the first word at or behind a place on.
+/// Returns the end of `text` that begins with the first word at or after the byte `at`.
 fn rest_at(text: &'static str, at: usize) -> &'static str {
     text.get(at..).unwrap_or("").trim_start()
 }
 
 impl Script {
-    /// Reads a text.
+    /// Reads a script from its text.
     pub fn read(alloc: Global, text: &'static str) -> Result<Script, AllocError> {
         let mut script = Script {
             places: Vec::new(alloc),
@@ -92,7 +92,7 @@ impl Script {
         Ok(script)
     }
 
-    /// Adds a word, with which the rest of the script begins.
+    /// Adds `word` to the script. `rest` is the script's text from this word on.
     fn add(&mut self, word: &'static str, rest: &'static str) -> Result<(), AllocError> {
         match number_of(word) {
             Some(number) => {
@@ -113,7 +113,7 @@ impl Script {
         self.places.len()
     }
 
-    /// Returns an act.
+    /// Returns the act with the number `at`, counted from 0. Past the last act, the text and the verb are empty.
     pub fn act(&self, at: usize) -> Act<'_> {
         let end = Place {
             word: "",

@@ -1,4 +1,4 @@
-//! Symbols that are taken off any decoder, by steps and by iterators.
+//! Acts that decode symbols with any decoder, one by one and with iterators.
 
 use crate::answers::{DONE, MEMORY, OTHER, Told, answer_if};
 use crate::script::{Act, error_at, find};
@@ -8,7 +8,7 @@ use constriction_stream::decoding::Decode;
 use constriction_words::WordOf;
 use std::alloc::{AllocError, Global};
 
-/// Takes symbols off one by one, and compares each.
+/// Decodes symbols one by one, and compares them with `symbols`, until one differs. Returns the answer.
 pub fn take_each<C, M, const PRECISION: usize>(
     coder: &mut C,
     model: &M,
@@ -30,7 +30,7 @@ where
     DONE
 }
 
-/// Takes a symbol off, and compares it.
+/// Decodes a symbol, and compares it with `symbol`. Returns the answer.
 fn take_next<C, M, const PRECISION: usize>(coder: &mut C, model: &M, symbol: usize) -> &'static str
 where
     C: Decode<PRECISION>,
@@ -42,7 +42,7 @@ where
     came(coder.decode_symbol(model), symbol)
 }
 
-/// Returns the word of a symbol that came.
+/// Returns the answer of a decode that should return `symbol`.
 fn came<E: Told + Drop>(answer: Result<usize, E>, symbol: usize) -> &'static str {
     match answer {
         Ok(found) => answer_if(found == symbol),
@@ -50,7 +50,9 @@ fn came<E: Told + Drop>(answer: Result<usize, E>, symbol: usize) -> &'static str
     }
 }
 
-/// Compares what came of an item of an iterator with what a script's number asks for: a symbol, or an error.
+/// Returns whether `answer` is what an iterator should return at `at`: a symbol, an error, or its end.
+///
+/// `act` has the expected symbols, and the numbers that may stand for errors.
 fn is_as_asked<E: Told + Drop>(
     answer: Option<Result<usize, E>>,
     act: (&[usize], &[u128]),
@@ -64,7 +66,9 @@ fn is_as_asked<E: Told + Drop>(
     }
 }
 
-/// Takes the first of so many symbols off by one model, and compares them. The others are left.
+/// Decodes the first of `numbers[0]` symbols with one model, and compares them with the other numbers.
+///
+/// Drops the iterator then, so that the remaining symbols stay on the coder. Returns the answer.
 fn by_one<C, M, const PRECISION: usize>(coder: &mut C, model: &M, numbers: &[usize]) -> &'static str
 where
     C: Decode<PRECISION>,
@@ -88,7 +92,7 @@ where
     DONE
 }
 
-/// Returns so many times the same model.
+/// Returns a list of `count` references to `model`.
 fn models_of<M>(alloc: Global, model: &M, count: usize) -> Result<Vec<&M>, AllocError> {
     let mut models = Vec::new(alloc);
     for _ in 0..count {
@@ -97,7 +101,7 @@ fn models_of<M>(alloc: Global, model: &M, count: usize) -> Result<Vec<&M>, Alloc
     Ok(models)
 }
 
-/// Takes symbols off by an iterator over models, and compares what comes of each, and then.
+/// Decodes with an iterator over models, and compares the results with `symbols` up to the end. Returns the answer.
 fn by_models<C, M, const PRECISION: usize>(
     alloc: Global,
     coder: &mut C,
@@ -126,7 +130,7 @@ where
     DONE
 }
 
-/// Returns the model for each number, and the errors among them.
+/// Returns an item for each number: the error that it stands for, or else `model`.
 fn items_of<'a, M>(
     alloc: Global,
     model: &'a M,
@@ -142,7 +146,7 @@ fn items_of<'a, M>(
     Ok(items)
 }
 
-/// The same over models that may be errors.
+/// Decodes with an iterator over items, and compares the results with `act` up to the end. Returns the answer.
 fn by_items<C, M, const PRECISION: usize>(
     alloc: Global,
     coder: &mut C,
@@ -172,7 +176,7 @@ where
     DONE
 }
 
-/// How symbols are taken off.
+/// A way to decode symbols.
 #[derive(Clone, Copy)]
 enum Take {
     Each,
@@ -182,8 +186,13 @@ enum Take {
     ByItems,
 }
 
-/// The verbs that take symbols off: one by one; one that is refused; by an iterator of so many by one model, of which
-/// the symbols behind the count are taken; by one over models; by one over items, of which `bad7` is an error.
+/// The verbs that decode symbols.
+///
+/// - `take` decodes symbols one by one.
+/// - `next` decodes one symbol, and expects a refusal.
+/// - `by-one` decodes the first symbols of an iterator with one model. Its first number is the iterator's length.
+/// - `by-models` decodes with an iterator over models.
+/// - `by-items` decodes with an iterator over items, among which `bad7` is an error.
 const TAKES: &[(&str, Take)] = &[
     ("take", Take::Each),
     ("next", Take::Next),
@@ -192,7 +201,7 @@ const TAKES: &[(&str, Take)] = &[
     ("by-items", Take::ByItems),
 ];
 
-/// Takes symbols off by the call that an act names, if it names one.
+/// Decodes symbols with the call that `act` names. Returns the answer, or `None` for other acts.
 pub fn take_by<C, M, const PRECISION: usize>(
     alloc: Global,
     coder: &mut C,

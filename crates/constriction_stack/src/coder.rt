@@ -25,7 +25,7 @@ use std::marker::{Model, PhantomData};
 /// A stack of symbols: a head (the state `x` of rANS) of type `State` above a backend of words of type `Word`.
 ///
 /// The width of `State` is a whole number of words, at least two. The backend holds the words below the head. The word
-/// written last is the top word, which is read first. [`AnsCoder::new`] makes an empty coder.
+/// written last is the top word, which is read first. [`AnsCoder::new`] creates an empty coder.
 ///
 /// Contracts describe a coder by its `AnsValue`: the state (the head and the words below it) and the backend.
 ///
@@ -60,7 +60,7 @@ impl<Word: WordOf<State>, State: BitArray, Backend: Holds<Word, Stack>> Model
 }
 
 impl<Word: WordOf<State>, State: BitArray> AnsCoder<Word, State, Vec<Word>> {
-    /// Makes an empty coder: head 0 and no words.
+    /// Creates an empty coder: head 0 and no words.
     ///
     /// The call allocates nothing. The coder takes memory for its words from `alloc` later.
     ///
@@ -100,7 +100,7 @@ impl<Word: WordOf<State>, State: BitArray, Backend: Holds<Word, Stack>> AnsCoder
     State,
     Backend,
 > {
-    /// Returns whether the coder is empty: whether its head is 0.
+    /// Returns whether the coder is empty, which means that its head is 0.
     ///
     /// A new coder is empty, and it is empty again after all symbols encoded onto it are decoded. An empty coder may
     /// still hold symbols: encoding a symbol whose interval begins at 0 leaves an empty coder empty, and decoding
@@ -118,11 +118,11 @@ impl<Word: WordOf<State>, State: BitArray, Backend: Holds<Word, Stack>> AnsCoder
     State,
     Backend,
 > {
-    /// Makes a coder from a backend and a head.
+    /// Creates a coder from a backend and a head.
     ///
-    /// The head may be any number. If the backend has words and the head is below 2 to the power of (bits of `State` -
-    /// bits of `Word`), the state isn't normalized. Decoding from it works as usual. But if a symbol is encoded onto
-    /// it, decoding that symbol need not restore the state.
+    /// The head may be any number. If the backend has words and the head is below `2^(State::BITS - Word::BITS)`, the
+    /// state isn't normalized. Decoding from a state that isn't normalized works as usual. But if a symbol is encoded
+    /// onto this state, decoding that symbol need not restore the state.
     ///
     /// # Examples
     ///
@@ -174,7 +174,7 @@ impl<Word: WordOf<State>, State: BitArray, Backend: WriteWords<Word>> AnsCoder<
     State,
     Backend,
 > {
-    /// Makes an empty coder over an empty backend: head 0 and no words.
+    /// Creates an empty coder over an empty backend: head 0 and no words.
     ///
     /// The caller proves that the backend holds no words.
     ///

@@ -3,9 +3,9 @@
 //! An [`coder::AnsCoder`] holds a number, the head, above a stack of words. Encoding a symbol multiplies the head by
 //! about the inverse of the symbol's probability. If the head lacks room for the step, the coder first moves the head's
 //! lowest word onto the stack. Decoding removes the symbols in reverse order, and is the inverse of encoding on every
-//! normalized state. A state is normalized if its head is at least 2 to the power of (bits of `State` - bits of
-//! `Word`), or if no words are below the head. Each symbol may have its own model and precision, as long as the decoder
-//! gets the same models in reverse order.
+//! normalized state. A state is normalized if its head is at least `2^(State::BITS - Word::BITS)`, or if no words
+//! are below the head. Each symbol may have its own model and precision, as long as the decoder gets the same models in
+//! reverse order.
 //!
 //! ```
 //! let table = WeightTable::<u32, 24>::new(alloc, &[16777211, 5])?;

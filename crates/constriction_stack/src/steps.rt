@@ -8,7 +8,7 @@ ghost use Rattle.constriction_stack.specs.Ans.{EncodesOnto, RefillsBy, refilled,
 use constriction_base::backends::{Holds, ReadWords, Stack, WriteWords};
 use constriction_words::{BitArray, Reciprocal, WordOf};
 
-/// Returns the head after a pop, before a word moves in.
+/// Returns the head after a pop and before a refill.
 #[inline]
 pub fn popped_head<State: BitArray>(head: State, left: State, p: State, precision: u32) -> State
     requires within { precision < State.BITS }
@@ -22,7 +22,9 @@ pub fn popped_head<State: BitArray>(head: State, left: State, p: State, precisio
     head.shifted_right(precision).times(p).plus(offset)
 }
 
-/// Returns the head after the next word moved in, if the head is low and a word is left.
+/// Moves the next word into `head` if `head` is below `2^(State::BITS - Word::BITS)`, and returns the head.
+///
+/// If no word is left, the head is unchanged.
 #[inline]
 pub fn refilled<Word: WordOf<State>, State: BitArray, Backend: ReadWords<Word, Stack>>(
     bulk: &mut Backend,
@@ -49,7 +51,7 @@ pub fn refilled<Word: WordOf<State>, State: BitArray, Backend: ReadWords<Word, S
     Ok(head.shifted_left(Word::BITS).plus(word.widen()))
 }
 
-/// Returns the head after a push, and first writes the head's low word if the head has no room for the step.
+/// Writes the low word of `head` if the head has no room for the step, and returns the head after the push.
 #[inline(always)]
 pub fn pushed_onto<Word: WordOf<State>, State: BitArray, Backend: WriteWords<Word>>(
     bulk: &mut Backend,
@@ -85,7 +87,7 @@ pub fn pushed_onto<Word: WordOf<State>, State: BitArray, Backend: WriteWords<Wor
     ))
 }
 
-/// Returns the head after a push onto a head with room.
+/// Returns the head after a push onto `head`, which has room for the step.
 ///
 /// With a reciprocal this is `head + left + head / p * (2^precision - p)`, so that the quotient is the only
 /// operation that waits for the head.

@@ -1,4 +1,4 @@
-//! The acts of scripts on coders that are written and read.
+//! The interpreter of scripts on coders that can encode and decode.
 
 use crate::reading::{Below, is_at_head};
 use constriction_base::backends::{BoundedReadWords, ReadWords, Stack, WriteWords};
@@ -15,7 +15,7 @@ use constriction_stream::encoding::Encode;
 use constriction_words::{BitArray, WordOf};
 use std::alloc::Global;
 
-/// What is expected of a coder that stays.
+/// A check that leaves the coder unchanged.
 #[derive(Clone, Copy)]
 enum Shows {
     Head,
@@ -29,9 +29,13 @@ enum Shows {
     Exhausted,
 }
 
-/// The verbs that expect something: the head; the words below it, the top one last; the words that a guard of either
-/// form shows; how many words, bits, and bits that tell anything; a head of 0; that the next step may find no room; that
-/// no step will; that all symbols may have been taken off.
+/// The verbs of checks.
+///
+/// - `head` compares the head. `words` compares the words below the head, with the top word last.
+/// - `shows` and `shows-binary` compare the words that a guard lends.
+/// - `sizes` compares the numbers of words, bits and valid bits.
+/// - `empty` checks that the coder is empty, `full` that it may be full, and `exhausted` that it may be exhausted.
+/// - `no-limit` checks that the coder isn't full and can encode any number of symbols.
 const SHOWS: &[(&str, Shows)] = &[
     ("head", Shows::Head),
     ("words", Shows::Words),
@@ -44,7 +48,7 @@ const SHOWS: &[(&str, Shows)] = &[
     ("exhausted", Shows::Exhausted),
 ];
 
-/// Whether a guard shows these words.
+/// Compares the words that a guard lends with `numbers`. Returns the answer.
 fn shown<Word, State, Backend>(
     coder: &mut AnsCoder<Word, State, Backend>,
     numbers: &[u128],
@@ -62,7 +66,7 @@ where
     }
 }
 
-/// The same of the binary form.
+/// Compares the words in binary form that a guard lends with `numbers`. Returns the answer.
 fn shown_in_binary<Word, State, Backend>(
     coder: &mut AnsCoder<Word, State, Backend>,
     numbers: &[u128],
@@ -81,7 +85,7 @@ where
     }
 }
 
-/// Whether the coder has so many words, bits, and bits that tell anything.
+/// Returns whether `symbols` are the coder's numbers of words, bits and valid bits.
 fn has_sizes<Word, State, Backend>(
     coder: &AnsCoder<Word, State, Backend>,
     symbols: &[usize],
@@ -97,12 +101,12 @@ where
     symbols == [coder.num_words(), coder.num_bits(), coder.num_valid_bits()].as_slice()
 }
 
-/// Whether no step will be refused for lack of room, however many there are.
+/// Returns whether the coder isn't full and can encode any number of symbols.
 fn has_no_limit<C: Encode<PRECISION>, const PRECISION: usize>(coder: &C) -> bool {
     !coder.maybe_full() && coder.symbols_left() == usize::MAX
 }
 
-/// Compares what an act expects of a coder, if it expects something.
+/// Runs an act that checks a coder, and returns the answer. Returns `None` for other acts.
 fn show_by<Word, State, Backend, const PRECISION: usize>(
     coder: &mut AnsCoder<Word, State, Backend>,
     act: &Act<'_>,
@@ -128,7 +132,7 @@ where
     Some(answer_if(is_so))
 }
 
-/// Does an act with a coder.
+/// Runs an act with a coder, and returns the answer.
 pub fn act_by<Word, State, Backend, Probability, const PRECISION: usize>(
     alloc: Global,
     coder: &mut AnsCoder<Word, State, Backend>,
@@ -155,7 +159,7 @@ where
     show_by::<_, _, _, PRECISION>(coder, act).unwrap_or(OTHER)
 }
 
-/// Goes through a script, and returns the first act that a coder doesn't do as it says.
+/// Runs a script with a coder. Returns the text of the first act with an unexpected answer.
 pub fn follow<Word, State, Backend, Probability, const PRECISION: usize>(
     alloc: Global,
     coder: &mut AnsCoder<Word, State, Backend>,

@@ -1,9 +1,9 @@
-//! Each public call once. Heads and words by the definition of the coder, worked out apart.
+//! Tests of each public call, once. The heads and words were computed separately, from the coder's definition.
 
 use crate::coders::small;
 use std::test::Fail;
 
-/// A coder is made of a head and words, cleared, taken apart, exported and imported, and becomes each decoder.
+/// Checks making, clearing, taking apart, exporting and importing a coder, and each way to get a decoder.
 #[test]
 fn calls_of_a_coder(rt: HostRuntime) -> Result<(), Fail> {
     small(
@@ -32,7 +32,7 @@ fn calls_of_a_coder(rt: HostRuntime) -> Result<(), Fail> {
     )
 }
 
-/// Lists in order and from the last symbol on, each by one model, as pairs and as items.
+/// Checks list calls in both orders, with one model, pairs and items.
 #[test]
 fn calls_of_lists(rt: HostRuntime) -> Result<(), Fail> {
     small(
@@ -49,7 +49,7 @@ fn calls_of_lists(rt: HostRuntime) -> Result<(), Fail> {
     )
 }
 
-/// A coder that wrote on goes back to a position, and not to one past its end.
+/// Checks that a coder that encoded more symbols can seek back to a position, and not past its end.
 #[test]
 fn calls_of_positions(rt: HostRuntime) -> Result<(), Fail> {
     small(

@@ -1,4 +1,4 @@
-//! Scripts at concrete types: each call of the interpreter stands here once.
+//! Functions that run scripts at concrete types, so that most tests don't call the interpreter themselves.
 
 ghost use Rattle.constriction_base.specs.Steps.{IsSizes};
 ghost use Rattle.std.specs.Prelude.{◌≤◌};
@@ -15,13 +15,13 @@ use constriction_words::{BitArray, WordOf};
 use std::alloc::Global;
 use std::test::Fail;
 
-/// A coder of bytes below a head of two.
+/// A coder of 8-bit words and 16-bit heads.
 pub type Small = AnsCoder<u8, u16>;
 
-/// A table of 8 bits.
+/// A table with a precision of 8 bits.
 pub type Table = WeightTable<u8, 8>;
 
-/// What a script came to, as a test says it: by the first act that failed.
+/// Turns the first act that failed, if there is one, into the error of a test.
 pub fn said(failed: Option<&'static str>) -> Result<(), Fail> {
     match failed {
         Some(act) => Err(Fail::from(act)),
@@ -29,7 +29,9 @@ pub fn said(failed: Option<&'static str>) -> Result<(), Fail> {
     }
 }
 
-/// Goes through a script with a coder over a vector, which is new first, and a table of the weights.
+/// Runs a script with a new coder over a vector, and with a table of `weights`.
+///
+/// Returns the first act that failed, or `MEMORY` if there was no memory for the table or the script.
 pub fn go<Word, State, Probability, const PRECISION: usize>(
     alloc: Global,
     weights: &[Probability],
@@ -54,17 +56,17 @@ where
     }
 }
 
-/// Words of 8 bits below a head of 16.
+/// Runs a script with a coder of 8-bit words and 16-bit heads.
 pub fn small(alloc: Global, weights: &[u8], text: &'static str) -> Result<(), Fail> {
     said(go::<u8, u16, u8, 8>(alloc, weights, text))
 }
 
-/// Words of 32 bits below a head of 64.
+/// Runs a script with a coder of 32-bit words and 64-bit heads.
 pub fn wide(alloc: Global, weights: &[u32], text: &'static str) -> Result<(), Fail> {
     said(go::<u32, u64, u32, 24>(alloc, weights, text))
 }
 
-/// Words of 8 bits below a head of 16, over a buffer, from its beginning.
+/// Runs a script with a coder of 8-bit words and 16-bit heads over `buf`. The coder begins with `head` and no words.
 pub fn small_over(
     alloc: Global,
     weights: &[u8],

@@ -1,13 +1,12 @@
-//! Tests of the stack coder, and no code besides: the worked rows, and each public call once, at concrete types.
+//! Tests of the stack coder at concrete types: the worked rows, and each public call once.
 //!
-//! What a contract of `constriction_stack` says is proved there for all values. These tests stand for what no contract
-//! can say: that the definitions give the numbers that a reader expects, that calls which take memory succeed where
-//! there is some, and that a caller reaches each call. `tests/cases` has more tests of this coder, which are run without
-//! a proof.
+//! The contracts of `constriction_stack` are proved there for all values. These tests check what no contract can state:
+//! the definitions have the values that a reader expects, calls that need memory succeed if there is some, and a caller
+//! can make each call. `tests/cases` has more tests of this coder, which run without a proof.
 //!
-//! A test is a script (`constriction_scripts`): what is done with a coder and what is expected of it, as text. [`acts`]
-//! and [`owning`] go through it, at the types of [`coders`]. So each call stands once in a helper without clauses, whatever
-//! types and however many tests there are.
+//! A test is a script (`constriction_scripts`): a text that says what to do with a coder, and what to expect of it.
+//! [`acts`] and [`owning`] run scripts, at the types of [`coders`]. So one helper without postconditions makes each
+//! call, for all types and all tests.
 #![tactic(auto)]
 
 #[cfg(test)]

@@ -1,4 +1,4 @@
-//! The acts of scripts on coders over vectors, which can be made, taken apart and exported.
+//! The interpreter of scripts on coders over vectors, which can also be made, taken apart and exported.
 
 ghost use Rattle.constriction_base.specs.Steps.{IsSizes};
 
@@ -18,7 +18,7 @@ use constriction_words::{BitArray, WordOf};
 use std::alloc::{AllocError, Global};
 use std::mem;
 
-/// What is done with a coder over a vector.
+/// An act on a coder over a vector.
 #[derive(Clone, Copy)]
 enum Owned {
     Make(Make),
@@ -30,7 +30,7 @@ enum Owned {
     Seek,
 }
 
-/// How a coder takes the place of another.
+/// A way to replace a coder by another coder.
 #[derive(Clone, Copy)]
 enum Make {
     Clear,
@@ -40,7 +40,7 @@ enum Make {
     Parts,
 }
 
-/// Which decoder gives the symbols.
+/// A way to get a decoder from a coder.
 #[derive(Clone, Copy)]
 enum Lend {
     Lent,
@@ -50,10 +50,15 @@ enum Lend {
     OwnedByTrait,
 }
 
-/// The verbs that make a coder: `clear` takes all off; `of` has a head and the words behind it; `import` and
-/// `import-binary` have the words of a form; `parts` takes it apart and puts it together again. Those by which a decoder
-/// gives all symbols: it borrows the words, is made from a reference, or owns them, which leaves a new coder. Those that
-/// compare words: exports, which leave a new coder, and `given`, one by one. Those of a place and a head.
+/// The verbs of coders over vectors.
+///
+/// - `clear` clears the coder. `of` makes a coder from a head and words. `import` and `import-binary` import a coder
+///   from words. `parts` takes the coder apart and puts it together again.
+/// - `lent`, `lent-by-trait` and `made` decode all symbols with a decoder that borrows the words. `owned` and
+///   `owned-by-trait` decode all symbols with a decoder that owns the words, and leave a new coder.
+/// - `export` and `export-binary` compare the exported words, and leave a new coder. `given` compares the words that
+///   an iterator returns.
+/// - `at` compares the position: a place and a head. `seek` seeks to a place and a head.
 const VERBS: &[(&str, Owned)] = &[
     ("clear", Owned::Make(Make::Clear)),
     ("of", Owned::Make(Make::Of)),
@@ -72,7 +77,7 @@ const VERBS: &[(&str, Owned)] = &[
     ("seek", Owned::Seek),
 ];
 
-/// Makes a coder of a head and the words below it.
+/// Makes a coder from a head and the words below it. Returns the answer.
 fn make_of<Word, State>(
     alloc: Global,
     coder: &mut AnsCoder<Word, State>,
@@ -95,7 +100,9 @@ where
     }
 }
 
-/// Makes a coder of words. Where there is none, all but the last come back.
+/// Imports a coder from words. Returns the answer.
+///
+/// The answer is `none` if the import is refused, and hands back all words except the last.
 fn import<Word, State>(
     alloc: Global,
     coder: &mut AnsCoder<Word, State>,
@@ -119,7 +126,7 @@ where
     }
 }
 
-/// Makes a coder of the words of a binary form.
+/// Imports a coder from words in binary form. Returns the answer.
 fn import_binary<Word, State>(
     alloc: Global,
     coder: &mut AnsCoder<Word, State>,
@@ -142,7 +149,7 @@ where
     }
 }
 
-/// Returns the coder, and leaves a new one in its place.
+/// Returns the coder, and leaves a new coder in its place.
 fn taken<Word, State>(alloc: Global, coder: &mut AnsCoder<Word, State>) -> AnsCoder<Word, State>
 where
     Word: WordOf<State>,
@@ -152,7 +159,7 @@ where
     mem::replace(coder, AnsCoder::new(alloc))
 }
 
-/// Takes a coder apart, and puts its parts together.
+/// Takes a coder apart, and puts its parts together again.
 fn put_together<Word, State>(coder: AnsCoder<Word, State>) -> AnsCoder<Word, State>
 where
     Word: WordOf<State>,
@@ -163,7 +170,7 @@ where
     AnsCoder::from_raw_parts(bulk, state)
 }
 
-/// Makes another coder.
+/// Replaces the coder by another coder, in the way `make`. Returns the answer.
 fn make_by<Word, State>(
     alloc: Global,
     coder: &mut AnsCoder<Word, State>,
@@ -185,7 +192,7 @@ where
     DONE
 }
 
-/// Compares the words that a coder exports.
+/// Exports a coder, and compares the words with `numbers`. Returns the answer.
 pub fn export<Word, State, Backend>(
     coder: AnsCoder<Word, State, Backend>,
     numbers: &[u128],
@@ -202,7 +209,7 @@ where
     }
 }
 
-/// The same of its binary form.
+/// Exports a coder in binary form, and compares the words with `numbers`. Returns the answer.
 pub fn export_binary<Word, State, Backend>(
     coder: AnsCoder<Word, State, Backend>,
     numbers: &[u128],
@@ -220,7 +227,7 @@ where
     }
 }
 
-/// Whether a coder gives these words one by one.
+/// Returns whether the coder's iterator returns exactly the words `numbers`.
 fn are_given<Word, State>(coder: &AnsCoder<Word, State>, numbers: &[u128]) -> bool
 where
     Word: WordOf<State> + Number,
@@ -236,7 +243,7 @@ where
     words.next().is_none()
 }
 
-/// Whether a decoder gives the symbols, and is empty then.
+/// Returns whether `decoder` decodes `symbols`, and is empty then.
 fn all_come<Word, State, Backend, Probability, const PRECISION: usize>(
     mut decoder: AnsCoder<Word, State, Backend>,
     table: &WeightTable<Probability, PRECISION>,
@@ -252,7 +259,7 @@ where
     take_each(&mut decoder, table, symbols) == DONE && decoder.is_empty()
 }
 
-/// The same of a decoder that borrows the words.
+/// Returns whether a decoder that borrows the words decodes `symbols`, and is empty then.
 fn lent_gives<Word, State, Probability, const PRECISION: usize>(
     coder: &AnsCoder<Word, State>,
     table: &WeightTable<Probability, PRECISION>,
@@ -274,7 +281,7 @@ where
     }
 }
 
-/// The same of a decoder that owns the words.
+/// Turns a coder into a decoder with `IntoDecoder`. Returns whether it decodes `symbols`, and is empty then.
 fn owned_gives<Word, State, Probability, const PRECISION: usize>(
     coder: AnsCoder<Word, State>,
     table: &WeightTable<Probability, PRECISION>,
@@ -291,7 +298,7 @@ where
     }
 }
 
-/// Has a decoder give all symbols.
+/// Gets a decoder in the way `lend`. Returns whether it decodes `symbols`, and is empty then.
 fn lend_by<Word, State, Probability, const PRECISION: usize>(
     alloc: Global,
     coder: &mut AnsCoder<Word, State>,
@@ -312,7 +319,7 @@ where
     }
 }
 
-/// Does an act with a coder over a vector.
+/// Runs an act with a coder over a vector, and returns the answer.
 pub fn own_by<Word, State, Probability, const PRECISION: usize>(
     alloc: Global,
     coder: &mut AnsCoder<Word, State>,
@@ -337,7 +344,7 @@ where
     }
 }
 
-/// Goes through a script with a coder over a vector.
+/// Runs a script with a coder over a vector. Returns the text of the first act with an unexpected answer.
 pub fn follow_owning<Word, State, Probability, const PRECISION: usize>(
     alloc: Global,
     coder: &mut AnsCoder<Word, State>,

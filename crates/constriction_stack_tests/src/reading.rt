@@ -1,4 +1,4 @@
-//! Heads, words and places of coders, as scripts write them.
+//! Heads, words and positions of coders as scripts write them, and interpreters for coders that can only decode.
 
 use constriction_base::backends::{
     BoundedReadWords, Holds, Pos, PosSeek, ReadWords, Seek, Stack, Words,
@@ -14,7 +14,7 @@ use constriction_stream::coder::Code;
 use constriction_words::{BitArray, WordOf};
 use std::alloc::Allocator;
 
-/// Lends the words of the stack that a backend holds, the top one last.
+/// A backend that lends the words of its stack, with the top word last.
 pub trait Below<Word> {
     fn below(&self) -> &[Word];
 }
@@ -35,7 +35,7 @@ impl<'a, Word: BitArray + 'a> Below<Word> for Cursor<Word, &'a mut [Word]> {
     }
 }
 
-/// Compares the head.
+/// Returns whether the coder's head is the number of `act`.
 pub fn is_at_head<Word, State, Backend>(
     coder: &AnsCoder<Word, State, Backend>,
     act: &Act<'_>,
@@ -48,7 +48,7 @@ where
     act.numbers == [coder.state().shown()].as_slice()
 }
 
-/// The place and the head of an act.
+/// Returns the place and the head of `act`, or `None` if a number is missing.
 fn place_of<State: Number>(act: &Act<'_>) -> Option<(usize, State)> {
     match (act.symbols.first(), act.numbers.get(1)) {
         (Some(place), Some(head)) => Some((*place, State::of(*head))),
@@ -56,7 +56,7 @@ fn place_of<State: Number>(act: &Act<'_>) -> Option<(usize, State)> {
     }
 }
 
-/// Goes to the place of an act.
+/// Seeks to the place and the head of `act`. Returns the answer.
 pub fn seek<Word, State, Backend>(
     coder: &mut AnsCoder<Word, State, Backend>,
     act: &Act<'_>,
@@ -73,7 +73,7 @@ where
     }
 }
 
-/// Compares the place and the head of a coder.
+/// Returns whether the coder's position is the place and the head of `act`.
 pub fn stands_at<Word, State, Backend>(
     coder: &AnsCoder<Word, State, Backend>,
     act: &Act<'_>,
@@ -88,7 +88,7 @@ where
     act.symbols.first() == Some(&place) && act.numbers.get(1) == Some(&head.shown())
 }
 
-/// Does an act with a coder that is only read.
+/// Runs an act with a coder that can only decode, and returns the answer.
 fn read_by<State, Backend>(
     coder: &mut AnsCoder<u8, State, Backend>,
     table: &WeightTable<u8, 8>,
@@ -107,7 +107,7 @@ where
     }
 }
 
-/// Goes through a script with a coder that is only read.
+/// Runs a script with a coder that can only decode. Returns the text of the first act with an unexpected answer.
 pub fn follow_reading<State, Backend>(
     coder: &mut AnsCoder<u8, State, Backend>,
     table: &WeightTable<u8, 8>,
@@ -128,7 +128,7 @@ where
     None
 }
 
-/// Goes through a script with a coder that goes to places.
+/// Runs a script with a coder that can decode and seek. Returns the text of the first act with an unexpected answer.
 pub fn follow_seeking<State, Backend>(
     coder: &mut AnsCoder<u8, State, Backend>,
     table: &WeightTable<u8, 8>,

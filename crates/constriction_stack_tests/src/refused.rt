@@ -1,9 +1,9 @@
-//! Requests for memory that are refused, one at a time, of calls over a vector.
+//! Tests of calls over a vector with requests for memory refused, one at a time.
 //!
-//! `tests/refused-memory` runs these tests once for each request that they make, and has it refused. A test then says
-//! by its error which call it was, where that call answered want of memory, left what it has to, and went when it was
-//! made again. It says `Memory` where the request was the test's own. Where none is refused, a test passes. Heads and words
-//! by hand.
+//! `tests/refused-memory` runs these tests once for each request for memory that they make, and refuses it. A test then
+//! fails with the name of the call that made the request, if the call reported that there was no memory, left the coder
+//! as it must, and succeeded when it was made again. A test fails with `Memory` if the test itself made the request. If
+//! no request is refused, a test passes. The heads and words were computed by hand.
 
 use crate::coders::{Small, Table};
 use crate::owning::{export, export_binary, follow_owning, own_by};
@@ -15,18 +15,18 @@ use constriction_stream::coder::Code;
 use std::alloc::{AllocError, Global};
 use std::test::Fail;
 
-/// A call, and what it leaves.
+/// A call, and the scripts that check the coder after the call.
 #[derive(Clone, Copy)]
 struct Call {
     name: &'static str,
     act: &'static str,
-    /// What the coder is where memory was refused, and the call that is left then.
+    /// The script that checks the coder after a refusal, and makes the rest of the call.
     kept: &'static str,
-    /// What it is in the end.
+    /// The script that checks the coder in the end.
     done: &'static str,
 }
 
-/// Goes through a script with a coder of bytes.
+/// Runs a script. Returns `DONE`, `OTHER` if an act fails, or `MEMORY` if there is no memory for the script.
 fn goes(alloc: Global, coder: &mut Small, table: &Table, text: &'static str) -> &'static str {
     match Script::read(alloc, text) {
         Ok(script) => match follow_owning(alloc, coder, table, &script) {
@@ -37,7 +37,7 @@ fn goes(alloc: Global, coder: &mut Small, table: &Table, text: &'static str) -> 
     }
 }
 
-/// Does one act.
+/// Runs the first act of a script, and returns its answer.
 fn does(alloc: Global, coder: &mut Small, table: &Table, text: &'static str) -> &'static str {
     match Script::read(alloc, text) {
         Ok(script) => own_by(alloc, coder, table, &script.act(0)),
@@ -45,8 +45,10 @@ fn does(alloc: Global, coder: &mut Small, table: &Table, text: &'static str) -> 
     }
 }
 
-/// Makes a call on a coder of the head 300 above the word 7, whose vector has no room for another one, and what is left
-/// of the call where memory was refused. Returns what is said of that, or nothing.
+/// Makes a call and checks the coder. Returns the error of the test, or `DONE`.
+///
+/// The coder has the head 300, the word 7, and a vector without room for another word. If memory is refused, the
+/// function makes the rest of the call. The error is then the call's name.
 fn comes_of(alloc: Global, coder: &mut Small, table: &Table, call: &Call) -> &'static str {
     if goes(alloc, coder, table, "of 300 7") != DONE {
         return MEMORY;
@@ -63,7 +65,7 @@ fn comes_of(alloc: Global, coder: &mut Small, table: &Table, call: &Call) -> &'s
     }
 }
 
-/// The calls of lists, which put the symbols on in the order 0, 2, 1.
+/// The names and acts of the list calls, which encode the symbols in the order 0, 2, 1.
 const LISTS: &[(&str, &str)] = &[
     ("encode_iid_symbols", "list 0 2 1"),
     ("encode_symbols", "pairs 0 2 1"),
@@ -95,7 +97,7 @@ const CALLS: &[Call] = &[
     },
 ];
 
-/// Makes a call on a coder of its own.
+/// Makes a call on a new coder. Fails with the error that [`comes_of`] returns.
 fn call_goes(alloc: Global, table: &Table, call: &Call) -> Result<(), Fail> {
     let mut coder: Small = AnsCoder::new(alloc);
     match comes_of(alloc, &mut coder, table, call) {
@@ -123,7 +125,7 @@ fn refused_requests_of_calls(rt: HostRuntime) -> Result<(), Fail> {
     Ok(())
 }
 
-/// Exports a coder by one of both forms.
+/// Exports a coder, and compares the words with the expected words. Returns the answer.
 fn exports(coder: Small, is_binary: bool) -> &'static str {
     if is_binary {
         export_binary(coder, &[7, 44])
@@ -132,12 +134,12 @@ fn exports(coder: Small, is_binary: bool) -> &'static str {
     }
 }
 
-/// Compares a coder.
+/// Returns whether the coder has the head 300 and the word 7.
 fn holds(coder: &Small) -> bool {
     coder.state() == 300 && coder.bulk().as_slice() == [7u8].as_slice()
 }
 
-/// Exports a coder. Where that finds no memory, so does a copy from before, which held the same.
+/// Exports a coder, and exports `copy` if there was no memory. Returns the test's error, or `DONE`.
 fn export_or_copy(coder: Small, copy: Small, is_binary: bool, name: &'static str) -> &'static str {
     if !(holds(&coder) & holds(&copy)) {
         return OTHER;
@@ -148,7 +150,7 @@ fn export_or_copy(coder: Small, copy: Small, is_binary: bool, name: &'static str
     }
 }
 
-/// Copies a coder, and exports it. A copy that found no memory is made then.
+/// Clones a coder and exports it. If the clone is refused, clones it again. Returns the test's error, or `DONE`.
 fn export_goes(alloc: Global, is_binary: bool, name: &'static str) -> Result<&'static str, Fail> {
     let coder: Small = AnsCoder::from_raw_parts([7u8].to_vec(alloc)?, 300);
     match coder.clone() {

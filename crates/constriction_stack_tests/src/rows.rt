@@ -1,9 +1,9 @@
-//! The worked rows. Heads and words by hand.
+//! Tests of the worked rows. The heads and words were computed by hand.
 
 use crate::coders::{small, small_over, wide};
 use std::test::Fail;
 
-/// The weights of the table at words of 32 bits.
+/// The weights of the table for coders of 32-bit words.
 const WIDE: [u32; 3] = [3, 2, 16777211];
 
 #[test]
@@ -52,7 +52,7 @@ fn ans_binary_zero_words(rt: HostRuntime) -> Result<(), Fail> {
     )
 }
 
-/// The binary form through a guard and without one, and heads with no words below their leading 1.
+/// Checks the binary form with a guard and without a guard, and heads that have no binary form.
 #[test]
 fn ans_binary_forms(rt: HostRuntime) -> Result<(), Fail> {
     wide(
@@ -86,7 +86,7 @@ fn ans_sizes(rt: HostRuntime) -> Result<(), Fail> {
     wide(rt.alloc(), &WIDE, "import-binary 5 0 sizes 3 96 64")
 }
 
-/// The cursor still stands at its beginning then, with no word before it.
+/// Checks that a guard without room for its words is refused, and leaves the cursor at its beginning.
 #[test]
 fn ans_cursor_full(rt: HostRuntime) -> Result<(), Fail> {
     small_over(
@@ -99,19 +99,19 @@ fn ans_cursor_full(rt: HostRuntime) -> Result<(), Fail> {
     )
 }
 
-/// The symbols before an unknown one are put on.
+/// Checks that a list call encodes the symbols before an unknown symbol.
 #[test]
 fn list_stops_at_unknown(rt: HostRuntime) -> Result<(), Fail> {
     small(rt.alloc(), &[255, 1], "pairs!unknown 1 5 1 head 255 words")
 }
 
-/// The symbols before an error are put on.
+/// Checks that a list call encodes the symbols before an error.
 #[test]
 fn list_stops_at_bad_model(rt: HostRuntime) -> Result<(), Fail> {
     small(rt.alloc(), &[255, 1], "items!bad7 1 bad7 1 head 255 words")
 }
 
-/// An error in the place of a table keeps the coder, and the next table goes on.
+/// Checks that an error in the place of a table leaves the coder unchanged, and the iterator goes on after it.
 #[test]
 fn iterator_goes_on(rt: HostRuntime) -> Result<(), Fail> {
     small(
@@ -123,7 +123,7 @@ fn iterator_goes_on(rt: HostRuntime) -> Result<(), Fail> {
     )
 }
 
-/// Symbols that an iterator didn't give stay on the coder.
+/// Checks that symbols that an iterator didn't return stay on the coder.
 #[test]
 fn iterator_dropped_early(rt: HostRuntime) -> Result<(), Fail> {
     small(

@@ -1,4 +1,4 @@
-//! Coders over words that are only read: slices, words in reverse, and iterators.
+//! Tests of coders that can only decode: over slices, over words in reverse, and over iterators.
 
 use crate::coders::{Table, said};
 use crate::reading::follow_seeking;
@@ -12,7 +12,7 @@ use constriction_stack::AnsCoder;
 use constriction_stream::coder::Code;
 use std::test::Fail;
 
-/// A table, a script of words in the order of an export, and one of words in reverse.
+/// A table, a script for words in the order of an export, and a script for words in reverse.
 #[derive(Drop)]
 struct Scripts {
     table: Table,
@@ -20,7 +20,7 @@ struct Scripts {
     reversed: Script,
 }
 
-/// Goes through a script over a slice.
+/// Runs a script with a coder over a slice. Returns the first act that failed.
 fn go_over_slice(words: &[u8], scripts: &Scripts) -> Option<&'static str> {
     match AnsCoder::<u8, u16, Cursor<u8, &[u8]>>::from_compressed_slice(words) {
         Ok(mut coder) => follow_seeking(&mut coder, &scripts.table, &scripts.there),
@@ -28,7 +28,7 @@ fn go_over_slice(words: &[u8], scripts: &Scripts) -> Option<&'static str> {
     }
 }
 
-/// The same over words in reverse, over those turned round, and over these turned back.
+/// Runs scripts with a coder over reversed words, then reversed once and twice. Returns the first act that failed.
 fn go_over_reversed(words: Vec<u8>, scripts: &Scripts) -> Option<&'static str> {
     match AnsCoder::<u8, u16, Reverse<Cursor<u8, Vec<u8>>>>::from_reversed_compressed(words) {
         Ok(mut coder) => {
@@ -42,7 +42,7 @@ fn go_over_reversed(words: Vec<u8>, scripts: &Scripts) -> Option<&'static str> {
     }
 }
 
-/// The same of the coder that was turned round.
+/// Runs scripts with a coder, and with the coder after it is reversed. Returns the first act that failed.
 fn go_over_turned(
     mut coder: AnsCoder<u8, u16, Cursor<u8, Vec<u8>>>,
     scripts: &Scripts,
@@ -77,7 +77,7 @@ fn ans_seekable_and_reversed(rt: HostRuntime) -> Result<(), Fail> {
     said(go_over_reversed(words, &scripts))
 }
 
-/// Words whose second can't be read leave an iterator at its end.
+/// Returns whether an import is refused if the second word can't be read, and hands back the iterator at its end.
 fn an_error_ends_words() -> bool {
     let words = [Ok(5u8), Err('e')].into_iter();
     match AnsCoder::<u8, u16, FallibleIteratorReadWords<_>>::from_reversed_compressed_iter(words) {
@@ -86,7 +86,9 @@ fn an_error_ends_words() -> bool {
     }
 }
 
-/// The same in the binary form, where the head has room for the second.
+/// Returns whether an import of words in binary form is refused if the second word can't be read.
+///
+/// The head has room for the second word.
 fn an_error_ends_binary_words() -> bool {
     let words = [Ok(0u32), Err('e')].into_iter();
     matches!(
@@ -95,7 +97,7 @@ fn an_error_ends_binary_words() -> bool {
     )
 }
 
-/// Where the first fills the head, the second isn't read.
+/// Returns whether an import doesn't read the second word if the first word fills the head.
 fn a_head_of_one_word() -> bool {
     let words = [Ok(0u32), Err('e')].into_iter();
     match AnsCoder::<u32, u64, FallibleIteratorReadWords<_>>::from_reversed_binary_iter(words) {
@@ -109,7 +111,7 @@ fn ans_reversed_iterators(rt: HostRuntime) {
     assert!(rt; an_error_ends_words() & an_error_ends_binary_words() & a_head_of_one_word());
 }
 
-/// Where a coder of the words 5 and 0 in the binary form stands, and one of the words in reverse.
+/// Returns whether coders of the words 5 and 0 in binary form, in order and in reverse, are at the position (1, 256).
 fn binary_slices_stand_there() -> bool {
     let there = AnsCoder::<u8, u16, Cursor<u8, &[u8]>>::from_binary_slice(&[5, 0]);
     let reversed = AnsCoder::<u8, u16, Reverse<Cursor<u8, &[u8]>>>::from_reversed_binary([

@@ -1,4 +1,4 @@
-//! Encoding chunks to words and an index.
+//! Encoding chunks into words and an index.
 
 ghost use Rattle.std.specs.Prelude.{◌≡◌, ◌↔◌, ◌+◌, ◌-◌, ◌^◌, ◌≤◌, ◌<◌, length, map, IfOk, IfErr, OnOk, Err, IsTrue};
 ghost use Rattle.constriction_base.specs.Models.{items_of};
@@ -20,7 +20,7 @@ use constriction_words::{BitArray, WordOf};
 use std::alloc::Global;
 use thiserror::Error;
 
-/// The reason why chunks make no store.
+/// The reason why a store of chunks can't be built.
 ///
 /// # Examples
 ///
@@ -31,15 +31,15 @@ use thiserror::Error;
 /// ```
 #[derive(Debug, Clone, Copy, PartialEq, Eq, Error)]
 pub enum BuildError {
-    /// The chunks have more than [`MOST_SYMBOLS`] symbols together.
+    /// All chunks together have more than [`MOST_SYMBOLS`] symbols.
     #[error("too many symbols")]
     TooLong,
     /// The model has no entry for a symbol.
     #[error("Impossible symbol.")]
     ImpossibleSymbol {
-        /// The number of the chunk, from 0.
+        /// The number of the chunk, counted from 0.
         chunk: usize,
-        /// The number of the symbol in the chunk, from 0.
+        /// The number of the symbol in the chunk, counted from 0.
         index: usize,
     },
     /// There is no memory for the words or the index.
@@ -61,14 +61,14 @@ fn are_few(chunks: &[Vec<usize>]) -> bool
     true
 }
 
-/// The error of a chunk that wasn't encoded: the place of the first unknown symbol, or no memory.
+/// The error of encoding a chunk: the number of the first impossible symbol, counted from 0, or lack of memory.
 #[derive(Clone, Copy)]
 enum Refusal {
     Impossible(usize),
     Memory,
 }
 
-/// Encodes the symbols of a chunk.
+/// Encodes the symbols of one chunk under `model`.
 fn encode_chunk<
     Word: WordOf<State>,
     State: BitArray,
@@ -98,7 +98,7 @@ where
     Ok(())
 }
 
-/// Encodes chunks on a new encoder, and returns the index.
+/// Encodes `chunks` with a new encoder, and returns their index.
 fn encode_chunks<
     Word: WordOf<State>,
     State: BitArray,
@@ -152,21 +152,21 @@ impl<
 where
     M::Probability: WordOf<Word>,
 {
-    /// Makes a store of chunks.
+    /// Builds a store of `chunks` under `model`.
     ///
     /// A range encoder that starts empty encodes the chunks in order. Its seal is self-delimiting, so any words may
     /// follow the store's words.
     ///
     /// # Errors
     ///
-    /// - `TooLong` exactly if the chunks have more than [`MOST_SYMBOLS`] symbols together. This is checked before any
-    ///   encoding.
-    /// - `ImpossibleSymbol` if the model has no entry for a symbol. The error's fields say where the first of these
-    ///   symbols is.
+    /// - `TooLong` exactly if all chunks together have more than [`MOST_SYMBOLS`] symbols. The call checks this before
+    ///   it encodes a symbol.
+    /// - `ImpossibleSymbol` if the model has no entry for a symbol. The error's fields locate the first impossible
+    ///   symbol.
     /// - `Memory` if there is no memory for the words or the index.
     ///
-    /// Encoding stops at the first `ImpossibleSymbol` or `Memory`. For an empty list of chunks the call returns
-    /// neither.
+    /// Encoding stops at the first `ImpossibleSymbol` or `Memory`. For an empty list of chunks, the call returns no
+    /// error.
     ///
     /// # Examples
     ///

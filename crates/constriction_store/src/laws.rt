@@ -28,8 +28,8 @@ pub fn one_chunk_at_entry()
 
 /// A look-up depends only on the words of its chunk, and on the `s / w` words after them.
 ///
-/// If the list `others` has the same words at these positions, decoding it from the chunk's entry returns the same
-/// symbols.
+/// If the list `others` has the same words at these positions, decoding `others` from the chunk's entry returns the
+/// same symbols.
 pub fn other_words_are_not_read()
     ensures { (w s : ℕ) (model : Model ℕ) (words others : List ℕ) (entry : Entry) (symbols : List ℕ) (last : Run) →
         IsSizes w s → AreWords w words → AreWords w others →
@@ -40,12 +40,12 @@ pub fn other_words_are_not_read()
 
 /// Looks up the chunks with the numbers `places`, in order.
 ///
-/// For a store from [`Store::build`], the call returns the chunks that `build` was given, with these numbers. For any
-/// store, it returns the symbols that the store's words encode at the entries with these numbers.
+/// For a store from [`Store::build`], the call returns the chunks with these numbers that the caller passed to `build`.
+/// For any store, it returns the symbols that the store's words encode at the entries with these numbers.
 ///
 /// # Errors
 ///
-/// The error of the first look-up that fails, or `Memory` if there is no memory for the list of chunks.
+/// Returns the error of the first look-up that fails, or `Memory` if there is no memory for the list of chunks.
 pub fn look_up<
     Word: WordOf<State>,
     State: BitArray,
@@ -93,7 +93,7 @@ pub enum ThroughStore {
 /// Builds a store of chunks, and looks up the chunks with the numbers `places`.
 ///
 /// `places` may list the numbers in any order. Returns the store and the chunks looked up, in the order of `places`.
-/// Each equals the given chunk with the same number.
+/// Each chunk looked up equals the chunk of `chunks` with the same number.
 ///
 /// # Errors
 ///
@@ -129,10 +129,11 @@ where
     }
 }
 
-/// Builds a store, takes it apart, and looks up chunks in a store made from the parts.
+/// Builds a store, takes it apart, and looks up chunks in a store built from the parts.
 ///
-/// Calls `build`, `into_parts`, `from_parts`, and `chunk` for each number in `places`. Returns the store made from the
-/// parts, and the chunks looked up, in the order of `places`. Each chunk equals the given chunk with the same number.
+/// Calls `build`, `into_parts`, `from_parts`, and `chunk` for each number in `places`. Returns the store built from the
+/// parts, and the chunks looked up, in the order of `places`. Each chunk looked up equals the chunk of `chunks` with
+/// the same number.
 ///
 /// # Errors
 ///

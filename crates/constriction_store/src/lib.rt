@@ -8,7 +8,7 @@
 //!
 //! - [`building`]: encoding chunks.
 //! - [`looking_up`]: decoding one chunk.
-//! - [`parts`]: taking a store apart, and making a store from parts.
+//! - [`parts`]: taking a store apart, and building a store from its parts.
 //! - [`laws`]: theorems about the words at an entry, and about looking up chunks in any order.
 #![tactic(auto)]
 
@@ -30,8 +30,8 @@ pub const MOST_SYMBOLS: usize = 1048576;
 
 /// Chunks of symbols under one model: the words of a range encoder, and an index of where each chunk begins.
 ///
-/// Contracts see a `Stored`: the numbers of the words, the entries of the index, and the model. [`Store::build`] and
-/// [`Store::chunk`] have examples.
+/// Contracts describe a store by a `Stored`: the values of its words, the entries of its index, and its model.
+/// [`Store::build`] and [`Store::chunk`] have examples.
 #[derive(Drop)]
 pub struct Store<
     Word: WordOf<State>,

@@ -27,7 +27,7 @@ pub enum ChunkError {
     /// The store has no chunk with this number.
     #[error("no such chunk")]
     NoSuchChunk,
-    /// For one of the chunk's symbols, the words encode no symbol of the model.
+    /// At the chunk's entry, the words encode fewer symbols of the model than the entry states.
     #[error("invalid chunk")]
     Invalid,
     /// There is no memory for the symbols.
@@ -35,7 +35,7 @@ pub enum ChunkError {
     Memory,
 }
 
-/// Makes a decoder of borrowed words at a position.
+/// Returns a decoder of `words` that is at the position `place` and in the state `state`.
 fn decoder_at<'a, Word: WordOf<State>, State: BitArray>(
     words: &'a [Word],
     place: usize,
@@ -58,7 +58,7 @@ fn decoder_at<'a, Word: WordOf<State>, State: BitArray>(
     }
 }
 
-/// Decodes `len` symbols.
+/// Decodes `len` symbols under `model`.
 fn decode_chunk<
     Word: WordOf<State>,
     State: BitArray,
@@ -105,15 +105,15 @@ where
 {
     /// Decodes the symbols of chunk `i`.
     ///
-    /// A decoder of the store's words seeks to the chunk's position, and decodes the number of symbols that the index
-    /// gives for the chunk. It reads the words of the chunk and the `State::BITS / Word::BITS` words after them, and no
-    /// others.
+    /// A decoder of the store's words seeks to the chunk's position, and decodes the number of symbols that the chunk's
+    /// entry states. It reads the words of the chunk, the `State::BITS / Word::BITS` words after them, and no other
+    /// words.
     ///
     /// # Errors
     ///
     /// - `NoSuchChunk` exactly if `i` is at least the number of chunks.
-    /// - `Invalid` if, for one of the chunk's symbols, the words encode no symbol of the model. A store from
-    ///   [`Store::build`] never returns it.
+    /// - `Invalid` if, at the chunk's entry, the words encode fewer symbols of the model than the entry states. For a
+    ///   store from [`Store::build`], the call never returns this error.
     /// - `Memory` if there is no memory for the symbols.
     ///
     /// Decoding stops at the first `Invalid` or `Memory`.

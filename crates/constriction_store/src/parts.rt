@@ -1,4 +1,4 @@
-//! Taking a store apart, and making a store from words and an index.
+//! Taking a store apart, and building a store from words, an index and a model.
 
 ghost use Rattle.std.specs.Prelude.{◌≡◌, ◌↔◌, IsTrue, IfOk, IsOk, length, map};
 ghost use Rattle.constriction_base.specs.Steps.{IsSizes};
@@ -15,7 +15,7 @@ use thiserror::Error;
 #[error("bad index")]
 pub struct BadIndex;
 
-/// Returns whether no entry begins past `count` words, and the chunks have at most [`MOST_SYMBOLS`] symbols together.
+/// Returns whether no position in `index` is above `count`, and the total of symbols is at most [`MOST_SYMBOLS`].
 fn index_fits<Word: WordOf<State>, State: BitArray>(
     count: usize,
     index: &[(usize, RangeCoderState<Word, State>, usize)],
@@ -38,14 +38,14 @@ impl<
     M: EncoderModel<PRECISION, Symbol = usize> + DecoderModel<PRECISION, Symbol = usize>,
     const PRECISION: usize,
 > Store<Word, State, M, PRECISION> {
-    /// Makes a store from words, an index and a model. The call needs no memory.
+    /// Builds a store from words, an index and a model. The call needs no memory.
     ///
     /// The parts may come from [`Store::into_parts`], or from anywhere else.
     ///
     /// # Errors
     ///
-    /// `BadIndex` exactly if an entry's position is past the end of `words`, or all chunks together have more than
-    /// [`MOST_SYMBOLS`] symbols.
+    /// Returns `BadIndex` exactly if an entry's position is past the end of `words`, or all chunks together have more
+    /// than [`MOST_SYMBOLS`] symbols.
     ///
     /// # Examples
     ///
@@ -76,9 +76,9 @@ impl<
         })
     }
 
-    /// Takes the store apart: returns its words, its index and its model.
+    /// Takes the store apart, and returns its words, its index and its model.
     ///
-    /// [`Store::from_parts`] makes the same store from these parts.
+    /// [`Store::from_parts`] builds the same store from these parts.
     pub fn into_parts(
         self,
     ) -> (

@@ -1,4 +1,4 @@
-//! The laws of stores, and chunks that come back by their calls.
+//! Tests of the laws of stores, and of their functions that build a store and look up chunks.
 
 use crate::stores::{Halves, chunks_of, halves};
 use constriction_store::laws::{
@@ -9,10 +9,10 @@ use constriction_store::{BuildError, ChunkError};
 use std::alloc::Global;
 use std::test::Fail;
 
-/// What chunks through a store give.
+/// The store and the chunks found by look-ups, or the error of a call.
 type Through = Result<(Halves, Vec<Vec<usize>>), ThroughStore>;
 
-/// Whether two look-ups found these chunks.
+/// Returns whether `found` has exactly the two chunks `first` and `second`.
 fn are(found: &[Vec<usize>], first: &[usize], second: &[usize]) -> bool {
     match found {
         [one, other] => one.as_slice() == first && other.as_slice() == second,
@@ -20,7 +20,7 @@ fn are(found: &[Vec<usize>], first: &[usize], second: &[usize]) -> bool {
     }
 }
 
-/// Whether chunks came back in this order.
+/// Returns whether the calls succeeded, and the look-ups found exactly the chunks `first` and `second`.
 fn came_back(through: Through, first: &[usize], second: &[usize]) -> bool {
     match through {
         Ok((_, found)) => are(found.as_slice(), first, second),
@@ -28,19 +28,19 @@ fn came_back(through: Through, first: &[usize], second: &[usize]) -> bool {
     }
 }
 
-/// Why they didn't.
+/// Returns the error of the calls, or `None` if they succeeded.
 fn refusal_of(through: Through) -> Option<ThroughStore> {
     through.err()
 }
 
-/// Through a store that is built.
+/// Builds a store of `lists`, and looks up the chunks with the numbers `places`.
 fn built(alloc: Global, lists: &[&[usize]], places: &[usize]) -> Result<Through, Fail> {
     let chunks = chunks_of(alloc, lists)?;
     let table = halves(alloc)?;
     Ok(chunks_in_any_order(alloc, chunks.as_slice(), places, table))
 }
 
-/// Through the store of its parts.
+/// Builds a store of `lists`, makes a store from its parts, and looks up the chunks with the numbers `places`.
 fn through_parts(alloc: Global, lists: &[&[usize]], places: &[usize]) -> Result<Through, Fail> {
     let chunks = chunks_of(alloc, lists)?;
     let table = halves(alloc)?;

@@ -1,13 +1,13 @@
-//! Tests of the store, and no code besides: worked values, chunks in any order, refusals and refused memory, at concrete types.
+//! Tests of the store at concrete types: worked values, chunks in any order, refusals and refused memory.
 //!
-//! What a contract of `constriction_store` says is proved there for all values. These tests stand for what no contract can say:
-//! that the definitions give the numbers that a reader expects, that calls which take memory succeed where there is some (a
-//! build or a look-up that always answers want of memory fails here alone), and that a caller reaches each call.
-//! `tests/cases/constriction_store_tests` has tests that run without a proof, by `tests/unproved`: of each width of words, and
-//! of texts.
+//! The contracts of `constriction_store` are proved there for all values. These tests check what no contract can state:
+//! the definitions have the values that a reader expects, calls that need memory succeed if there is some, and a caller
+//! can make each call. Only these tests fail if a build or a look-up always reports that there is no memory.
+//! `tests/cases/constriction_store_tests` has tests that run without a proof, with `tests/unproved`. They cover each
+//! word width, and texts.
 //!
-//! All expected values are those of one growing number, and were worked out apart. The calls of a store stand in helpers without
-//! clauses, once for all tests: [`stores`].
+//! The expected values were computed separately, with one growing number. The helpers of [`stores`] have no contract,
+//! and make the calls of a store for all tests.
 #![tactic(auto)]
 
 #[cfg(test)]

@@ -1,10 +1,10 @@
-//! The store of the parts of a store.
+//! A test of a store made from the parts of another store.
 
 use crate::stores::{Halves, from_parts, gives_all, three};
 use constriction_store::Store;
 use std::test::Fail;
 
-/// The store of the parts of a store.
+/// Takes a store apart, and makes a store from the parts.
 fn again(store: Halves) -> Option<Halves> {
     let (words, index, table) = store.into_parts();
     Store::from_parts(words, index, table).ok()

@@ -1,13 +1,15 @@
-//! Requests for memory that are refused, one at a time: `tests/refused-memory` has each request of this test refused
-//! in turn. The test then says by its error which call it was, where that call answered want of memory and went when
-//! it was made again.
+//! A test of a store with requests for memory refused, one at a time.
+//!
+//! `tests/refused-memory` refuses each request for memory of this test, one at a time. The test then fails with the
+//! name of the call that made the request, if the call reported that there was no memory, and succeeded when it was
+//! made again.
 
 use crate::stores::{Halves, chunks_of, halves};
 use constriction_store::{BuildError, ChunkError};
 use std::alloc::{AllocError, Global};
 use std::test::Fail;
 
-/// Whether a look-up in a store of five chunks gives the first one, where there is memory.
+/// Looks up the first chunk. Returns whether it is as expected, or an error if there was no memory.
 fn looks_up(alloc: Global, store: &Halves) -> Result<bool, AllocError> {
     match store.chunk(alloc, 0) {
         Ok(found) => Ok(found.as_slice() == [1usize, 0, 1, 0, 1].as_slice()),
@@ -16,7 +18,7 @@ fn looks_up(alloc: Global, store: &Halves) -> Result<bool, AllocError> {
     }
 }
 
-/// Looks a chunk up, and once more where memory was refused.
+/// Looks up the first chunk, and tries again if memory was refused. In this case fails with the error `chunk`.
 fn look_up(alloc: Global, store: &Halves) -> Result<(), Fail> {
     match looks_up(alloc, store) {
         Ok(true) => Ok(()),
@@ -25,7 +27,9 @@ fn look_up(alloc: Global, store: &Halves) -> Result<(), Fail> {
     }
 }
 
-/// Builds a store of five chunks, and looks one of them up.
+/// Builds a store of `chunks`, and looks up its first chunk.
+///
+/// If memory is refused for the build, tries again, and fails with the error `build`.
 fn build(alloc: Global, chunks: &[Vec<usize>]) -> Result<(), Fail> {
     match Halves::build(alloc, chunks, halves(alloc)?) {
         Ok(store) => look_up(alloc, &store),
@@ -37,7 +41,7 @@ fn build(alloc: Global, chunks: &[Vec<usize>]) -> Result<(), Fail> {
     }
 }
 
-/// Whether the store is built where there is memory again.
+/// Builds a store of `chunks` after a refusal, and looks up its first chunk. Fails if there is no store.
 fn build_again(alloc: Global, chunks: &[Vec<usize>]) -> Result<(), Fail> {
     match Halves::build(alloc, chunks, halves(alloc)?) {
         Ok(store) => look_up(alloc, &store),

@@ -1,4 +1,4 @@
-//! The worked rows.
+//! Tests of the worked rows.
 
 use crate::stores::{
     Halves, chunks_of, from_parts, gives, gives_all, refusal_of, refuses, store_of, three,
@@ -34,12 +34,12 @@ fn store_build_refusals(rt: HostRuntime) -> Result<(), Fail> {
     Ok(())
 }
 
-/// The number that follows another, in a list that looks like any.
+/// Returns the pseudorandom number after `number`.
 fn next(number: u32) -> u32 {
     number.wrapping_mul(1664525).wrapping_add(1013904223)
 }
 
-/// So many symbols, which this number begins.
+/// Returns `count` pseudorandom symbols, with the seed `first`.
 fn some_symbols(alloc: Global, count: usize, first: u32) -> Result<Vec<usize>, AllocError> {
     let mut symbols = Vec::new(alloc);
     let mut number = first;
@@ -50,7 +50,7 @@ fn some_symbols(alloc: Global, count: usize, first: u32) -> Result<Vec<usize>, A
     Ok(symbols)
 }
 
-/// At most 100 symbols in each of 100 chunks.
+/// Returns 100 chunks of at most 100 pseudorandom symbols each.
 fn a_hundred(alloc: Global) -> Result<Vec<Vec<usize>>, AllocError> {
     let mut chunks = Vec::new(alloc);
     let mut number = 7u32;
@@ -62,7 +62,7 @@ fn a_hundred(alloc: Global) -> Result<Vec<Vec<usize>>, AllocError> {
     Ok(chunks)
 }
 
-/// Whether a store gives each of the chunks, in order; and from the last on, each twice.
+/// Returns whether look-ups find each of `chunks`, in order, and then twice from the last to the first.
 fn gives_each(alloc: Global, store: &Halves, chunks: &[Vec<usize>]) -> bool {
     let mut come = store.num_chunks() == chunks.len();
     for i in 0..chunks.len() {
@@ -76,7 +76,7 @@ fn gives_each(alloc: Global, store: &Halves, chunks: &[Vec<usize>]) -> bool {
     come
 }
 
-/// How many symbols the chunks have together.
+/// Returns the total number of symbols in `chunks`.
 fn count_of(chunks: &[Vec<usize>]) -> usize {
     let mut count = 0usize;
     for chunk in chunks {
@@ -105,7 +105,7 @@ fn store_of_one_symbol_too_many(rt: HostRuntime) -> Result<(), Fail> {
     Ok(())
 }
 
-/// The store of words and an index of one symbol at this position.
+/// Makes a store with one chunk of one symbol at `place`. Returns the error of its look-up, if there is one.
 fn one_symbol(alloc: Global, words: &[u32], place: usize) -> Result<Option<ChunkError>, Fail> {
     match from_parts(alloc, words, &[(place, 0, u64::MAX, 1)])? {
         Some(store) => Ok(refuses(alloc, &store, 0)),
@@ -113,7 +113,7 @@ fn one_symbol(alloc: Global, words: &[u32], place: usize) -> Result<Option<Chunk
     }
 }
 
-/// The store of row `store_program`, from its words and its index.
+/// Makes the store of row `store_program` from its words and its index.
 fn three_from_parts(alloc: Global) -> Result<Halves, Fail> {
     let index = [
         (0, 0, u64::MAX, 2),

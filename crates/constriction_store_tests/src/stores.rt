@@ -1,4 +1,4 @@
-//! The stores that tests begin with, and what their calls answer.
+//! The stores that tests begin with, and helpers that make their calls.
 
 use constriction_base::weights::{TableError, WeightTable};
 use constriction_queue::RangeCoderState;
@@ -6,24 +6,24 @@ use constriction_store::{BuildError, ChunkError, Store};
 use std::alloc::{AllocError, Global};
 use std::test::Fail;
 
-/// The table of most tests: two symbols, equally likely.
+/// The type of the table of most tests.
 pub type Table = WeightTable<u32, 24>;
 
-/// The store of most tests.
+/// The type of the store of most tests.
 pub type Halves = Store<u32, u64, Table, 24>;
 
-/// An item of its index.
+/// An entry of an index.
 pub type Entry = (usize, RangeCoderState<u32, u64>, usize);
 
-/// An item of an index as numbers: the position, the interval's lower end and its length, and how many symbols.
+/// An entry of an index as numbers: the place, the interval's lower end and length, and the number of symbols.
 pub type Numbers = (usize, u64, u64, usize);
 
-/// The table of most tests.
+/// Makes the table of most tests: two symbols, equally likely.
 pub fn halves(alloc: Global) -> Result<Table, TableError> {
     WeightTable::new(alloc, &[8388608, 8388608])
 }
 
-/// Lists as chunks.
+/// Returns `lists` as chunks.
 pub fn chunks_of(alloc: Global, lists: &[&[usize]]) -> Result<Vec<Vec<usize>>, AllocError> {
     let mut chunks = Vec::new(alloc);
     for list in lists {
@@ -32,24 +32,24 @@ pub fn chunks_of(alloc: Global, lists: &[&[usize]]) -> Result<Vec<Vec<usize>>, A
     Ok(chunks)
 }
 
-/// The store of chunks.
+/// Builds the store of `chunks`.
 pub fn store_of(alloc: Global, chunks: &[Vec<usize>]) -> Result<Halves, Fail> {
     let table = halves(alloc)?;
     Ok(Store::build(alloc, chunks, table)?)
 }
 
-/// The store of lists.
+/// Builds the store of `lists`, one chunk for each list.
 pub fn store_of_lists(alloc: Global, lists: &[&[usize]]) -> Result<Halves, Fail> {
     let chunks = chunks_of(alloc, lists)?;
     store_of(alloc, chunks.as_slice())
 }
 
-/// The store of row `store_program`.
+/// Builds the store of row `store_program`.
 pub fn three(alloc: Global) -> Result<Halves, Fail> {
     store_of_lists(alloc, &[&[1, 0], &[], &[1]])
 }
 
-/// Why chunks make no store.
+/// Returns the error of building a store of `chunks`, or `None` if the store is built.
 pub fn refusal_of(alloc: Global, chunks: &[Vec<usize>]) -> Result<Option<BuildError>, Fail> {
     let table = halves(alloc)?;
     match Halves::build(alloc, chunks, table) {
@@ -58,7 +58,7 @@ pub fn refusal_of(alloc: Global, chunks: &[Vec<usize>]) -> Result<Option<BuildEr
     }
 }
 
-/// Whether a look-up gives this chunk.
+/// Returns whether a look-up of chunk `i` finds `chunk`.
 pub fn gives(alloc: Global, store: &Halves, i: usize, chunk: &[usize]) -> bool {
     match store.chunk(alloc, i) {
         Ok(found) => found.as_slice() == chunk,
@@ -66,12 +66,12 @@ pub fn gives(alloc: Global, store: &Halves, i: usize, chunk: &[usize]) -> bool {
     }
 }
 
-/// Why a look-up gives no chunk.
+/// Returns the error of a look-up of chunk `i`, or `None` if it finds a chunk.
 pub fn refuses(alloc: Global, store: &Halves, i: usize) -> Option<ChunkError> {
     store.chunk(alloc, i).err()
 }
 
-/// Whether a store gives just these chunks, in their order.
+/// Returns whether a store has exactly the chunks `chunks`, in this order.
 pub fn gives_all(alloc: Global, store: &Halves, chunks: &[&[usize]]) -> bool {
     for (i, chunk) in chunks.iter().enumerate() {
         if !gives(alloc, store, i, chunk) {
@@ -81,7 +81,7 @@ pub fn gives_all(alloc: Global, store: &Halves, chunks: &[&[usize]]) -> bool {
     store.num_chunks() == chunks.len()
 }
 
-/// An item of an index of these numbers, if the interval is long enough.
+/// Returns the entry of an index with these numbers, or `None` if the interval is too short.
 pub fn entry_of((place, lower, range, len): Numbers) -> Option<Entry> {
     match RangeCoderState::new(lower, range) {
         Ok(state) => Some((place, state, len)),
@@ -89,7 +89,7 @@ pub fn entry_of((place, lower, range, len): Numbers) -> Option<Entry> {
     }
 }
 
-/// An index of these numbers. Those of intervals that are too short are left out.
+/// Returns an index of `entries`, without the entries in which the interval is too short.
 pub fn index_of(alloc: Global, entries: &[Numbers]) -> Result<Vec<Entry>, AllocError> {
     let mut index = Vec::new(alloc);
     for numbers in entries {
@@ -101,7 +101,7 @@ pub fn index_of(alloc: Global, entries: &[Numbers]) -> Result<Vec<Entry>, AllocE
     Ok(index)
 }
 
-/// The store of words and an index; nothing where they make none.
+/// Makes a store from words and an index, or returns `None` if they make no store.
 pub fn from_parts(
     alloc: Global,
     words: &[u32],

@@ -1,4 +1,4 @@
-//! Bits of words: codewords of numbers and of a Huffman tree, in a queue and on a stack.
+//! Decoders of untrusted bits: codewords of numbers and of a Huffman tree, in a queue and on a stack.
 
 use crate::sum::Sum;
 use constriction_base::backends::{Queue, Semantics, Stack};
@@ -17,10 +17,10 @@ type QueueOf<'a, Word> = QueueDecoder<Word, Cursor<Word, &'a [Word]>>;
 
 type StackOf<'a, Word> = StackCoder<Word, Cursor<Word, &'a [Word]>>;
 
-/// The weights of the tree.
+/// The weights of the Huffman tree.
 pub const WEIGHTS: [u32; 5] = [2, 2, 4, 1, 1];
 
-/// In what bits are held, and what they stand for.
+/// The kind of bit coder, and what its codewords stand for.
 #[derive(Clone, Copy)]
 pub enum Form {
     QueueOfNumbers,
@@ -29,14 +29,14 @@ pub enum Form {
     StackOfSymbols,
 }
 
-/// Codewords are read.
+/// The tree and the form with which words are decoded.
 #[derive(Drop)]
 pub struct Bits<'a> {
     pub tree: &'a DecoderHuffmanTree,
     pub form: Form,
 }
 
-/// Adds the number of a codeword, or why there is none.
+/// Adds a decoded number, or the error in its place, to `sum`.
 fn add_number<E: Drop>(answer: Result<u64, SymbolCodeError<E>>, sum: &mut Sum) {
     match answer {
         Ok(number) => sum.add(number),
@@ -45,7 +45,7 @@ fn add_number<E: Drop>(answer: Result<u64, SymbolCodeError<E>>, sum: &mut Sum) {
     }
 }
 
-/// Six numbers.
+/// Decodes six numbers, and adds the outcomes to `sum`.
 fn numbers<S: Semantics, Stream: ReadBitStream<S, ReadError = Infallible>>(
     stream: &mut Stream,
     sum: &mut Sum,
@@ -59,7 +59,7 @@ fn numbers<S: Semantics, Stream: ReadBitStream<S, ReadError = Infallible>>(
     }
 }
 
-/// Twelve symbols of the tree.
+/// Decodes twelve symbols with the tree, and adds the outcomes to `sum`.
 fn symbols<S: Semantics, Stream: ReadBitStream<S, ReadError = Infallible>>(
     stream: &mut Stream,
     tree: &DecoderHuffmanTree,
@@ -74,7 +74,7 @@ fn symbols<S: Semantics, Stream: ReadBitStream<S, ReadError = Infallible>>(
     }
 }
 
-/// What a queue gives.
+/// Decodes symbols, or numbers if `tree` is `None`, from a queue of bits, and adds the outcomes to `sum`.
 fn from_queue<Word: BitArray>(words: &[Word], tree: Option<&DecoderHuffmanTree>, sum: &mut Sum) {
     let mut queue: QueueOf<'_, Word> = QueueDecoder::from_compressed(Cursor::new_at_write_beginning(
         words,
@@ -86,7 +86,7 @@ fn from_queue<Word: BitArray>(words: &[Word], tree: Option<&DecoderHuffmanTree>,
     sum.add_whether(queue.maybe_exhausted());
 }
 
-/// What a stack gives.
+/// Decodes symbols, or numbers if `tree` is `None`, from a stack of bits, and adds the outcomes to `sum`.
 fn from_stack<Word: BitArray>(words: &[Word], tree: Option<&DecoderHuffmanTree>, sum: &mut Sum) {
     match StackOf::<'_, Word>::from_compressed(Cursor::new_at_write_end(words)) {
         Ok(mut stack) => match tree {
@@ -98,7 +98,7 @@ fn from_stack<Word: BitArray>(words: &[Word], tree: Option<&DecoderHuffmanTree>,
 }
 
 impl Bits<'_> {
-    /// Reads the words as bits, and adds what they give.
+    /// Decodes the bits of `words`, and adds the outcomes to `sum`.
     pub fn read<Word: BitArray>(&self, words: &[Word], sum: &mut Sum) {
         match self.form {
             Form::QueueOfNumbers => from_queue(words, None, sum),

@@ -1,4 +1,4 @@
-//! Decoders of the chain coder: words in both forms, remainders, raw parts, and positions of others.
+//! Chain coders made from untrusted words, words in binary form, remainders, raw parts and positions.
 
 use crate::sum::Sum;
 use constriction_base::backends::Seek;
@@ -10,29 +10,29 @@ use constriction_stream::decoding::Decode;
 use constriction_stream::encoding::Encode;
 use std::alloc::Global;
 
-/// Words that are borrowed, and remainders that grow.
+/// A chain coder over borrowed compressed words, with a vector of remainders.
 type Coder<'a> = ChainCoder<u8, u16, Cursor<u8, &'a [u8]>, Vec<u8>, 4>;
 
-/// Remainders that are borrowed, and words that grow.
+/// A chain coder over borrowed remainders, with a vector of compressed words.
 type Back<'a> = ChainCoder<u8, u16, Vec<u8>, Cursor<u8, &'a [u8]>, 4>;
 
 /// The weights of the symbols.
 pub const WEIGHTS: [u8; 2] = [5, 11];
 
-/// How a coder is made of words.
+/// A way to make a coder from words.
 #[derive(Clone, Copy)]
 pub enum Form {
     Compressed,
     Binary,
-    /// The remainders of another coder, on which symbols are put.
+    /// The words are remainders of another coder. The program then encodes symbols.
     Remainders,
-    /// The words below these heads.
+    /// The words lie below these heads.
     Raw(u8, u16),
-    /// The same of the heads 1 and 16, and then a position of another coder.
+    /// The words lie below the heads 1 and 16. The coder then seeks to this position of another coder.
     Sought(usize, usize, u8, u16),
 }
 
-/// A coder is made in a form, and symbols are taken off, or put on, by a table.
+/// A way to make a coder, and the table with which the coder decodes or encodes symbols.
 #[derive(Drop)]
 pub struct Chain<'a> {
     pub alloc: Global,
@@ -40,13 +40,13 @@ pub struct Chain<'a> {
     pub form: Form,
 }
 
-/// The coder of these parts, if they fit.
+/// Makes a coder of `words` below the heads `h` and `r`, or returns `None` if the heads are invalid.
 fn of_parts(alloc: Global, words: &[u8], h: u8, r: u16) -> Option<Coder<'_>> {
     let heads = ChainCoderHeads::new(h, r)?;
     Some(ChainCoder::from_raw_parts(Cursor::new_at_write_end(words), Vec::new(alloc), heads))
 }
 
-/// A position: so many words and remainders, and heads.
+/// A position: the numbers of compressed words and of words of remainders, and the heads.
 #[derive(Clone, Copy)]
 struct Position {
     compressed: usize,
@@ -55,7 +55,9 @@ struct Position {
     r: u16,
 }
 
-/// The coder at a position of another coder, or where its sides went if one of them can't go there.
+/// Makes a coder, seeks to a position of another coder, and adds to `sum` whether the seek succeeded.
+///
+/// Returns the coder as the seek left it, or `None` if the position's heads are invalid.
 fn sought<'a>(
     alloc: Global,
     words: &'a [u8],
@@ -72,14 +74,14 @@ fn sought<'a>(
     Some(coder)
 }
 
-/// Adds the two heads.
+/// Adds the two heads to `sum`.
 fn add_heads(heads: ChainCoderHeads<u8, u16, 4>, sum: &mut Sum) {
     let (h, r) = heads.parts();
     sum.add(h as u64);
     sum.add(r as u64);
 }
 
-/// Four symbols, each with the heads that are left.
+/// Decodes four symbols, and adds each outcome and the heads after it to `sum`.
 fn decoded(mut coder: Coder<'_>, table: &WeightTable<u8, 4>, sum: &mut Sum) {
     for _ in 0..4 {
         match coder.decode_symbol(table) {
@@ -90,7 +92,7 @@ fn decoded(mut coder: Coder<'_>, table: &WeightTable<u8, 4>, sum: &mut Sum) {
     }
 }
 
-/// Three symbols are put on, each with the heads that are left.
+/// Encodes three symbols, and adds each outcome and the heads after it to `sum`.
 fn encoded(mut coder: Back<'_>, table: &WeightTable<u8, 4>, sum: &mut Sum) {
     for symbol in [1usize, 0, 1] {
         sum.add_whether(coder.encode_symbol(&symbol, table).is_ok());
@@ -98,7 +100,7 @@ fn encoded(mut coder: Back<'_>, table: &WeightTable<u8, 4>, sum: &mut Sum) {
     }
 }
 
-/// Remainders of another coder.
+/// Imports `words` as remainders, encodes three symbols, and adds the outcomes to `sum`.
 fn put_back(alloc: Global, words: &[u8], table: &WeightTable<u8, 4>, sum: &mut Sum) {
     match Back::from_remainders(alloc, Cursor::new_at_write_end(words)) {
         Ok(coder) => encoded(coder, table, sum),
@@ -106,7 +108,7 @@ fn put_back(alloc: Global, words: &[u8], table: &WeightTable<u8, 4>, sum: &mut S
     }
 }
 
-/// The coder of some words, if there is one.
+/// Makes a coder from `words` as `form` says, or returns `None` if that fails.
 fn coder_of<'a>(alloc: Global, words: &'a [u8], form: Form, sum: &mut Sum) -> Option<Coder<'a>> {
     match form {
         Form::Compressed => Coder::from_compressed(alloc, Cursor::new_at_write_end(words)).ok(),
@@ -129,7 +131,7 @@ fn coder_of<'a>(alloc: Global, words: &'a [u8], form: Form, sum: &mut Sum) -> Op
 }
 
 impl Chain<'_> {
-    /// Makes a decoder of the words, and adds what it gives.
+    /// Makes a coder from `words`, decodes or encodes symbols, and adds the outcomes to `sum`.
     pub fn read(&self, words: &[u8], sum: &mut Sum) {
         if let Form::Remainders = self.form {
             return put_back(self.alloc, words, self.table, sum);

@@ -1,10 +1,12 @@
-//! Words, positions and raw parts from strangers: what each decoder makes of lists of words.
+//! A program that decodes untrusted words, and uses untrusted positions and raw parts, with each coder.
 //!
-//! Words are all lists of at most two bytes, and each beginning and each rest of some exports; of bit coders also those
-//! of two exports in words of 32 bits. Raw parts and positions of other coders are tried over the lists of at most one
-//! byte and those of the exports. Each answer and each number
-//! that a coder shows goes into a sum that depends on their order, and the program prints a line for each kind: how
-//! many cases there were, and the sum. `tests/strangers` computes the same lines apart, from the definitions.
+//! The words are all lists of at most two bytes, and each beginning and each rest of a few exports. The bit coders also
+//! decode each beginning and each rest of two exports in 32-bit words. The program combines raw parts and positions of
+//! other coders with the lists of at most one byte, and with the beginnings and rests of the exports.
+//!
+//! A sum that depends on the order collects each answer and each number that a coder returns. The program prints a line
+//! for each kind of case: the number of cases, and the sum. `tests/strangers` computes the same lines separately, from
+//! the definitions.
 #![tactic(auto)]
 
 mod bits;
@@ -26,7 +28,7 @@ use std::io;
 use store::Chunk;
 use sum::Sum;
 
-/// Exports, of which each beginning and each rest is tried.
+/// The exports in bytes. The program decodes each beginning and each rest of an export.
 const EXPORTS: [&[u8]; 5] = [
     &[255, 255, 255],
     &[127, 127, 1],
@@ -35,10 +37,10 @@ const EXPORTS: [&[u8]; 5] = [
     &[7, 255, 1],
 ];
 
-/// Exports of bit coders in words of 32 bits, of which each beginning and each rest is tried.
+/// The exports of bit coders in 32-bit words. The program decodes each beginning and each rest of an export.
 const WIDE_EXPORTS: [&[u32]; 2] = [&[4294967295, 1], &[256]];
 
-/// The models by which decoders read.
+/// The models with which the coders decode.
 #[derive(Drop)]
 struct Models<'a> {
     alloc: Global,
@@ -48,7 +50,7 @@ struct Models<'a> {
     tree: &'a DecoderHuffmanTree,
 }
 
-/// What is made of words.
+/// The kind of coder to make from words, and the way to make it.
 #[derive(Clone, Copy)]
 enum Made {
     Stack(stack::Form),
@@ -58,7 +60,7 @@ enum Made {
     Bits(bits::Form),
 }
 
-/// Reads a list.
+/// Decodes one list of words as one case, and adds the outcomes to `sum`.
 fn read_one(models: &Models<'_>, made: Made, words: &[u8], sum: &mut Sum) {
     let alloc = models.alloc;
     sum.begin();
@@ -91,7 +93,7 @@ fn read_one(models: &Models<'_>, made: Made, words: &[u8], sum: &mut Sum) {
     }
 }
 
-/// Reads the lists of at most one byte, and each beginning and each rest of the exports.
+/// Decodes the lists of at most one byte, and each beginning and each rest of the exports.
 fn read_short(models: &Models<'_>, made: Made, sum: &mut Sum) {
     read_one(models, made, &[], sum);
     for first in 0..=255u8 {
@@ -107,7 +109,7 @@ fn read_short(models: &Models<'_>, made: Made, sum: &mut Sum) {
     }
 }
 
-/// Reads all lists of two bytes.
+/// Decodes all lists of two bytes.
 fn read_pairs(models: &Models<'_>, made: Made, sum: &mut Sum) {
     for first in 0..=255u8 {
         for second in 0..=255u8 {
@@ -116,12 +118,12 @@ fn read_pairs(models: &Models<'_>, made: Made, sum: &mut Sum) {
     }
 }
 
-/// Prints a line: how many cases there were, and the sum.
+/// Prints a line with `name`, the number of cases, and the sum.
 fn show(rt: &impl Print, name: &str, sum: Sum) -> io::Result<()> {
     println!(rt; "{name}: {} {}", sum.cases, sum.value)
 }
 
-/// Prints what is made of words.
+/// Decodes the lists of `read_short` and of `read_pairs`, and prints the line of `name`.
 fn show_words(rt: &impl Print, name: &str, models: &Models<'_>, made: Made) -> io::Result<()> {
     let mut sum = Sum::new();
     read_short(models, made, &mut sum);
@@ -129,14 +131,14 @@ fn show_words(rt: &impl Print, name: &str, models: &Models<'_>, made: Made) -> i
     show(rt, name, sum)
 }
 
-/// Prints what is made of raw parts or a position.
+/// Decodes the lists of `read_short`, and prints the line of `name`.
 fn show_parts(rt: &impl Print, name: &str, models: &Models<'_>, made: Made) -> io::Result<()> {
     let mut sum = Sum::new();
     read_short(models, made, &mut sum);
     show(rt, name, sum)
 }
 
-/// Prints what is made of the beginnings and rests of the exports in words of 32 bits.
+/// Decodes each beginning and each rest of the exports in 32-bit words, and prints the line of `name`.
 fn show_wide(rt: &impl Print, name: &str, bits: &Bits<'_>) -> io::Result<()> {
     let mut sum = Sum::new();
     for export in WIDE_EXPORTS {
@@ -152,7 +154,7 @@ fn show_wide(rt: &impl Print, name: &str, bits: &Bits<'_>) -> io::Result<()> {
     show(rt, name, sum)
 }
 
-/// The stack coder.
+/// Prints the lines of the stack coder.
 fn of_stack(rt: &impl Print, models: &Models<'_>) -> io::Result<()> {
     let compressed = Made::Stack(stack::Form::Compressed);
     show_words(rt, "stack, compressed", models, compressed)?;
@@ -177,7 +179,7 @@ fn of_stack(rt: &impl Print, models: &Models<'_>) -> io::Result<()> {
     Ok(())
 }
 
-/// The range coder.
+/// Prints the lines of the range coder.
 fn of_range(rt: &impl Print, models: &Models<'_>) -> io::Result<()> {
     let compressed = Made::Range(range::Form::Compressed);
     show_words(rt, "range, compressed", models, compressed)?;
@@ -200,7 +202,9 @@ fn of_range(rt: &impl Print, models: &Models<'_>) -> io::Result<()> {
     Ok(())
 }
 
-/// Chunks of a store at an entry: of the first words, at the end, and past it; in intervals of encoders and in others.
+/// Prints the lines of stores with one chunk, for several entries.
+///
+/// The positions lie before, at and past the end of the words. The intervals are intervals of encoders and others.
 fn of_stores(rt: &impl Print, models: &Models<'_>) -> io::Result<()> {
     'intervals: for (lower, range) in [(0u16, 65535u16), (33024, 65280), (1, 300), (0, 255)] {
         'places: for place in 0..4usize {
@@ -221,7 +225,7 @@ fn of_stores(rt: &impl Print, models: &Models<'_>) -> io::Result<()> {
     Ok(())
 }
 
-/// The chain coder.
+/// Prints the lines of the chain coder.
 fn of_chain(rt: &impl Print, models: &Models<'_>) -> io::Result<()> {
     let compressed = Made::Chain(chain::Form::Compressed);
     show_words(rt, "chain, compressed", models, compressed)?;
@@ -248,7 +252,7 @@ fn of_chain(rt: &impl Print, models: &Models<'_>) -> io::Result<()> {
     Ok(())
 }
 
-/// What bits are read as, and its name.
+/// The forms in which bits are decoded, with their names.
 const FORMS: [(&str, bits::Form); 4] = [
     ("queue of numbers", bits::Form::QueueOfNumbers),
     ("stack of numbers", bits::Form::StackOfNumbers),
@@ -256,7 +260,7 @@ const FORMS: [(&str, bits::Form); 4] = [
     ("stack of symbols", bits::Form::StackOfSymbols),
 ];
 
-/// The bit coders, over words of 8 bits and of 32.
+/// Prints the lines of the bit coders, over 8-bit words and over 32-bit words.
 fn of_bits(rt: &impl Print, models: &Models<'_>) -> io::Result<()> {
     let tree = models.tree;
     'bytes: for (name, form) in FORMS {
@@ -268,7 +272,7 @@ fn of_bits(rt: &impl Print, models: &Models<'_>) -> io::Result<()> {
     Ok(())
 }
 
-/// All coders.
+/// Prints the lines of all coders.
 fn of_all(rt: &impl Print, models: &Models<'_>) -> io::Result<()> {
     of_stack(rt, models)?;
     of_range(rt, models)?;

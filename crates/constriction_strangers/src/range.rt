@@ -1,4 +1,4 @@
-//! Decoders of the range coder: words, raw parts, and positions of others.
+//! Range decoders made from untrusted words, raw parts and positions.
 
 use crate::sum::Sum;
 use constriction_base::backends::Seek;
@@ -13,30 +13,32 @@ type Decoder<'a> = RangeDecoder<u8, u16, Cursor<u8, &'a [u8]>>;
 /// The weights of the symbols.
 pub const WEIGHTS: [u8; 4] = [127, 1, 127, 1];
 
-/// How a decoder is made of words.
+/// A way to make a decoder from words.
 #[derive(Clone, Copy)]
 pub enum Form {
     Compressed,
-    /// The words behind this point, in the interval of this lower end and this range.
+    /// Raw parts: the interval's lower end and length, and the point. The words are still to be read.
     Raw(u16, u16, u16),
-    /// The decoder of the words, and then a position of an encoder: so many words, and the interval.
+    /// A position to which a decoder of the words seeks: a place, and the interval's lower end and length.
     Sought(usize, u16, u16),
 }
 
-/// A decoder is made in a form, and symbols are taken off by a table.
+/// A way to make a decoder, and the table with which the decoder decodes symbols.
 #[derive(Drop)]
 pub struct Range<'a> {
     pub table: &'a WeightTable<u8, 8>,
     pub form: Form,
 }
 
-/// The decoder of these parts, if they fit.
+/// Makes a decoder from raw parts, or returns `None` if the parts don't fit together.
 fn of_parts(words: &[u8], lower: u16, range: u16, point: u16) -> Option<Decoder<'_>> {
     let state = RangeCoderState::new(lower, range).ok()?;
     RangeDecoder::from_raw_parts(Cursor::new_at_write_beginning(words), state, point).ok()
 }
 
-/// The decoder at a position of an encoder, or where it was if it can't go there.
+/// Makes a decoder, seeks to a position of an encoder, and adds to `sum` whether the seek succeeded.
+///
+/// Returns the decoder as the seek left it, or `None` if the position's interval is too short.
 fn sought<'a>(
     words: &'a [u8],
     place: usize,
@@ -52,7 +54,9 @@ fn sought<'a>(
     Some(decoder)
 }
 
-/// Four symbols, each with the interval that is left.
+/// Decodes four symbols, and adds each outcome and the interval after it to `sum`.
+///
+/// Then adds whether the decoder may be exhausted.
 fn decoded(mut decoder: Decoder<'_>, table: &WeightTable<u8, 8>, sum: &mut Sum) {
     for _ in 0..4 {
         match decoder.decode_symbol(table) {
@@ -67,7 +71,7 @@ fn decoded(mut decoder: Decoder<'_>, table: &WeightTable<u8, 8>, sum: &mut Sum) 
 }
 
 impl Range<'_> {
-    /// Makes a decoder of the words, and adds what it gives.
+    /// Makes a decoder from `words`, decodes symbols, and adds the outcomes to `sum`.
     pub fn read(&self, words: &[u8], sum: &mut Sum) {
         let decoder = match self.form {
             Form::Compressed => RangeDecoder::with_backend(Cursor::new_at_write_beginning(

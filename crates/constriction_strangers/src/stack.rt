@@ -1,4 +1,4 @@
-//! Decoders of the stack coder: words in both forms, raw parts, and positions of others.
+//! Stack coders made from untrusted words, words in binary form, raw parts and positions.
 
 use crate::sum::Sum;
 use constriction_base::backends::Seek;
@@ -13,32 +13,32 @@ type Coder<'a> = AnsCoder<u8, u16, Cursor<u8, &'a [u8]>>;
 /// The weights of the symbols.
 pub const WEIGHTS: [u8; 3] = [200, 55, 1];
 
-/// How a decoder is made of words.
+/// A way to make a decoder from words.
 #[derive(Clone, Copy)]
 pub enum Form {
     Compressed,
     Binary,
-    /// The words below this head.
+    /// The words lie below this head.
     Raw(u16),
-    /// The same at the head 300, and then a position of another coder.
+    /// The words lie below the head 300. The decoder then seeks to this position of another coder.
     Sought(usize, u16),
 }
 
-/// A decoder is made in a form, and symbols are taken off by a table.
+/// A way to make a decoder, and the table with which the decoder decodes symbols.
 #[derive(Drop)]
 pub struct Stack<'a> {
     pub table: &'a WeightTable<u8, 8>,
     pub form: Form,
 }
 
-/// The decoder at a position of another coder, or where it was if it can't go there.
+/// Makes a decoder, seeks to a position of another coder, and adds to `sum` whether the seek succeeded.
 fn sought<'a>(words: &'a [u8], place: usize, head: u16, sum: &mut Sum) -> Coder<'a> {
     let mut coder: Coder<'a> = AnsCoder::from_raw_parts(Cursor::new_at_write_end(words), 300);
     sum.add_whether(coder.seek((place, head)).is_ok());
     coder
 }
 
-/// The decoder of some words, if there is one.
+/// Makes a decoder from `words` as `form` says, or returns `None` if that fails.
 fn coder_of<'a>(words: &'a [u8], form: Form, sum: &mut Sum) -> Option<Coder<'a>> {
     match form {
         Form::Compressed => Coder::from_compressed_slice(words).ok(),
@@ -48,7 +48,7 @@ fn coder_of<'a>(words: &'a [u8], form: Form, sum: &mut Sum) -> Option<Coder<'a>>
     }
 }
 
-/// Four symbols, each with the head that is left.
+/// Decodes four symbols, and adds each outcome and the head after it to `sum`.
 fn decoded(mut coder: Coder<'_>, table: &WeightTable<u8, 8>, sum: &mut Sum) {
     for _ in 0..4 {
         match coder.decode_symbol(table) {
@@ -60,7 +60,7 @@ fn decoded(mut coder: Coder<'_>, table: &WeightTable<u8, 8>, sum: &mut Sum) {
 }
 
 impl Stack<'_> {
-    /// Makes a decoder of the words, and adds what it gives.
+    /// Makes a decoder from `words`, decodes symbols, and adds the outcomes to `sum`.
     pub fn read(&self, words: &[u8], sum: &mut Sum) {
         match coder_of(words, self.form, sum) {
             Some(coder) => decoded(coder, self.table, sum),

@@ -1,4 +1,4 @@
-//! Chunks of stores: words and entries of others.
+//! Chunks of stores made from untrusted words and entries.
 
 use crate::sum::Sum;
 use constriction_base::weights::WeightTable;
@@ -8,10 +8,10 @@ use std::alloc::Global;
 
 type Bytes<'a> = Store<u8, u16, &'a WeightTable<u8, 8>, 8>;
 
-/// An entry of an index: the position, the interval's lower end and its length, and how many symbols.
+/// An entry of an index: the position, the interval's lower end and length, and the number of symbols.
 pub type Entry = (usize, u16, u16, usize);
 
-/// A store of the words and this entry, and the chunk there.
+/// The table and the one entry of a store.
 #[derive(Drop)]
 pub struct Chunk<'a> {
     pub alloc: Global,
@@ -19,7 +19,9 @@ pub struct Chunk<'a> {
     pub entry: Entry,
 }
 
-/// The store of these words and this entry, if the interval is long enough and the words have such a position.
+/// Makes a store from `words` and one entry.
+///
+/// Returns `None` if the interval is too short, the position is past the end of the words, or there is no memory.
 fn store_of<'a>(
     alloc: Global,
     table: &'a WeightTable<u8, 8>,
@@ -32,7 +34,7 @@ fn store_of<'a>(
     Store::from_parts(words, index, table).ok()
 }
 
-/// The symbols of the chunk, or that there is none.
+/// Looks up the chunk, and adds its symbols, or the refusal, to `sum`.
 fn looked_up(alloc: Global, store: &Bytes<'_>, sum: &mut Sum) {
     match store.chunk(alloc, 0) {
         Ok(symbols) => {
@@ -45,7 +47,7 @@ fn looked_up(alloc: Global, store: &Bytes<'_>, sum: &mut Sum) {
 }
 
 impl Chunk<'_> {
-    /// Makes a decoder of the words, and adds what it gives.
+    /// Makes a store from `words`, looks up its chunk, and adds the outcomes to `sum`.
     pub fn read(&self, words: &[u8], sum: &mut Sum) {
         match store_of(self.alloc, self.table, words, self.entry) {
             Some(store) => {

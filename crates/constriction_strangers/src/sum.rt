@@ -1,6 +1,6 @@
-//! A number that tells a list of numbers in order, as far as one number can.
+//! A sum that depends on the numbers added and on their order.
 
-/// How many cases there were, and the sum of their numbers.
+/// The number of cases, and the sum of the numbers that the cases added.
 #[derive(Clone, Copy)]
 pub struct Sum {
     pub cases: u64,
@@ -8,18 +8,18 @@ pub struct Sum {
 }
 
 impl Sum {
-    /// That of nothing.
+    /// Makes the sum of no numbers and no cases.
     pub fn new() -> Sum {
         Sum { cases: 0, value: 0 }
     }
 
-    /// Begins the next case.
+    /// Counts the next case, and adds 1.
     pub fn begin(&mut self) {
         self.cases = self.cases.wrapping_add(1);
         self.add(1);
     }
 
-    /// Adds a number behind the others.
+    /// Adds `number` after the numbers already added.
     pub fn add(&mut self, number: u64) {
         self.value = self
             .value
@@ -28,12 +28,12 @@ impl Sum {
             .wrapping_add(1);
     }
 
-    /// Adds that a call was refused.
+    /// Adds the number that stands for a refused call.
     pub fn add_refusal(&mut self) {
         self.add(1 << 40);
     }
 
-    /// Adds whether something holds.
+    /// Adds the number that stands for `holds`.
     pub fn add_whether(&mut self, holds: bool) {
         self.add(if holds { (1 << 41) + 1 } else { 1 << 41 });
     }

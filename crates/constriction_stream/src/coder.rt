@@ -2,20 +2,20 @@
 
 use constriction_words::BitArray;
 
-/// A coder, which has words of compressed data and a state besides them.
+/// A coder, which has words of compressed data and a state besides these words.
 ///
 /// An implementor chooses what `shows` allows, and proves that `state` returns a value that `shows` allows.
 pub trait Code {
     /// The word type of the compressed data.
     type Word: BitArray;
 
-    /// The type of what the coder holds besides compressed data.
+    /// The type of the coder's state, which is what the coder holds besides compressed data.
     type State: Drop;
 
     /// Relates the coder to each value that `state` may return. An implementor chooses this relation freely.
     ghost shows: { Self → Self.State → Type 0 };
 
-    /// Returns what the coder holds besides its compressed data.
+    /// Returns the coder's state, which is what the coder holds besides its compressed data.
     fn state(&self) -> Self::State
         ensures { shows self.now result };
 }

@@ -16,13 +16,13 @@ pub trait IntoDecoder<const PRECISION: usize>: Encode<PRECISION> {
     /// The type of the decoder.
     type IntoDecoder: Decode<PRECISION, Word = Self::Word, State = Self::State> + Drop;
 
-    /// The error if the encoder can't turn into a decoder.
+    /// The error that `into_decoder` returns if the encoder can't turn into a decoder.
     type Error;
 
     /// Relates the encoder to each decoder that it may turn into. An implementor chooses this relation freely.
     ghost becomes: { Self → Self.IntoDecoder → Type 0 };
 
-    /// Relates the encoder to each error that `into_decoder` may return instead.
+    /// Relates the encoder to each error that `into_decoder` may return instead of a decoder.
     ///
     /// An implementor chooses this relation freely. If every encoder turns into a decoder, the relation never holds.
     ghost fails: { Self → Self.Error → Type 0 };
@@ -45,7 +45,7 @@ pub trait AsDecoder<'a, const PRECISION: usize>: Encode<PRECISION> {
     /// The type of the decoder, which borrows the data that it reads.
     type AsDecoder: Decode<PRECISION, Word = Self::Word, State = Self::State> + Drop;
 
-    /// Relates the encoder to each decoder that may read its data. An implementor chooses this relation freely.
+    /// Relates the encoder to each decoder that `as_decoder` may return. An implementor chooses this relation freely.
     ghost reads: { Self → Self.AsDecoder → Type 0 };
 
     /// Returns a decoder that borrows the encoder's data. The encoder keeps the data.

@@ -30,13 +30,13 @@ pub trait Decode<const PRECISION: usize>: Code {
     /// The error of a step that the backend refuses.
     type BackendError;
 
-    /// Relates the coder before a step, the step, what the step returns, and the coder after it.
+    /// Relates the coder before a step, the step, what the step returns, and the coder after the step.
     ///
     /// This is where an implementor states what its coder does.
     ghost decodes: { Self → Step → Result (Unit {0}) (CoderError Self.FrontendError Self.BackendError)
         → Self → Type 0 };
 
-    /// Relates the coder before a call, an error that the call returns before it uses the model, and the coder after.
+    /// Relates the coder before a call, an error that precedes any use of the model, and the coder after the call.
     ///
     /// An implementor chooses this relation freely. If every call uses the model, the relation never holds.
     ghost halts: { Self → CoderError Self.FrontendError Self.BackendError → Self → Type 0 };
@@ -51,7 +51,7 @@ pub trait Decode<const PRECISION: usize>: Code {
 
     /// Decodes a symbol under a model.
     ///
-    /// The coder makes the step that the decoded symbol's interval in the model's table gives.
+    /// The coder makes the step of the decoded symbol's interval in the model's table.
     ///
     /// # Errors
     ///
@@ -72,7 +72,7 @@ pub trait Decode<const PRECISION: usize>: Code {
         M::Probability: WordOf<Self::Word>,
         ensures step { DecodesSymbol decodes halts PRECISION (M.table model) self.old result self.new };
 
-    /// Returns an iterator that decodes one symbol for each of the models.
+    /// Returns an iterator that decodes one symbol for each model of `models`.
     ///
     /// The iterator is lazy: it decodes a symbol only when `next` is called. It continues after an error.
     ///
@@ -100,7 +100,7 @@ pub trait Decode<const PRECISION: usize>: Code {
         }
     }
 
-    /// Returns an iterator that decodes one symbol for each model, where an item may be an error instead of a model.
+    /// Returns an iterator that decodes one symbol for each model of `models`. An item may instead be an error.
     ///
     /// For an item `Err(error)`, the iterator returns `InvalidEntropyModel(error)` and leaves the decoder unchanged.
     /// For a model, it decodes a symbol as the iterator of [`decode_symbols`](Decode::decode_symbols) does.

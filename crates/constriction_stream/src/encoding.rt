@@ -42,9 +42,9 @@ impl<Symbol> Lent<Symbol> for &Symbol {
 /// The models guarantee that `PRECISION` is at least 1 and at most the number of bits of a word.
 ///
 /// An implementor chooses the ghost members and proves that each call obeys them. It also proves two laws about the
-/// errors that mean an impossible symbol. `encodes` allows none of them, because it describes only the steps of symbols
-/// that the model can code. None of them means lack of room. Generic code can rely only on these clauses and laws. If a
-/// caller needs stronger guarantees, it must name the coder's type.
+/// errors that mean an impossible symbol. `encodes` allows none of these errors, because it describes only the steps of
+/// symbols that the model can code. None of these errors means lack of room. Generic code can rely only on these
+/// clauses and laws. If a caller needs stronger guarantees, it must name the coder's type.
 pub trait Encode<const PRECISION: usize>: Code {
     /// The error of a step that the coder itself refuses, for example because the symbol is impossible.
     type FrontendError;
@@ -52,7 +52,7 @@ pub trait Encode<const PRECISION: usize>: Code {
     /// The error of a step that the backend refuses.
     type BackendError;
 
-    /// Relates the coder before a step, the step, what the step returns, and the coder after it.
+    /// Relates the coder before a step, the step, what the step returns, and the coder after the step.
     ///
     /// This is where an implementor states what its coder does.
     ghost encodes: { Self → Step → Result (Unit {0}) (CoderError Self.FrontendError Self.BackendError)
@@ -159,7 +159,7 @@ pub trait Encode<const PRECISION: usize>: Code {
         Ok(())
     }
 
-    /// Encodes symbols in order, each under its own model, where an item may be an error instead.
+    /// Encodes symbols in order, from items that are either a symbol with its own model or an error.
     ///
     /// Where `counts_symbols` holds, the caller proves that `symbols_left` is at least the number of items.
     ///
@@ -167,7 +167,7 @@ pub trait Encode<const PRECISION: usize>: Code {
     ///
     /// The call stops at the first item that fails. Exactly the symbols of the items before this item are encoded.
     ///
-    /// - `InvalidEntropyModel(error)`: the item is `Err(error)`. It doesn't change the coder.
+    /// - `InvalidEntropyModel(error)`: the item is `Err(error)`.
     /// - `CodingError(error)`: the coder refuses the item's symbol.
     fn try_encode_symbols<S, M, E, I>(
         &mut self,
@@ -251,11 +251,11 @@ pub trait Encode<const PRECISION: usize>: Code {
         true
     }
 
-    // No step returns the error of an impossible symbol.
+    // `encodes` allows no error that means an impossible symbol.
     ghost never_impossible: { (old : Self) (step : Step) (e : Self.FrontendError) (new : Self) → is_impossible_symbol e
         → encodes old step (Err (coder_error.Frontend e)) new → ⊥ };
 
-    // The error of an impossible symbol doesn't say that the coder is full.
+    // No error that means an impossible symbol means that the coder is full.
     ghost never_full: { (e : Self.FrontendError) → is_impossible_symbol e
         → is_lack_of_room (coder_error.Frontend e) → ⊥ };
 }

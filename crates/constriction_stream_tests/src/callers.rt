@@ -1,4 +1,4 @@
-//! Callers that know of a coder only what its traits say.
+//! Callers that are generic over coders, and know a coder by its traits alone.
 
 ghost use Rattle.std.specs.Prelude.{◌≡◌, ◌<◌, ◌≤◌, ◌↔◌, ◌∷◌, ◌++◌, List, length, reverse, IfOk, IfErr, IfSome, MatchOption, Ok, Err};
 ghost use Rattle.constriction_base.specs.declared.errors.CoderError.TheVariants as coder_error;
@@ -14,7 +14,7 @@ use constriction_stream::encoding::{Encode, EncodeReverse};
 use constriction_stream::errors::TryCodingError;
 use constriction_words::WordOf;
 
-/// Puts a symbol on a coder and takes it off.
+/// Encodes a symbol, and decodes one with the same model. Returns the symbol decoded, or `None` if a call fails.
 pub fn there_and_back<C, M>(coder: &mut C, symbol: &M::Symbol, model: &M) -> Option<M::Symbol>
 where
     C: Encode<8> + Decode<8>,
@@ -38,7 +38,7 @@ where
     }
 }
 
-/// Puts symbols on a coder, and says which were put.
+/// Encodes symbols with one model. The contract describes which symbols are encoded.
 pub fn encode_some<C, M>(
     coder: &mut C,
     symbols: &[M::Symbol],
@@ -59,7 +59,7 @@ where
     coder.encode_iid_symbols(symbols, model)
 }
 
-/// Takes the first of three symbols, and leaves the others.
+/// Decodes the first symbol of an iterator over three symbols, and leaves the other two on the coder.
 pub fn first_of_three<C, M>(
     coder: &mut C,
     model: &M,
@@ -76,7 +76,7 @@ where
     symbols.next()
 }
 
-/// Takes symbols as long as there are any, and counts them.
+/// Makes `amt` decodes with one model. Returns the number of decodes that succeed.
 pub fn decode_all<C, M>(coder: &mut C, amt: usize, model: &M) -> usize
 where
     C: Decode<8>,
@@ -95,7 +95,7 @@ where
     count
 }
 
-/// Puts two symbols on a coder.
+/// Encodes two symbols with one model, by a list call of pairs.
 pub fn encode_two<C, M>(
     coder: &mut C,
     first: &M::Symbol,
@@ -111,7 +111,7 @@ where
     coder.encode_symbols([(first, model), (second, model)])
 }
 
-/// Puts one symbol on a coder, and stops at an error behind it.
+/// Encodes the items of a list in which the second item is an error. The call stops there, after one symbol.
 pub fn encode_one<C, M>(
     coder: &mut C,
     symbol: &M::Symbol,
@@ -126,7 +126,7 @@ where
     coder.try_encode_symbols([Ok((symbol, model)), Err(7), Ok((symbol, model))])
 }
 
-/// Takes a symbol by the first of some models.
+/// Decodes a symbol with the first of `models`. Returns `None`, and leaves the coder unchanged, if there are none.
 pub fn first_of_models<C, M>(
     coder: &mut C,
     models: &[M],
@@ -144,7 +144,7 @@ where
     symbols.next()
 }
 
-/// Asks for a symbol where the model is an error, which leaves the coder.
+/// Decodes with an iterator of models in which the first item is an error. The coder stays unchanged.
 pub fn first_is_bad<C, M>(
     coder: &mut C,
     model: &M,
@@ -164,7 +164,7 @@ where
     symbols.next()
 }
 
-/// Puts symbols on a coder, the last one first.
+/// Encodes symbols from last to first with one model.
 pub fn encode_last_first<C, M>(
     coder: &mut C,
     symbols: &[M::Symbol],
@@ -181,8 +181,7 @@ where
     coder.encode_iid_symbols_reverse(symbols, model)
 }
 
-/// Puts a symbol on a coder. The error of an impossible symbol comes where the model doesn't know it, and
-/// nowhere else.
+/// Encodes a symbol. The error is that of an impossible symbol exactly if the model has no entry for `symbol`.
 pub fn encode_exactly<C, M>(
     coder: &mut C,
     symbol: &M::Symbol,
@@ -199,7 +198,9 @@ where
     coder.encode_symbol(symbol, model)
 }
 
-/// Puts a symbol on a coder that says that it is not full. Where it can tell, no error says that it is.
+/// Encodes a symbol, or returns `None` if the coder may be full.
+///
+/// If `tells_room` of the coder holds, the error of the encode isn't a lack of room.
 pub fn encode_unless_full<C, M>(
     coder: &mut C,
     symbol: &M::Symbol,
@@ -218,7 +219,7 @@ where
     Some(coder.encode_symbol(symbol, model))
 }
 
-/// Takes a symbol from a coder that says that it is not exhausted. No error says that its data ended.
+/// Decodes a symbol, or returns `None` if the coder may be exhausted. The decode's error isn't an end of the data.
 pub fn decode_unless_exhausted<C, M>(
     coder: &mut C,
     model: &M,

@@ -1,4 +1,4 @@
-//! The calls at the pile, without a contract.
+//! Calls of a pile, in functions without a contract.
 
 use crate::pile::{Empty, Pile};
 use constriction_base::errors::{CoderError, DefaultEncoderFrontendError};
@@ -8,16 +8,16 @@ use constriction_stream::encoding::Encode;
 use constriction_stream::errors::TryCodingError;
 use std::alloc::AllocError;
 
-/// A table of 8 bits.
+/// A table with a precision of 8 bits.
 pub type Table = WeightTable<u8, 8>;
 
-/// What a refused step of an encode returns.
+/// The error of a refused encode.
 pub type Refusal = CoderError<DefaultEncoderFrontendError, AllocError>;
 
-/// How a call ended that puts symbols on a pile.
+/// The outcome of a call that encodes symbols onto a pile.
 #[derive(Drop)]
 pub enum Put {
-    /// All were put.
+    /// All symbols were encoded.
     Done,
     /// A symbol was impossible.
     Impossible,
@@ -29,16 +29,16 @@ pub enum Put {
     Full,
 }
 
-/// How a step ended that takes a symbol off a pile.
+/// The outcome of a decode from a pile.
 #[derive(Clone, Copy, PartialEq, Eq)]
 pub enum Took {
-    /// This symbol was taken.
+    /// This symbol was decoded.
     Symbol(usize),
-    /// Nothing was on the pile.
+    /// The pile was empty.
     Empty,
-    /// The pile refused otherwise.
+    /// The pile refused the decode with another error.
     Refused,
-    /// In place of the model there was this error.
+    /// There was this error in place of the model.
     Bad(u8),
     /// There was no further model.
     End,
@@ -80,7 +80,7 @@ pub fn what_came_or_bad(
     }
 }
 
-/// Puts the symbols on, by `encode_iid_symbols`.
+/// Encodes `symbols` with `encode_iid_symbols`. Returns the outcome.
 pub fn put_list(pile: &mut Pile, symbols: &[usize], table: &Table) -> Put {
     if pile.symbols_left() < symbols.len() {
         return Put::Full;
@@ -88,12 +88,12 @@ pub fn put_list(pile: &mut Pile, symbols: &[usize], table: &Table) -> Put {
     how_put(pile.encode_iid_symbols(symbols, table))
 }
 
-/// The pile may be full.
+/// Returns whether the pile may be full.
 pub fn seems_full(pile: &Pile) -> bool {
     Encode::<8>::maybe_full(pile)
 }
 
-/// The pile may be exhausted.
+/// Returns whether the pile may be exhausted.
 pub fn seems_exhausted(pile: &Pile) -> bool {
     Decode::<8>::maybe_exhausted(pile)
 }

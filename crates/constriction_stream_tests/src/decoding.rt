@@ -1,4 +1,4 @@
-//! Symbols that are taken off a pile, one by one and by iterators.
+//! Tests that decode symbols from a pile, one by one and with iterators.
 
 use crate::callers::{
     decode_all, decode_unless_exhausted, encode_some, first_is_bad, first_of_models,
@@ -11,7 +11,7 @@ use crate::pile::Pile;
 use constriction_stream::encoding::Encode;
 use std::test::Fail;
 
-/// Iterators that are dropped early leave what they did not take.
+/// Drops an iterator early. Returns whether the symbols that it didn't decode stay on the pile.
 fn some_are_left(pile: &mut Pile, table: &Table) -> bool {
     if pile.symbols_left() < 3 {
         return false;
@@ -24,7 +24,7 @@ fn some_are_left(pile: &mut Pile, table: &Table) -> bool {
         && pile.holds(&[])
 }
 
-/// A symbol that the table knows comes back, and another does not.
+/// Returns whether a symbol of the table comes back from a pile, and an impossible symbol doesn't.
 fn comes_back(known: &mut Pile, impossible: &mut Pile, table: &Table) -> bool {
     if known.symbols_left() < 1 || impossible.symbols_left() < 1 {
         return false;
@@ -47,7 +47,7 @@ fn iterators_dropped_early(rt: HostRuntime) -> Result<(), Fail> {
     Ok(())
 }
 
-/// The callers that know the traits alone.
+/// Decodes with generic callers. Returns whether each caller returns what is expected.
 fn through_the_bounds(pile: &mut Pile, tables: &[Table; 1]) -> bool {
     matches!(put_list(pile, &[1, 0], &tables[0]), Put::Done)
         && matches!(

@@ -1,4 +1,4 @@
-//! Symbols that are put on a pile, one by one and in lists.
+//! Tests that encode symbols onto a pile, one by one and in lists.
 
 use crate::callers::{
     encode_exactly, encode_last_first, encode_one, encode_two, encode_unless_full,
@@ -8,7 +8,7 @@ use crate::pile::Pile;
 use constriction_stream::encoding::Encode;
 use std::test::Fail;
 
-/// The callers that know the traits alone.
+/// Encodes two symbols with a generic caller. Returns whether the pile then holds their quantiles.
 fn through_the_bounds(pile: &mut Pile, table: &Table) -> bool {
     if pile.symbols_left() < 9 {
         return false;
@@ -16,7 +16,7 @@ fn through_the_bounds(pile: &mut Pile, table: &Table) -> bool {
     matches!(how_put(encode_two(pile, &1, &0, table)), Put::Done) && pile.holds(&[255, 0])
 }
 
-/// The others, each on a pile of its own.
+/// Encodes with three other generic callers, each on its own pile. Returns whether each does what is expected.
 fn through_more_bounds(first: &mut Pile, last: &mut Pile, exact: &mut Pile, table: &Table) -> bool {
     if first.symbols_left() < 3 || last.symbols_left() < 3 || exact.symbols_left() < 3 {
         return false;
@@ -32,7 +32,7 @@ fn through_more_bounds(first: &mut Pile, last: &mut Pile, exact: &mut Pile, tabl
         && exact.holds(&[])
 }
 
-/// A pile for one symbol takes one and then seems full.
+/// Encodes a symbol onto a pile with room for one. Returns whether this succeeds, and the pile may then be full.
 fn until_it_is_full(pile: &mut Pile, table: &Table) -> bool {
     if pile.symbols_left() < 1 {
         return false;

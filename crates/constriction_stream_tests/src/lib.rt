@@ -1,14 +1,15 @@
-//! Tests of the coder traits, and no code besides: a coder that keeps what it was asked as a pile, and
-//! callers that know of a coder only what its traits say.
+//! Tests of the coder traits, with a coder that is a pile of quantiles, and with callers that know a coder by its
+//! traits alone.
 //!
-//! What a contract of `constriction_stream` says is proved there for all coders. These tests stand for
-//! what no contract can say: that list calls and iterators stop and go on where a reader expects, and
-//! that they can succeed. They are a crate of their own so that `constriction_stream` is proved once.
-//! `tests/cases/constriction_stream_tests` has tests that run without a proof, by `tests/unproved`: of lists and iterators that
-//! stop at a fault, and of what they ask their callers' iterators for.
+//! The contracts of `constriction_stream` are proved there for all coders. These tests check what no contract can
+//! state: list calls and iterators stop and go on where a reader expects, and they can succeed. The tests are a
+//! separate crate, so that `constriction_stream` is proved once.
 //!
-//! [`calls`] makes each dear call once, without a contract, so that no case pays for what a call
-//! promises besides; a case is one chain of them.
+//! `tests/cases/constriction_stream_tests` has tests that run without a proof, with `tests/unproved`. They cover lists
+//! and iterators that stop at a fault, and the items that they request from their callers' iterators.
+//!
+//! [`calls`] has functions without a contract for the calls that cost much to prove, so that the proof of a helper
+//! doesn't use the contracts of these calls.
 #![tactic(auto)]
 
 #[cfg(test)]

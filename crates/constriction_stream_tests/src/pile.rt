@@ -1,4 +1,4 @@
-//! The coder: a pile of quantiles, with room for so many.
+//! The coder of these tests: a pile of quantiles, with room for a limited number of quantiles.
 
 ghost use Rattle.std.specs.Prelude.{◌≡◌, ◌+◌, ◌-◌, ◌%◌, ◌<◌, ◌∷◌, ◌++◌, [], ℕ, vec_len, IsTrue, MatchResult, alloc_error, Result, Ok, ⊤};
 ghost use Rattle.std.specs.Bool.{OnFalse};
@@ -17,13 +17,13 @@ use constriction_stream::encoding::{Encode, EncodeReverse};
 use constriction_words::WordOf;
 use std::alloc::{AllocError, Global};
 
-/// Nothing is on the pile.
+/// The error of a decode from an empty pile.
 #[derive(Debug, Clone, Copy, PartialEq, Eq)]
 pub enum Empty {
     Empty,
 }
 
-/// Quantiles, the last of which is decoded first.
+/// A coder that keeps its symbols' quantiles in a list. The last quantile is decoded first.
 #[derive(Drop)]
 pub struct Pile {
     pub quantiles: Vec<u32>,
@@ -41,7 +41,7 @@ impl Pile {
         }
     }
 
-    /// These quantiles are on the pile.
+    /// Returns whether the pile holds exactly `quantiles`.
     pub fn holds(&self, quantiles: &[u32]) -> bool {
         self.quantiles.as_slice() == quantiles
     }

@@ -1,9 +1,9 @@
-//! Iterators over one thing, given again and again.
+//! Iterators that return one reference again and again.
 
 ghost use Rattle.std.specs.Prelude.{◌≡◌, ◌+◌, MatchOption};
 ghost use Rattle.std.specs.Iterator.{at_most};
 
-/// Gives one thing so many times, and doesn't say beforehand how many.
+/// An iterator that returns the reference `one` `count` times, and has no size hint.
 #[derive(Drop)]
 pub struct Ones<'a, T> {
     pub count: usize,
@@ -27,7 +27,9 @@ impl<'a, T> Iterator for Ones<'a, T> {
     }
 }
 
-/// Gives one thing so many times, and an error in place of the one behind which so many are left.
+/// An iterator of `count` items: the reference `one` again and again, and one error.
+///
+/// The error is the item after which `bad` items are left.
 #[derive(Drop)]
 pub struct Mixed<'a, T> {
     pub count: usize,

@@ -15,7 +15,7 @@ use std::alloc::AllocError;
 use std::fmt::Display;
 use thiserror::Error;
 
-/// A codebook: it assigns a codeword, which is a list of bits, to each symbol that it can code.
+/// A codebook, which assigns a codeword (a list of bits) to each symbol that it can code.
 ///
 /// An implementor proves that the code is prefix-free: if a codeword begins another codeword, their symbols mean the
 /// same. It defines which symbols mean the same (for example equal numbers), and proves that they have the same
@@ -80,8 +80,8 @@ pub trait EncoderCodebook: Codebook {
 
     /// Returns the whole codeword of the symbol in one word, and the codeword's length in bits.
     ///
-    /// The codeword stands in the lowest bits of the word, first bit highest. So a coder can write it with one shift.
-    /// The default implementation returns `None`. A symbol for which the call returns `None` may still have a codeword.
+    /// The codeword is in the lowest bits of the word, first bit highest. So a coder can write it with one shift. The
+    /// default implementation returns `None`. A symbol for which the call returns `None` may still have a codeword.
     #[inline]
     fn codeword_at_once<Word: BitArray>(&self, symbol: &Self::Symbol) -> Option<(Word, u32)>
         ensures { IfSome result (λ found.
@@ -91,7 +91,7 @@ pub trait EncoderCodebook: Codebook {
     }
 }
 
-/// The order in which a stream writes the bits of a codeword: a [`Queue`] or a [`Stack`].
+/// The order in which a [`Queue`] or a [`Stack`] writes the bits of a codeword.
 pub trait BitOrder: Semantics {
     /// The bits of a codeword in writing order, given its bits in reading order.
     ghost form: { List Bool → List Bool };
@@ -133,13 +133,13 @@ impl BitOrder for Queue {
 
     ghost chosen = { λ prefix suffix. prefix };
 
-    /// Reverses the `count` bits, so that the codeword's first bit is the lowest.
+    /// Reverses the lowest `count` bits of `bits`, so that the codeword's first bit is the lowest.
     #[inline]
     fn in_order<Word: BitArray>(bits: Word, count: u32) -> Word {
         first_lowest(bits, count)
     }
 
-    /// Emits the prefix form.
+    /// Emits the codeword in prefix form.
     #[inline]
     fn emit_symbol<C: EncoderCodebook, E: From<AllocError>, F: FnMut(bool) -> Result<(), E>>(
         codebook: &C,
@@ -161,7 +161,7 @@ impl BitOrder for Stack {
         bits
     }
 
-    /// Emits the suffix form.
+    /// Emits the codeword in suffix form.
     #[inline]
     fn emit_symbol<C: EncoderCodebook, E: From<AllocError>, F: FnMut(bool) -> Result<(), E>>(
         codebook: &C,
@@ -172,7 +172,7 @@ impl BitOrder for Stack {
     }
 }
 
-/// The reason why a codebook read no symbol.
+/// The error of a codebook that read no symbol.
 #[derive(Debug, Drop, Error)]
 #[error_bound(InvalidCodeword: Display)]
 pub enum SymbolCodeError<InvalidCodeword> {
@@ -193,7 +193,7 @@ impl<InvalidCodeword> SymbolCodeError<InvalidCodeword> {
     }
 }
 
-/// A codebook for decoding: it reads symbols from bits.
+/// A codebook for decoding, which reads symbols from bits.
 ///
 /// An implementor defines after which bits the codebook reads another bit (`reads_on`), and which bits are invalid
 /// (`is_invalid`). It proves two laws. The codebook reads on only while no codeword is complete. Invalid bits begin

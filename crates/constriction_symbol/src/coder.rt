@@ -32,7 +32,7 @@ use std::marker::{Model, PhantomData};
 /// Bits fill a word from its lowest bit to its highest. The coder writes a full word to the backend when the next bit
 /// is appended, not earlier.
 ///
-/// Contracts see a `BitsValue`: all bits, the bits of the word outside the backend, and the backend.
+/// Contracts describe the coder by a `BitsValue`: all bits, the bits of the word outside the backend, and the backend.
 ///
 /// # Examples
 ///
@@ -81,9 +81,9 @@ impl<Word: BitArray, S: Semantics, B: Holds<Word, Stack>> Model for SymbolCoder<
 }
 
 impl<Word: BitArray, S: Semantics> SymbolCoder<Word, S, Vec<Word>> {
-    /// Makes a coder without bits.
+    /// Creates a coder without bits.
     ///
-    /// This allocates nothing. The coder takes memory for its words from `alloc` later.
+    /// The call allocates nothing. Later the coder allocates memory for its words from `alloc`.
     #[inline]
     pub fn new(alloc: Global) -> Self
         ensures { result.bits ≡ [] }
@@ -98,11 +98,11 @@ impl<Word: BitArray, S: Semantics> SymbolCoder<Word, S, Vec<Word>> {
 }
 
 impl<Word: BitArray> StackCoder<Word, Vec<Word>> {
-    /// Makes a stack without bits, with memory for `bit_capacity` bits and the 1 that an export appends.
+    /// Creates a stack without bits, with memory for `bit_capacity` bits and the 1 that an export appends.
     ///
     /// # Errors
     ///
-    /// `AllocError` if there isn't enough memory.
+    /// Returns `AllocError` if there isn't enough memory.
     pub fn with_bit_capacity(alloc: Global, bit_capacity: usize) -> Result<Self, AllocError>
         ensures ok { IfOk result (λ new. new.bits ≡ []) }
         ensures room { IfOk result (λ new. bit_capacity < vec_capacity new.backend * Word.BITS) }
@@ -117,11 +117,11 @@ impl<Word: BitArray> StackCoder<Word, Vec<Word>> {
 }
 
 impl<Word: BitArray> QueueEncoder<Word, Vec<Word>> {
-    /// Makes a queue without bits, with memory for `bit_capacity` bits. For a capacity of 0 it allocates nothing.
+    /// Creates a queue without bits, with memory for `bit_capacity` bits. A capacity of 0 needs no memory.
     ///
     /// # Errors
     ///
-    /// `AllocError` if there isn't enough memory.
+    /// Returns `AllocError` if there isn't enough memory.
     pub fn with_bit_capacity(alloc: Global, bit_capacity: usize) -> Result<Self, AllocError>
         ensures ok { IfOk result (λ new. new.bits ≡ []) }
         ensures room { IfOk result (λ new. bit_capacity ≤ vec_capacity new.backend * Word.BITS) }
@@ -140,8 +140,9 @@ impl<Word: BitArray> QueueEncoder<Word, Vec<Word>> {
 ///
 /// It is a trait because an inherent `StackCoder::new` would be ambiguous beside `SymbolCoder::new` for vectors.
 pub trait NewSmallStack {
-    /// Makes a stack without bits. The first `2 * usize::BITS` bits need no memory. Further words are in memory of
-    /// `alloc`.
+    /// Creates a stack without bits.
+    ///
+    /// The first `2 * usize::BITS` bits need no allocation. The stack allocates memory for further words from `alloc`.
     fn new(alloc: Global) -> Self;
 }
 
@@ -167,7 +168,7 @@ impl<Word: BitArray, S: Semantics, B: BoundedReadWords<Word, Stack>> SymbolCoder
         self.backend.remaining() <= (usize::MAX - last) / Word::BITS as usize
     }
 
-    /// Returns the number of bits.
+    /// Returns the number of bits. The caller proves that it fits a `usize` (see [`SymbolCoder::len_fits`]).
     pub fn len(&self) -> usize
         requires { length self.now.bits < 0x1_0000_0000_0000_0000 }
         ensures { result ≡ length self.now.bits }
@@ -186,11 +187,11 @@ impl<Word: BitArray, S: Semantics, B: BoundedReadWords<Word, Stack>> SymbolCoder
 impl<Word: BitArray, S: Semantics, B: WriteWords<Word>> SymbolCoder<Word, S, B> {
     /// Appends a bit.
     ///
-    /// If the last word is full before the call, the call first writes that word to the backend.
+    /// If the word outside the backend is full, the call first writes that word to the backend.
     ///
     /// # Errors
     ///
-    /// The backend's error if the backend refuses that word. The bits are then unchanged.
+    /// Returns the backend's error if the backend refuses that word. The bits are then unchanged.
     #[inline]
     pub fn write_bit(&mut self, bit: bool) -> Result<(), B::WriteError>
         ensures puts { PutsLast Word.BITS Word.number (IsWrite B.words B.room B.writes B.write_fails)
@@ -208,7 +209,7 @@ impl<Word: BitArray, B: ReadWords<Word, Stack>> StackCoder<Word, B> {
     ///
     /// # Errors
     ///
-    /// The backend's error if that read fails. If the backend's `is_list` holds, the bits are then unchanged.
+    /// Returns the backend's error if that read fails. If the backend's `is_list` holds, the bits are then unchanged.
     #[inline]
     pub fn read_bit(&mut self) -> Result<Option<bool>, B::ReadError>
         ensures { PopsBit Word.BITS Word.number B.is_list B.reads self.old (item_of_answer result) self.new }
@@ -248,7 +249,7 @@ impl<Word: BitArray, S: Semantics, B: Holds<Word, Stack> + Clone> Clone
     ///
     /// # Errors
     ///
-    /// `AllocError` only if cloning the backend fails.
+    /// Returns `AllocError` only if cloning the backend fails.
     fn clone(&self) -> Result<Self, AllocError> {
         let backend = self.backend.clone()?;
         Ok(SymbolCoder {

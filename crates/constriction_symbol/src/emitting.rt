@@ -1,4 +1,4 @@
-//! Passing the bits of words, and zeros, to an emitter.
+//! Functions that pass zeros, or the bits of a word, to `emit`.
 
 ghost use Rattle.std.specs.Prelude.{◌≤◌, ◌∷◌, ◌++◌, true, false, [], replicate, reverse};
 ghost use Rattle.constriction_symbol.specs.Bits.{bits_of};
@@ -25,7 +25,7 @@ pub fn emit_zeros<E, F: FnMut(bool) -> Result<(), E>>(
     Ok(())
 }
 
-/// Emits the lowest `count` bits of a word, highest first.
+/// Emits the lowest `count` bits of `word`, highest first.
 pub fn emit_down<Word: BitArray, E, F: FnMut(bool) -> Result<(), E>>(
     word: Word,
     count: u32,
@@ -47,7 +47,7 @@ pub fn emit_down<Word: BitArray, E, F: FnMut(bool) -> Result<(), E>>(
     Ok(())
 }
 
-/// Emits the lowest `count` bits of a word, lowest first.
+/// Emits the lowest `count` bits of `word`, lowest first. Bits above the highest bit of `word` are 0.
 pub fn emit_up<Word: BitArray, E, F: FnMut(bool) -> Result<(), E>>(
     word: Word,
     count: u32,
@@ -68,7 +68,7 @@ pub fn emit_up<Word: BitArray, E, F: FnMut(bool) -> Result<(), E>>(
     Ok(())
 }
 
-/// Emits `count` zeros, a 1, and `count` zeros again.
+/// Emits `count` zeros, a 1, and another `count` zeros.
 pub fn emit_lone<E, F: FnMut(bool) -> Result<(), E>>(
     count: u32,
     emit: &mut F,
@@ -88,7 +88,7 @@ pub fn emit_lone<E, F: FnMut(bool) -> Result<(), E>>(
     emit_zeros(count, emit)
 }
 
-/// Emits one bit.
+/// Emits `bit`.
 pub fn emit_bit<E, F: FnMut(bool) -> Result<(), E>>(
     bit: bool,
     emit: &mut F,

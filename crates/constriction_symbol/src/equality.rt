@@ -1,4 +1,4 @@
-//! Equality of all parts.
+//! Equality of lists of bits that are stored in one word, `WordBits` and `TopBits`.
 
 ghost use Rattle.std.specs.Prelude.{IsTrue, ◌↔◌, ◌≡◌};
 
@@ -6,7 +6,7 @@ use crate::top_bits::TopBits;
 use crate::word_bits::WordBits;
 use constriction_words::BitArray;
 
-/// Returns whether two words are the same number.
+/// Returns whether `first` and `second` are the same number.
 fn is_same_word<Word: BitArray>(first: Word, second: Word) -> bool
     ensures { IsTrue result ↔ (Word.number first ≡ Word.number second) }
 {
@@ -22,7 +22,7 @@ impl<Word: BitArray> PartialEq for WordBits<Word> {
 
     ghost laws = { lists_per (partial_equiv_from_equiv bool_eq_equiv) };
 
-    /// Returns whether both have the same bits.
+    /// Returns whether both lists have the same bits.
     fn eq(&self, other: &Self) -> bool {
         self.count() == other.count() && is_same_word(self.turned_word(), other.turned_word())
     }
@@ -44,7 +44,7 @@ impl<Word: BitArray> PartialEq for TopBits<Word> {
 
     ghost laws = { lists_per (partial_equiv_from_equiv bool_eq_equiv) };
 
-    /// Returns whether both have the same bits.
+    /// Returns whether both lists have the same bits.
     fn eq(&self, other: &Self) -> bool {
         self.count() == other.count() && is_same_word(self.word(), other.word())
     }

@@ -17,9 +17,9 @@ use thiserror::Error;
 
 /// The Exp-Golomb codebook. Every number of type `N` has a codeword.
 ///
-/// The codeword of `n` ends with `n + 1` in binary, highest bit first, without leading zeros. If these are `b` bits,
-/// `b - 1` zeros stand before them. For the greatest number of type `N`, the codeword is `N::BITS` zeros, a 1, and
-/// `N::BITS` zeros.
+/// The codeword of `n` ends with `n + 1` in binary, highest bit first, without leading zeros. If `n + 1` has `b` bits,
+/// the codeword begins with `b - 1` zeros. For the greatest number of type `N`, the codeword is `N::BITS` zeros, a 1,
+/// and `N::BITS` zeros.
 ///
 /// # Examples
 ///
@@ -35,7 +35,7 @@ pub struct ExpGolomb<N: BitArray> {
 }
 
 impl<N: BitArray> ExpGolomb<N> {
-    /// Makes the codebook. It has no parameters and stores nothing.
+    /// Creates the codebook, which has no parameters and stores nothing.
     pub fn new() -> Self {
         ExpGolomb {
             number: PhantomData,
@@ -62,7 +62,7 @@ impl<N: BitArray> Codebook for ExpGolomb<N> {
         known_prefix_free (N.number m) (N.number n) bits tail first second };
 }
 
-/// Emits the codeword of `after - 1`.
+/// Emits the codeword of `after - 1`, first bit first. The caller proves that `after` is above 0.
 #[inline]
 fn emit_number<N: BitArray, E, F: FnMut(bool) -> Result<(), E>>(
     after: N,
@@ -83,7 +83,7 @@ fn emit_number<N: BitArray, E, F: FnMut(bool) -> Result<(), E>>(
     emit_down(after, length, emit)
 }
 
-/// Emits the codeword of `after - 1`, last bit first.
+/// Emits the codeword of `after - 1`, last bit first. The caller proves that `after` is above 0.
 #[inline]
 fn emit_number_turned<N: BitArray, E, F: FnMut(bool) -> Result<(), E>>(
     after: N,
@@ -109,7 +109,7 @@ impl<N: BitArray> EncoderCodebook for ExpGolomb<N> {
 
     ghost suffix_wants = { λ _ _. ⊥ };
 
-    /// Emits the codeword, first bit first. It never needs memory.
+    /// Emits the codeword, first bit first. The call needs no memory.
     #[inline]
     fn encode_symbol_prefix<E: From<AllocError>, F: FnMut(bool) -> Result<(), E>>(
         &self,
@@ -123,7 +123,7 @@ impl<N: BitArray> EncoderCodebook for ExpGolomb<N> {
         }
     }
 
-    /// Emits the codeword, last bit first. It never needs memory.
+    /// Emits the codeword, last bit first. The call needs no memory.
     #[inline]
     fn encode_symbol_suffix<E: From<AllocError>, F: FnMut(bool) -> Result<(), E>>(
         &self,
@@ -137,7 +137,9 @@ impl<N: BitArray> EncoderCodebook for ExpGolomb<N> {
         }
     }
 
-    /// Returns the codeword if it has fewer bits than `Word`, and the symbol isn't the greatest number of type `N`.
+    /// Returns the whole codeword of the symbol in one word, and the codeword's length in bits.
+    ///
+    /// Returns `None` for the greatest number of type `N`, and for codewords of `Word::BITS` bits or more.
     #[inline]
     fn codeword_at_once<Word: BitArray>(&self, symbol: &N) -> Option<(Word, u32)> {
         if !symbol.is_below(N::greatest()) {
@@ -210,9 +212,10 @@ impl<N: BitArray> DecoderCodebook for ExpGolomb<N> {
         }
     }
 
-    /// Looks up the codeword that the `count` highest bits of `bits` begin with.
+    /// Decodes the codeword that the `count` highest bits of `bits` begin with.
     ///
-    /// Returns `None` for the greatest number of type `N`, and for codewords of `count` bits or more.
+    /// Returns the number, and the length of its codeword in bits. Returns `None` for the greatest number of type `N`,
+    /// and for codewords of `count` bits or more.
     #[inline]
     fn symbol_at_once<Word: BitArray>(&self, bits: Word, count: u32) -> Option<(N, u32)> {
         let zeros = Word::BITS - bits.bit_length();

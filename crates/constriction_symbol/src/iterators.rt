@@ -1,7 +1,8 @@
 //! Iterators over decoded symbols, and over a repeated codebook.
 //!
-//! The iterators over bits don't report how many bits are left. Over an iterator backend this number is unknown, and
-//! one implementation serves all backends. A loop over `0..coder.len()` visits each bit of a coder that has `len`.
+//! The iterators over bits (`StackCoder` and `QueueDecoder`) don't report how many bits are left. One implementation
+//! serves all backends, and for an iterator backend this number is unknown. For a coder that has `len`, a loop over
+//! `0..coder.len()` visits each bit.
 
 ghost use Rattle.constriction_stream.specs.Lists.{AnswersNext};
 ghost use Rattle.constriction_symbol.specs.Codewords.{ReadsSymbol};
@@ -85,10 +86,10 @@ where
     }
 }
 
-/// An iterator that repeats one codebook. [`ReadBitStream::decode_iid_symbols`] uses it.
+/// An iterator that returns one codebook `amt` times. [`ReadBitStream::decode_iid_symbols`] uses it.
 #[derive(Debug, Drop)]
 pub struct RepeatCodebook<'a, C> {
-    /// The codebook.
+    /// The codebook that the iterator returns.
     pub codebook: &'a C,
     /// The number of repetitions left.
     pub amt: usize,

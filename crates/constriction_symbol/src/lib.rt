@@ -31,7 +31,7 @@
 //! - `specs/Bits.antt`: bits of words.
 //! - `specs/Codewords.antt`: emitting, writing and reading codewords.
 //! - `specs/Golomb.antt`: Exp-Golomb codewords.
-//! - `specs/Huffman.antt`: the tree that merging the weights gives, and the tree's codewords.
+//! - `specs/Huffman.antt`: the tree that results from merging the weights, and the tree's codewords.
 //! - `specs/Merging.antt`: which weights make a tree, and the error for other weights.
 #![tactic(auto)]
 

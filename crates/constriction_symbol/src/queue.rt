@@ -14,7 +14,8 @@ use std::marker::Model;
 
 /// A decoder for the bits of a backend's words. It reads each word from the lowest bit to the highest.
 ///
-/// Contracts see a `BitsValue`: the unread bits, the unread bits of the word read last, and the backend.
+/// Contracts describe the decoder by a `BitsValue`: all unread bits, the unread bits of the word read last, and the
+/// backend.
 ///
 /// # Examples
 ///
@@ -47,7 +48,7 @@ impl<Word: BitArray, B: Holds<Word, Queue>> Model for QueueDecoder<Word, B> {
 }
 
 impl<Word: BitArray, B: ReadWords<Word, Queue>> QueueDecoder<Word, B> {
-    /// Makes a decoder for all bits of a backend's words.
+    /// Creates a decoder for all bits of a backend's words.
     ///
     /// The decoder also returns the zeros that complete the last word of an export.
     ///
@@ -74,7 +75,8 @@ impl<Word: BitArray, B: ReadWords<Word, Queue>> QueueDecoder<Word, B> {
     ///
     /// # Errors
     ///
-    /// The backend's error if that read fails. If the backend's `is_list` holds, the unread bits are unchanged.
+    /// Returns the backend's error if that read fails. If the backend's `is_list` holds, the unread bits are then
+    /// unchanged.
     #[inline]
     pub fn read_bit(&mut self) -> Result<Option<bool>, B::ReadError>
         ensures { TakesBit Word.BITS Word.number B.is_list B.reads self.old (item_of_answer result) self.new }
@@ -122,7 +124,7 @@ impl<Word: BitArray, B: Holds<Word, Queue> + Clone> Clone for QueueDecoder<Word,
     ///
     /// # Errors
     ///
-    /// `AllocError` only if cloning the backend fails.
+    /// Returns `AllocError` only if cloning the backend fails.
     fn clone(&self) -> Result<Self, AllocError> {
         let backend = self.backend.clone()?;
         Ok(QueueDecoder {
@@ -143,7 +145,7 @@ impl<Word: BitArray, B: Holds<Word, Queue> + PartialEq> PartialEq for QueueDecod
     ghost laws = { and_per (on_per (λ c. c.last) (lists_per (partial_equiv_from_equiv bool_eq_equiv)))
         (on_per (λ c. c.backend) B.laws) };
 
-    /// Returns whether the unread bits of the words read last are equal, and the backends are equal.
+    /// Returns whether the decoders have equal backends and equal unread bits of the words read last.
     fn eq(&self, other: &Self) -> bool {
         self.last == other.last && self.backend == other.backend
     }

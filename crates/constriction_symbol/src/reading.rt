@@ -36,8 +36,8 @@ pub trait ReadBitStream<S: Semantics> {
     ///
     /// # Errors
     ///
-    /// The stream's error if the source of the bits refuses the read. If `is_list` holds, the unread bits are
-    /// unchanged.
+    /// Returns the stream's error if the source of the bits refuses the read. If `is_list` holds, the unread bits are
+    /// then unchanged.
     fn read_bit(&mut self) -> Result<Option<bool>, Self::ReadError>
         ensures { gives self.old (item_of_answer result) self.new };
 
@@ -109,7 +109,7 @@ impl<Word: BitArray, B: ReadWords<Word, Stack> + Drop> ReadBitStream<Stack>
 
     ghost gives = { PopsBit Word.BITS Word.number B.is_list B.reads };
 
-    /// Reads the last bit.
+    /// Removes the last bit and returns it, or returns `None` if there are no bits.
     ///
     /// If the word outside the backend has no bit left, the call first reads the next word from the backend.
     #[inline]
@@ -143,7 +143,7 @@ impl<Word: BitArray, B: ReadWords<Word, Queue> + Drop> ReadBitStream<Queue>
 
     ghost gives = { TakesBit Word.BITS Word.number B.is_list B.reads };
 
-    /// Reads the first bit.
+    /// Removes the first unread bit and returns it, or returns `None` if no bit is left.
     ///
     /// If the word read last has no bit left, the call first reads the next word from the backend.
     #[inline]

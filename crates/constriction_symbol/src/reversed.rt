@@ -3,9 +3,9 @@
 //! A codebook that climbs from the leaf of a tree to its root finds the bits in this order. [`reversed_codeword`] emits
 //! the prefix form of its codewords.
 //!
-//! The reversal goes through a [`SmallBitStack`]. This stack holds two words of bits without allocating: the first word
-//! is inline in its small vector, the last one is outside the backend. [`NewSmallStack`] makes it, because a second
-//! `StackCoder::new` would be ambiguous.
+//! A [`SmallBitStack`] reverses the bits. This stack holds two words of bits without allocating: the first word is
+//! inline in its small vector, the second word is outside the backend. The trait [`NewSmallStack`] has its constructor,
+//! because a second `StackCoder::new` would be ambiguous.
 
 ghost use Rattle.constriction_symbol.specs.Bits.{PutsBit};
 ghost use Rattle.constriction_symbol.specs.Codewords.{Emits, EmitsCodeword, LacksMemory, formed};
@@ -41,11 +41,11 @@ pub trait SuffixCodebook: Codebook {
             emit.old (formed reverse (Self.codeword self.now symbol.now)) result emit.new };
 }
 
-/// Pushes a bit.
+/// Pushes `bit` onto `stack`.
 ///
 /// # Errors
 ///
-/// The backend's error if the last word is full and the backend refuses it.
+/// Returns the backend's error if the word outside the backend is full and the backend refuses it.
 #[inline]
 fn put<Word: BitArray, B: WriteWords<Word>>(
     stack: &mut StackCoder<Word, B>,
@@ -58,11 +58,11 @@ fn put<Word: BitArray, B: WriteWords<Word>>(
     put_last(&mut stack.backend, &mut stack.last, bit)
 }
 
-/// Pushes a bit onto a small stack.
+/// Pushes `bit` onto a small stack.
 ///
 /// # Errors
 ///
-/// `AllocError` if the stack has two words of bits, and there is no memory for a third.
+/// Returns `AllocError` if the stack has at least `2 * usize::BITS` bits, and there is no memory for another word.
 #[inline]
 fn put_small(stack: &mut SmallBitStack, bit: bool) -> Result<(), AllocError>
     ensures bits { PutsBit stack.old.bits bit result stack.new.bits }
@@ -71,7 +71,7 @@ fn put_small(stack: &mut SmallBitStack, bit: bool) -> Result<(), AllocError>
     put(stack, bit)
 }
 
-/// Pops the last bit of a small stack.
+/// Pops the last bit of a small stack, or returns `None` if there are no bits.
 #[inline]
 fn take_small(stack: &mut SmallBitStack) -> Option<bool>
     ensures { MatchOption result (stack.old.bits ≡ []) (λ bit. stack.old.bits ≡ stack.new.bits ++ bit ∷ []) }
@@ -95,7 +95,7 @@ fn put_suffix<C: SuffixCodebook>(
     codebook.emit_suffix(symbol, &mut push)
 }
 
-/// Emits the bits of a stack, last bit first.
+/// Pops the bits of a stack and emits them, last bit first.
 fn emit_taken<E, F: FnMut(bool) -> Result<(), E>>(
     stack: &mut SmallBitStack,
     emit: &mut F,
@@ -112,12 +112,13 @@ fn emit_taken<E, F: FnMut(bool) -> Result<(), E>>(
     Ok(())
 }
 
-/// Emits the prefix form of a symbol's codeword, by a codebook that emits suffix forms.
+/// Emits the prefix form of a symbol's codeword, given a codebook that emits suffix forms.
 ///
 /// # Errors
 ///
 /// - `Frontend(ImpossibleSymbol)` exactly if the symbol has no codeword. Nothing was emitted.
-/// - `Backend(error)` if `emit` returns this error. `emit` got the codeword's bits up to and including that bit.
+/// - `Backend(error)` if `emit` returns this error. `emit` got the codeword's bits up to and including the bit that it
+///   refused.
 /// - `Backend(error)`, made from an `AllocError`, if there is no memory for a codeword of more than `2 * usize::BITS`
 ///   bits. Nothing was emitted. Shorter codewords need no memory.
 ///

@@ -1,4 +1,4 @@
-//! Adding and removing bits of a coder: its backend's words, and the last word outside the backend.
+//! Adding and removing bits of a coder, which are in the words of its backend and in the word outside the backend.
 
 ghost use Rattle.constriction_base.specs.Backends.{IsWrite};
 ghost use Rattle.constriction_base.specs.Iterators.{item_of_answer};
@@ -11,7 +11,9 @@ use crate::word_bits::WordBits;
 use constriction_base::backends::{Queue, ReadWords, Stack, WriteWords};
 use constriction_words::BitArray;
 
-/// Appends a bit to the last word. A full last word is first written to the backend, and the bit begins the next word.
+/// Appends `bit` to `last`, the word outside the backend.
+///
+/// If `last` is full, the call first writes it to the backend, and `bit` begins the next word.
 #[inline]
 pub fn put_last<Word: BitArray, B: WriteWords<Word>>(
     backend: &mut B,
@@ -34,10 +36,10 @@ pub fn put_last<Word: BitArray, B: WriteWords<Word>>(
     Ok(())
 }
 
-/// Appends the lowest `count` bits of `bits` to the last word, lowest first.
+/// Appends the lowest `count` bits of `bits` to `last`, lowest first.
 ///
-/// If not all of them fit, the first ones fill the last word. The call writes that word to the backend, and the
-/// remaining bits begin the next word.
+/// If not all of them fit, the first bits fill `last`. The call writes the full word to the backend, and the remaining
+/// bits begin the next word.
 #[inline]
 pub fn put_bits<Word: BitArray, B: WriteWords<Word>>(
     backend: &mut B,
@@ -58,7 +60,7 @@ pub fn put_bits<Word: BitArray, B: WriteWords<Word>>(
     put_across(backend, last, bits, count)
 }
 
-/// Appends bits that don't all fit into the last word.
+/// Appends the lowest `count` bits of `bits`, which don't all fit in `last`.
 #[inline]
 fn put_across<Word: BitArray, B: WriteWords<Word>>(
     backend: &mut B,
@@ -83,7 +85,9 @@ fn put_across<Word: BitArray, B: WriteWords<Word>>(
     Ok(())
 }
 
-/// Removes the last bit of the last word. If the last word is empty, the next word is read first.
+/// Removes the last bit of `last` and returns it, or returns `None` if no bit is left.
+///
+/// If `last` is empty, the call first reads the next word from the backend.
 #[inline]
 pub fn take_last<Word: BitArray, B: ReadWords<Word, Stack>>(
     backend: &mut B,
@@ -107,7 +111,9 @@ pub fn take_last<Word: BitArray, B: ReadWords<Word, Stack>>(
     Ok(Some(last.pop()))
 }
 
-/// Removes the first bit of the current word. If the current word is empty, the next word is read first.
+/// Removes the first bit of `last` and returns it, or returns `None` if no bit is left.
+///
+/// If `last` is empty, the call first reads the next word from the backend.
 #[inline]
 pub fn take_first<Word: BitArray, B: ReadWords<Word, Queue>>(
     backend: &mut B,

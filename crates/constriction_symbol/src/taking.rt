@@ -11,7 +11,7 @@ use crate::turning::doubled;
 use constriction_base::errors::CoderError;
 use constriction_words::BitArray;
 
-/// The reason why a codebook read no symbol: its own error, or the error of the source of the bits.
+/// The error of a decode: the codebook's own error, or the error of the source of the bits.
 pub type Refusal<V, E> = CoderError<SymbolCodeError<V>, E>;
 
 /// Reads the next bit.
@@ -32,9 +32,9 @@ pub fn next_bit<V, E, I: Iterator<Item = Result<bool, E>>>(
     }
 }
 
-/// Reads zeros and the first 1, and returns the number of zeros.
+/// Reads zeros up to and including the first 1, and returns the number of zeros.
 ///
-/// Returns `None` if there are more than `most` zeros, after reading `most + 1` of them.
+/// If more than `most` zeros come first, the call reads `most + 1` zeros and returns `None`.
 #[inline]
 pub fn count_zeros<V, E, I: Iterator<Item = Result<bool, E>>>(
     source: &mut I,
@@ -61,7 +61,7 @@ pub fn count_zeros<V, E, I: Iterator<Item = Result<bool, E>>>(
     Ok(None)
 }
 
-/// Reads `count` bits, highest first, and appends them to the binary digits of `start`.
+/// Reads `count` bits, highest first, and returns `start * 2^count` plus the number that has these bits.
 #[inline]
 pub fn read_bits<V, N: BitArray, E, I: Iterator<Item = Result<bool, E>>>(
     source: &mut I,

@@ -1,4 +1,4 @@
-//! Bits held at the top of a word, last bit highest, so that adding and removing one bit are shifts by one.
+//! `TopBits`: the highest bits of a word, last bit highest. Appending or removing a bit shifts the word by one.
 
 ghost use Rattle.constriction_symbol.specs.Bits.{TopWord, bits_of};
 ghost use Rattle.std.specs.Prelude.{IsTrue, List, MatchOption, [], if◌then◌else◌, length, take};
@@ -9,8 +9,8 @@ use std::marker::Model;
 
 /// A list of at most `Word::BITS` bits.
 ///
-/// The bits stand at the top of the word, last bit highest. The lowest `room` bits of the word are unspecified.
-/// Contracts see the list.
+/// The bits are the highest bits of `word`, last bit highest. The lowest `room` bits of `word` are unspecified.
+/// Contracts describe a `TopBits` by this list.
 #[derive(Debug, Drop)]
 pub struct TopBits<Word: BitArray> {
     word: Word,
@@ -29,7 +29,7 @@ impl<Word: BitArray> Model for TopBits<Word> {
 }
 
 impl<Word: BitArray> TopBits<Word> {
-    /// Makes an empty list.
+    /// Creates an empty list.
     #[inline]
     pub fn none() -> Self
         ensures { result ≡ [] }
@@ -40,7 +40,7 @@ impl<Word: BitArray> TopBits<Word> {
         }
     }
 
-    /// Makes the list of all bits of a word.
+    /// Creates the list of all bits of `word`, from the lowest to the highest.
     #[inline]
     pub fn all(word: Word) -> Self
         ensures { result ≡ bits_of Word.BITS (Word.number word) }
@@ -48,7 +48,7 @@ impl<Word: BitArray> TopBits<Word> {
         TopBits { word, room: 0 }
     }
 
-    /// Makes the list of the bits below the highest 1. Returns `None` exactly for 0.
+    /// Creates the list of the bits of `word` below its highest 1. Returns `None` if `word` is 0.
     pub fn below_highest(word: Word) -> Option<Self>
         ensures { MatchOption result (Word.number word ≡ 0) (λ bits. TopWord Word.BITS bits (Word.number word)) }
     {
@@ -62,7 +62,7 @@ impl<Word: BitArray> TopBits<Word> {
         })
     }
 
-    /// Returns the same bits.
+    /// Returns a copy of the list.
     #[inline]
     pub fn copied(&self) -> Self
         ensures { result ≡ self.now }
@@ -99,7 +99,7 @@ impl<Word: BitArray> TopBits<Word> {
         self.room == 0
     }
 
-    /// Returns the word with these bits lowest, and zeros above them.
+    /// Returns the bits as the lowest bits of a word, last bit highest. All other bits of the word are 0.
     #[inline]
     pub fn word(&self) -> Word
         ensures bits { bits_of (length self.now) (Word.number result) ≡ self.now }
@@ -114,7 +114,7 @@ impl<Word: BitArray> TopBits<Word> {
         }
     }
 
-    /// Returns the word with these bits at its top. The bits below them are unspecified.
+    /// Returns the bits as the highest bits of a word, last bit highest. All other bits are unspecified.
     #[inline]
     pub fn top_word(&self) -> Word
         ensures bits { bits_of (length self.now) (Word.number result / 2 ^ (Word.BITS - length self.now)) ≡ self.now }
@@ -123,7 +123,7 @@ impl<Word: BitArray> TopBits<Word> {
         self.word
     }
 
-    /// Appends a bit.
+    /// Appends a bit. The caller proves that there is room for it.
     #[inline]
     pub fn push(&mut self, bit: bool)
         requires { length self.old < Word.BITS }
@@ -133,7 +133,7 @@ impl<Word: BitArray> TopBits<Word> {
         self.room -= 1;
     }
 
-    /// Removes the last bit and returns it.
+    /// Removes the last bit and returns it. The caller proves that there is a bit.
     #[inline]
     pub fn pop(&mut self) -> bool
         requires { 0 < length self.old }
@@ -154,7 +154,9 @@ impl<Word: BitArray> TopBits<Word> {
         self.room as u32
     }
 
-    /// Appends the lowest `count` bits of a word, lowest first. The caller proves that they fit.
+    /// Appends the lowest `count` bits of `bits`, lowest first.
+    ///
+    /// The caller proves that they fit, that all higher bits are 0, and that `0 < count < Word::BITS`.
     #[inline]
     pub fn push_all(&mut self, bits: Word, count: u32)
         requires some { 0 < count }
@@ -168,7 +170,9 @@ impl<Word: BitArray> TopBits<Word> {
         self.room -= count as usize;
     }
 
-    /// Appends as many of the lowest bits of a word as there is room for.
+    /// Appends the lowest bits of `bits`, lowest first, until the list is full.
+    ///
+    /// The caller proves that the list isn't empty.
     #[inline]
     pub fn fill(&mut self, bits: Word)
         requires { 0 < length self.old }
@@ -192,7 +196,7 @@ impl<Word: BitArray> TopBits<Word> {
     }
 }
 
-/// Returns the lowest `count` bits of a word as its highest.
+/// Returns `word` as the highest `count` bits of a word. The caller proves that `word` is below `2^count`.
 fn at_top<Word: BitArray>(word: Word, count: u32) -> Word
     requires within { count < Word.BITS }
     requires small { Word.number word < 2 ^ count }
@@ -204,7 +208,7 @@ fn at_top<Word: BitArray>(word: Word, count: u32) -> Word
     word.shifted_left(Word::BITS - count)
 }
 
-/// Returns the word with this bit as its highest, above zeros.
+/// Returns a word with `bit` as the highest bit. All other bits are 0.
 #[inline]
 fn highest<Word: BitArray>(bit: bool) -> Word
     ensures { Word.number result ≡ (if bit then 2 ^ (Word.BITS - 1) else 0) }

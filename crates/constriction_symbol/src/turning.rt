@@ -1,7 +1,8 @@
 //! Reversing the bits of a word, and converting a number to another word type.
 //!
-//! Generic words have no operation for either, so both go bit by bit. The compiler turns a loop of up to about twenty
-//! iterations into a few masks and shifts, or a move. So each function goes over a word in four quarters.
+//! `BitArray` has no operation for these two tasks, so the functions loop over the bits. The compiler turns a loop of
+//! up to about twenty iterations into a few masks and shifts, or a move. So each function loops over one quarter
+//! of a word at a time.
 
 ghost use Rattle.constriction_symbol.specs.Bits.{bits_of};
 ghost use Rattle.constriction_symbol.specs.Golomb.{number_after};
@@ -9,7 +10,7 @@ ghost use Rattle.std.specs.Prelude.{[], reverse, ◌*◌, ◌+◌, ◌/◌, ◌<
 
 use constriction_words::BitArray;
 
-/// Reverses the bits of a word.
+/// Returns `word` with its bits in reverse order.
 #[inline]
 pub fn turned<Word: BitArray>(word: Word) -> Word
     ensures { Word.number result ≡ number_after 0 (bits_of Word.BITS (Word.number word)) }
@@ -21,7 +22,7 @@ pub fn turned<Word: BitArray>(word: Word) -> Word
     turned_to(word, most, 3 * quarter, Word::BITS)
 }
 
-/// Reverses the lowest `count` bits of a word. The caller proves that all higher bits are 0.
+/// Reverses the lowest `count` bits of `bits`. The caller proves that all higher bits are 0.
 #[inline]
 pub fn first_lowest<Word: BitArray>(bits: Word, count: u32) -> Word
     requires within { count ≤ Word.BITS }
@@ -35,7 +36,7 @@ pub fn first_lowest<Word: BitArray>(bits: Word, count: u32) -> Word
     turned(bits).shifted_right(Word::BITS - count)
 }
 
-/// Reverses the bits of a word up to a place, given the reversed bits up to an earlier place.
+/// Reverses the lowest `to` bits of `word`. The caller proves that `done` is the lowest `from` bits, reversed.
 #[inline]
 fn turned_to<Word: BitArray>(word: Word, done: Word, from: u32, to: u32) -> Word
     requires order { from ≤ to }
@@ -52,7 +53,7 @@ fn turned_to<Word: BitArray>(word: Word, done: Word, from: u32, to: u32) -> Word
     turned
 }
 
-/// Converts a number to another word type. The caller proves that the number fits that type.
+/// Converts `number` to another word type. The caller proves that `number` fits that type.
 #[inline]
 pub fn same_number<From: BitArray, To: BitArray>(number: From) -> To
     requires { From.number number < 2 ^ To.BITS }
@@ -70,7 +71,7 @@ pub fn same_number<From: BitArray, To: BitArray>(number: From) -> To
     same_down_to(number, most, quarter, 0)
 }
 
-/// Returns the number without its lowest `to` bits, given the number without its lowest `from` bits.
+/// Returns `number / 2^to`, rounded down. The caller proves that `done` is `number / 2^from`, rounded down.
 #[inline]
 fn same_down_to<From: BitArray, To: BitArray>(number: From, done: To, from: u32, to: u32) -> To
     requires order { to ≤ from }
@@ -88,7 +89,7 @@ fn same_down_to<From: BitArray, To: BitArray>(number: From, done: To, from: u32,
     same
 }
 
-/// Returns twice the number, plus 1 if the bit is set.
+/// Returns `2 * number`, plus 1 if `bit` is set. The caller proves that `2 * number + 1` fits the type.
 #[inline]
 pub fn doubled<N: BitArray>(number: N, bit: bool) -> N
     requires { 2 * N.number number + 1 < 2 ^ N.BITS }

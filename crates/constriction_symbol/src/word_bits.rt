@@ -1,4 +1,4 @@
-//! Bits of a word, removed from the lowest to the highest.
+//! `WordBits`: the bits of a word, which are removed from the lowest to the highest.
 
 ghost use Rattle.constriction_symbol.specs.Bits.{AreZeros, bits_of, top_bits};
 ghost use Rattle.std.specs.Prelude.{IsTrue, List, [], drop, length, reverse, ◌<◌, ◌≤◌, ◌∷◌, ◌^◌, ◌↔◌, ◌≡◌};
@@ -8,9 +8,10 @@ use crate::turning::turned;
 use constriction_words::BitArray;
 use std::marker::Model;
 
-/// A list of at most `Word::BITS` bits that are removed from the first to the last.
+/// A list of at most `Word::BITS` bits, which are removed from the first to the last.
 ///
-/// The word is held reversed, so that the first bit is its highest. Contracts see the list.
+/// The bits are stored in reverse order, so that the first bit is the highest of the stored word. Contracts describe
+/// a `WordBits` by this list.
 #[derive(Debug, Drop)]
 pub struct WordBits<Word: BitArray> {
     turned: TopBits<Word>,
@@ -25,7 +26,7 @@ impl<Word: BitArray> Model for WordBits<Word> {
 }
 
 impl<Word: BitArray> WordBits<Word> {
-    /// Makes an empty list.
+    /// Creates an empty list.
     #[inline]
     pub fn none() -> Self
         ensures { result ≡ [] }
@@ -35,7 +36,7 @@ impl<Word: BitArray> WordBits<Word> {
         }
     }
 
-    /// Makes the list of all bits of a word.
+    /// Creates the list of all bits of `word`, from the lowest to the highest.
     #[inline]
     pub fn all(word: Word) -> Self
         ensures { result ≡ bits_of Word.BITS (Word.number word) }
@@ -45,7 +46,7 @@ impl<Word: BitArray> WordBits<Word> {
         }
     }
 
-    /// Returns the same bits.
+    /// Returns a copy of the list.
     #[inline]
     pub fn copied(&self) -> Self
         ensures { result ≡ self.now }
@@ -72,7 +73,7 @@ impl<Word: BitArray> WordBits<Word> {
         self.turned.is_empty()
     }
 
-    /// Returns the word that has these bits lowest, with the first bit as their highest, and zeros above them.
+    /// Returns the bits as the lowest bits of a word, first bit highest. All other bits of the word are 0.
     #[inline]
     pub fn turned_word(&self) -> Word
         ensures bits { reverse (bits_of (length self.now) (Word.number result)) ≡ self.now }
@@ -82,7 +83,7 @@ impl<Word: BitArray> WordBits<Word> {
         TopBits::word(&self.turned)
     }
 
-    /// Returns the word that has these bits highest, with the first bit as the highest. All lower bits are unspecified.
+    /// Returns the bits as the highest bits of a word, first bit highest. All other bits are unspecified.
     #[inline]
     pub fn turned_top(&self) -> Word
         ensures bits { top_bits Word.BITS (length self.now) (Word.number result) ≡ self.now }
@@ -91,7 +92,7 @@ impl<Word: BitArray> WordBits<Word> {
         self.turned.top_word()
     }
 
-    /// Removes the first bit and returns it.
+    /// Removes the first bit and returns it. The caller proves that there is a bit.
     #[inline]
     pub fn take_first(&mut self) -> bool
         requires { 0 < length self.old }

@@ -23,8 +23,8 @@ use std::alloc::AllocError;
 
 /// A stream of bits that encodes symbols. Each symbol appends its codeword.
 ///
-/// A queue gets codewords in prefix form, a stack in suffix form. Writing a codeword has the effect of writing its bits
-/// one by one.
+/// A queue stores codewords in prefix form, a stack in suffix form. Writing a codeword has the effect of writing its
+/// bits one by one.
 ///
 /// An implementor defines the list of bits (`bits`) and what a write may return (`puts`). It proves that each call
 /// follows these definitions.
@@ -41,7 +41,7 @@ pub trait WriteBitStream<S: BitOrder> {
     ///
     /// # Errors
     ///
-    /// The stream's error if there is no room for the bit. The bits are unchanged.
+    /// Returns the stream's error if there is no room for the bit. The bits are then unchanged.
     fn write_bit(&mut self, bit: bool) -> Result<(), Self::WriteError>
         ensures bits { PutsBit (bits self.old) bit result (bits self.new) }
         ensures puts { puts self.old bit result self.new };
@@ -50,10 +50,11 @@ pub trait WriteBitStream<S: BitOrder> {
     ///
     /// # Errors
     ///
-    /// - `Frontend(ImpossibleSymbol)` exactly if the symbol has no codeword. Nothing changed.
+    /// - `Frontend(ImpossibleSymbol)` exactly if the symbol has no codeword. The stream is unchanged.
     /// - `Backend(error)` if the write of a bit fails with this error. Exactly the codeword's bits before that bit were
     ///   written.
-    /// - `Backend(error)`, made from an `AllocError`, if the codebook needs memory and there is none. Nothing changed.
+    /// - `Backend(error)`, made from an `AllocError`, if the codebook needs memory and there is none. The stream is
+    ///   unchanged.
     fn encode_symbol<C: EncoderCodebook>(
         &mut self,
         symbol: &C::Symbol,
@@ -73,9 +74,9 @@ pub trait WriteBitStream<S: BitOrder> {
     ///
     /// # Errors
     ///
-    /// The error of the first symbol that fails. The call wrote exactly the codewords of the symbols before it, and the
-    /// part of the failing symbol's codeword that [`WriteBitStream::encode_symbol`] wrote. The call takes no further
-    /// item from the iterator.
+    /// Returns the error of the first symbol that fails. The call wrote exactly the codewords of the symbols before the
+    /// failing symbol, and the part of the failing symbol's codeword that [`WriteBitStream::encode_symbol`] wrote. The
+    /// call takes no further item from the iterator.
     ///
     /// # Examples
     ///
@@ -110,7 +111,7 @@ pub trait WriteBitStream<S: BitOrder> {
     ///
     /// # Errors
     ///
-    /// The errors of [`WriteBitStream::encode_symbols`].
+    /// Returns the errors of [`WriteBitStream::encode_symbols`].
     final fn encode_iid_symbols<L, C, I>(
         &mut self,
         symbols: I,
@@ -138,7 +139,7 @@ pub trait WriteBitStream<S: BitOrder> {
     }
 }
 
-/// A receiver of bits, which takes them one by one.
+/// A receiver that accepts bits one by one.
 trait BitSink {
     type Refusal: From<AllocError>;
 
@@ -152,7 +153,7 @@ trait BitSink {
     ///
     /// # Errors
     ///
-    /// The receiver's error if there is no room for the bit. The bits are unchanged.
+    /// Returns the receiver's error if there is no room for the bit. The bits are then unchanged.
     fn put_bit(&mut self, bit: bool) -> Result<(), Self::Refusal>
         ensures bits { PutsBit (bits self.old) bit result (bits self.new) }
         ensures puts { puts self.old bit result self.new };
@@ -201,7 +202,7 @@ where
 
     /// Appends a bit.
     ///
-    /// If the last word is full before the call, the call first writes that word to the backend.
+    /// If the word outside the backend is full, the call first writes that word to the backend.
     #[inline]
     fn write_bit(&mut self, bit: bool) -> Result<(), B::WriteError> {
         SymbolCoder::<Word, S, B>::write_bit(self, bit)
@@ -209,7 +210,7 @@ where
 
     /// Writes the codeword of a symbol.
     ///
-    /// Uses one shift if the codebook returns the whole codeword in one word ([`EncoderCodebook::codeword_at_once`]).
+    /// If [`EncoderCodebook::codeword_at_once`] returns the codeword, the call appends all bits at once.
     #[inline]
     fn encode_symbol<C: EncoderCodebook>(
         &mut self,
@@ -237,9 +238,9 @@ where
     ///
     /// # Errors
     ///
-    /// The error of the first symbol that fails, counted from the end of the list. The call wrote exactly the codewords
-    /// of the symbols after it in the list, and the part of the failing symbol's codeword that
-    /// [`WriteBitStream::encode_symbol`] wrote. The call takes no further item from the iterator.
+    /// Returns the error of the first symbol that fails, counted from the end of the list. The call wrote exactly the
+    /// codewords of the symbols after the failing symbol in the list, and the part of the failing symbol's codeword
+    /// that [`WriteBitStream::encode_symbol`] wrote. The call takes no further item from the iterator.
     pub fn encode_symbols_reverse<L, C, I>(
         &mut self,
         symbols_and_codebooks: I,
@@ -270,7 +271,7 @@ where
     ///
     /// # Errors
     ///
-    /// The errors of [`StackCoder::encode_symbols_reverse`].
+    /// Returns the errors of [`StackCoder::encode_symbols_reverse`].
     pub fn encode_iid_symbols_reverse<L, C, I>(
         &mut self,
         symbols: I,

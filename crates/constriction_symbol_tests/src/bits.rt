@@ -5,7 +5,7 @@ use constriction_symbol::codebooks::BitOrder;
 use constriction_symbol::reading::ReadBitStream;
 use constriction_symbol::writing::WriteBitStream;
 
-/// Writes the bits, the first one first, up to the first that is refused. Returns whether none is.
+/// Writes `bits` from the first to the last until one is refused. Returns whether all bits were written.
 pub fn writes<S: BitOrder, Stream: WriteBitStream<S>>(stream: &mut Stream, bits: &[u8]) -> bool
 where
     Stream::WriteError: Drop,
@@ -18,7 +18,7 @@ where
     true
 }
 
-/// Whether the next reads give these bits. A point stands for a read that finds no bit left.
+/// Returns whether the next reads return `bits`. A `.` in `bits` stands for a read that finds no bit left.
 pub fn gives<S: Semantics, Stream: ReadBitStream<S>>(stream: &mut Stream, bits: &[u8]) -> bool
 where
     Stream::ReadError: Drop,

@@ -1,4 +1,4 @@
-//! Coders from words, and words from coders.
+//! Coders made from words, and words exported from coders.
 
 use crate::bits::gives;
 use crate::codewords::{Put, Took, puts, takes};
@@ -9,10 +9,10 @@ use constriction_symbol::queue::QueueDecoder;
 use constriction_words::BitArray;
 use std::alloc::Global;
 
-/// The bits of lent words, as a queue.
+/// A queue decoder over borrowed words.
 pub type LentQueue<'a, Word> = QueueDecoder<Word, Cursor<Word, &'a [Word]>>;
 
-/// Compares the words of a queue.
+/// Exports a queue. Returns whether the words are `words`.
 pub fn exports_queue<Word: BitArray + PartialEq>(
     coder: QueueEncoder<Word>,
     words: &[Word],
@@ -23,7 +23,7 @@ pub fn exports_queue<Word: BitArray + PartialEq>(
     }
 }
 
-/// Compares the words of a stack.
+/// Exports a stack. Returns whether the words are `words`.
 pub fn exports<Word: BitArray + PartialEq>(coder: StackCoder<Word>, words: &[Word]) -> bool {
     match coder.into_compressed() {
         Ok(all) => all.as_slice() == words,
@@ -31,7 +31,7 @@ pub fn exports<Word: BitArray + PartialEq>(coder: StackCoder<Word>, words: &[Wor
     }
 }
 
-/// Whether the words are those of a stack that gives these bits, the last one first.
+/// Imports a stack from `words`. Returns whether reads return `bits`, in this order.
 pub fn holds_stack<Word: BitArray>(words: Vec<Word>, bits: &[u8]) -> bool {
     match StackCoder::from_compressed(words) {
         Ok(mut coder) => gives::<Stack, _>(&mut coder, bits),
@@ -39,12 +39,12 @@ pub fn holds_stack<Word: BitArray>(words: Vec<Word>, bits: &[u8]) -> bool {
     }
 }
 
-/// The bits of a slice of words, as a queue.
+/// Makes a queue decoder that reads the bits of `words`.
 pub fn word_queue<Word: BitArray>(words: &[Word]) -> LentQueue<'_, Word> {
     QueueDecoder::from_compressed(Cursor::new_at_write_beginning(words))
 }
 
-/// Whether there are so many bits.
+/// Returns whether the coder has `len` bits, by its `len` and its `is_empty`.
 pub fn has_len<Word: BitArray, S: Semantics, B: BoundedReadWords<Word, Stack>>(
     coder: &SymbolCoder<Word, S, B>,
     len: usize,
@@ -52,7 +52,7 @@ pub fn has_len<Word: BitArray, S: Semantics, B: BoundedReadWords<Word, Stack>>(
     coder.len_fits() && coder.len() == len && coder.is_empty() == (len == 0)
 }
 
-/// Whether the numbers are so many bits and these words in a queue, and come back from the words.
+/// Encodes `numbers` into a queue. Returns whether it has `len` bits, exports `words` and decodes to `numbers`.
 pub fn queue_goes<Word: BitArray + PartialEq, N: BitArray + PartialEq>(
     alloc: Global,
     numbers: &[N],

@@ -1,4 +1,4 @@
-//! Symbols written to streams and read from them by Exp-Golomb codewords.
+//! Symbols written to streams and read from streams as Exp-Golomb codewords.
 
 use constriction_base::backends::Semantics;
 use constriction_base::errors::CoderError;
@@ -8,7 +8,7 @@ use constriction_symbol::reading::ReadBitStream;
 use constriction_symbol::writing::WriteBitStream;
 use constriction_words::BitArray;
 
-/// What a call that writes symbols answers.
+/// The outcome of a call that writes symbols.
 #[derive(Drop)]
 pub enum Put {
     Done,
@@ -16,7 +16,7 @@ pub enum Put {
     Refused,
 }
 
-/// Writes the codewords of symbols, up to the first that is refused.
+/// Writes the codewords of `symbols` until one is refused. Returns the outcome.
 pub fn puts<S: BitOrder, Stream: WriteBitStream<S>, N: BitArray>(
     stream: &mut Stream,
     symbols: &[N],
@@ -34,19 +34,19 @@ where
     Put::Done
 }
 
-/// What a call that reads symbols answers.
+/// The outcome of a call that reads symbols.
 #[derive(Drop)]
 pub enum Took {
-    /// All symbols came.
+    /// All symbols were read.
     All,
-    /// Another symbol came.
+    /// Another symbol was read.
     Other,
     OutOfData,
     Invalid,
     Refused,
 }
 
-/// What an error says.
+/// Returns the outcome that the error of a read stands for.
 pub fn refusal_of<E: Drop>(error: CoderError<SymbolCodeError<InvalidCodeword>, E>) -> Took {
     match error {
         CoderError::Frontend(SymbolCodeError::OutOfCompressedData) => Took::OutOfData,
@@ -55,7 +55,7 @@ pub fn refusal_of<E: Drop>(error: CoderError<SymbolCodeError<InvalidCodeword>, E
     }
 }
 
-/// Reads symbols, up to the first that is refused or another one.
+/// Reads symbols and compares them with `symbols`, until one is refused or differs. Returns the outcome.
 pub fn takes<S: Semantics, Stream: ReadBitStream<S>, N: BitArray + PartialEq>(
     stream: &mut Stream,
     symbols: &[N],

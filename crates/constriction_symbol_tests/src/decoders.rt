@@ -1,11 +1,11 @@
-//! The same bits of a stack for reading, borrowed and owned, and a small stack.
+//! Tests of decoders that borrow or own the bits of a stack, and of a small stack.
 
 use crate::bits::{gives, writes};
 use crate::coders::has_len;
 use constriction_base::backends::Stack;
 use constriction_symbol::coder::{DefaultStackCoder, NewSmallStack, SmallBitStack};
 
-/// Whether borrowed bits are read from the last to the first.
+/// Returns whether an iterator and a decoder that borrow the bits `1011` read them from the last to the first.
 fn lends(coder: &DefaultStackCoder) -> bool {
     let mut bits = coder.iter();
     matches!(bits.next(), Some(Ok(true)))
@@ -13,7 +13,7 @@ fn lends(coder: &DefaultStackCoder) -> bool {
         && gives::<Stack, _>(&mut coder.as_decoder(), b"1101..")
 }
 
-/// The last bit comes first. What is borrowed stays.
+/// Checks that decoders read the last bit of a stack first, and that borrowed bits stay on the stack.
 #[test]
 fn a_stack_is_read(rt: HostRuntime) {
     let mut coder: DefaultStackCoder = DefaultStackCoder::new(rt.alloc());
@@ -23,7 +23,7 @@ fn a_stack_is_read(rt: HostRuntime) {
     assert!(rt; is_lent && is_read);
 }
 
-/// Two words of bits on a small stack come off again, the last one first.
+/// Checks that a small stack returns two words of bits, the last bit first.
 #[test]
 fn a_small_stack_of_two_words(rt: HostRuntime) {
     let mut stack = SmallBitStack::new(rt.alloc());

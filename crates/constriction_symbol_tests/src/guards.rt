@@ -1,4 +1,4 @@
-//! Words that a guard shows, and iterators over bits.
+//! Tests of the words that a guard lends, and of iterators over bits.
 
 use crate::bits::{gives, writes};
 use crate::coders::has_len;
@@ -10,7 +10,7 @@ use constriction_words::BitArray;
 use std::alloc::{AllocError, Allocator};
 use std::test::Fail;
 
-/// Whether a guard shows these words.
+/// Returns whether a guard of the queue lends `words`.
 pub fn shows_queue<Word: BitArray + PartialEq, A: Allocator>(
     coder: &mut QueueEncoder<Word, Vec<Word, A>>,
     words: &[Word],
@@ -19,7 +19,7 @@ pub fn shows_queue<Word: BitArray + PartialEq, A: Allocator>(
     Ok(guard.words() == words)
 }
 
-/// The same of a stack.
+/// Returns whether a guard of the stack lends `words`.
 pub fn shows_stack<Word: BitArray + PartialEq, A: Allocator>(
     coder: &mut StackCoder<Word, Vec<Word, A>>,
     words: &[Word],
@@ -28,7 +28,7 @@ pub fn shows_stack<Word: BitArray + PartialEq, A: Allocator>(
     Ok(guard.words() == words)
 }
 
-/// Three bits are written, of which the guard shows a word, and takes it off.
+/// Writes the bits `101` to an empty queue. Returns whether a guard lends the word 5, and its drop leaves three bits.
 pub fn shows_five(coder: &mut DefaultQueueEncoder) -> bool {
     has_len(coder, 0)
         && writes::<Queue, _>(coder, b"101")
@@ -37,7 +37,7 @@ pub fn shows_five(coder: &mut DefaultQueueEncoder) -> bool {
         && has_len(coder, 3)
 }
 
-/// Whether the iterator gives the three bits and the zeros behind them, and then ends.
+/// Returns whether the iterator returns the bits `101` and the zeros that fill their word, and then ends.
 fn overshoots(coder: DefaultQueueEncoder) -> bool {
     match coder.into_overshooting_iter() {
         Ok(mut bits) => {
@@ -61,7 +61,7 @@ fn queue_bits(rt: HostRuntime) -> Result<(), Fail> {
     Ok(())
 }
 
-/// Whether the iterator gives the three bits, and then ends.
+/// Returns whether the iterator returns the bits `101`, and then ends.
 fn iterates(coder: DefaultStackCoder) -> bool {
     let mut bits = coder.into_iterator();
     matches!(bits.next(), Some(Ok(true)))

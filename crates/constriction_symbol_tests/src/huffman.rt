@@ -1,4 +1,4 @@
-//! Huffman trees: worked lines and refusals.
+//! Tests of Huffman trees: worked codewords and refusals.
 
 use constriction_base::errors::CoderError;
 use constriction_symbol::codebooks::{EncoderCodebook, SymbolCodeError};
@@ -9,8 +9,10 @@ use constriction_symbol::writing::WriteBitStream;
 use std::alloc::{AllocError, Global};
 use std::convert::Infallible;
 
-/// What was emitted of a codeword: its bits as a number, the first one highest, and how many they are; or why it ended, and
-/// behind how many bits.
+/// The bits of a codeword that a call emitted, or the reason why the call stopped.
+///
+/// `Bits` has the bits as a number, with the first bit highest. The last field of each variant is the number of bits
+/// emitted.
 #[derive(Drop)]
 pub enum Coded {
     Bits(u32, u32),
@@ -18,7 +20,7 @@ pub enum Coded {
     Refused(u32),
 }
 
-/// The bits of the prefix form.
+/// Returns the bits of a symbol's codeword in prefix form.
 pub fn prefix_of(tree: &EncoderHuffmanTree, symbol: usize) -> Coded {
     let mut code = 0u32;
     let mut count = 0u32;
@@ -34,7 +36,7 @@ pub fn prefix_of(tree: &EncoderHuffmanTree, symbol: usize) -> Coded {
     }
 }
 
-/// The bits of the suffix form, turned round.
+/// Returns the bits of a symbol's codeword in suffix form, in reverse order.
 pub fn suffix_of(tree: &EncoderHuffmanTree, symbol: usize) -> Coded {
     let mut code = 0u32;
     let mut count = 0u32;
@@ -50,13 +52,13 @@ pub fn suffix_of(tree: &EncoderHuffmanTree, symbol: usize) -> Coded {
     }
 }
 
-/// Whether both forms of a codeword are these bits.
+/// Returns whether both forms of a symbol's codeword are the `count` bits of `code`.
 fn is_code(tree: &EncoderHuffmanTree, symbol: usize, code: u32, count: u32) -> bool {
     matches!(prefix_of(tree, symbol), Coded::Bits(bits, len) if bits == code && len == count)
         && matches!(suffix_of(tree, symbol), Coded::Bits(bits, len) if bits == code && len == count)
 }
 
-/// Whether a symbol comes back from a stack, and leaves no bit.
+/// Encodes a symbol and decodes it. Returns whether it is the same, and no bit is left.
 pub fn comes_back(
     coder: &mut StackCoder<u8>,
     encoder: &EncoderHuffmanTree,
@@ -68,7 +70,7 @@ pub fn comes_back(
         && coder.is_empty()
 }
 
-/// The encoder's tree of some weights.
+/// Makes the encoder's tree of `weights`.
 pub fn encoder_of(
     alloc: Global,
     weights: &[u8],
@@ -76,7 +78,7 @@ pub fn encoder_of(
     EncoderHuffmanTree::from_probabilities(alloc, weights.iter())
 }
 
-/// The decoder's tree of some weights.
+/// Makes the decoder's tree of `weights`.
 pub fn decoder_of(
     alloc: Global,
     weights: &[u8],
@@ -84,7 +86,9 @@ pub fn decoder_of(
     DecoderHuffmanTree::from_probabilities(alloc, weights.iter())
 }
 
-/// Whether two trees have these codewords, each as its bits and how many they are, and no others, and both agree.
+/// Returns whether two trees agree, and have exactly the codewords `codes`.
+///
+/// `codes` lists each codeword's bits as a number, and the number of its bits.
 pub fn have_codes(
     alloc: Global,
     encoder: &EncoderHuffmanTree,
@@ -103,7 +107,7 @@ pub fn have_codes(
     encoder.num_symbols() == codes.len() && decoder.num_symbols() == codes.len()
 }
 
-/// Whether both trees of some weights have these codewords.
+/// Returns whether both trees of `weights` have exactly the codewords `codes`.
 pub fn are_codes(alloc: Global, weights: &[u8], codes: &[(u32, u32)]) -> bool {
     match (encoder_of(alloc, weights), decoder_of(alloc, weights)) {
         (Ok(encoder), Ok(decoder)) => have_codes(alloc, &encoder, &decoder, codes),
@@ -111,7 +115,7 @@ pub fn are_codes(alloc: Global, weights: &[u8], codes: &[(u32, u32)]) -> bool {
     }
 }
 
-/// What codewords cost: the sum of weight times length.
+/// Returns the cost of codewords: the sum of each weight times the length of its codeword.
 pub fn cost_of_codes(weights: &[u8], codes: &[(u32, u32)]) -> u32 {
     let mut cost = 0u32;
     for (weight, code) in weights.iter().zip(codes.iter()) {
@@ -120,7 +124,9 @@ pub fn cost_of_codes(weights: &[u8], codes: &[(u32, u32)]) -> u32 {
     cost
 }
 
-/// Of equal weights the leaf goes before the union, and of two leaves the first: `10 11 0`.
+/// Checks ties of weights: a leaf goes before a union, and the first of two leaves before the second.
+///
+/// The codewords are `10 11 0`.
 #[test]
 fn huffman_ties(rt: HostRuntime) {
     assert!(rt;
@@ -131,14 +137,14 @@ fn huffman_ties(rt: HostRuntime) {
 
 const DEEP: [(u32, u32); 5] = [(14, 4), (15, 4), (6, 3), (2, 2), (0, 1)];
 
-/// The codewords `1110 1111 110 10 0`, which cost 25.
+/// Checks the codewords `1110 1111 110 10 0`, which cost 25.
 #[test]
 fn huffman_deep(rt: HostRuntime) {
     let weights = [1u8, 1, 2, 3, 5];
     assert!(rt; are_codes(rt.alloc(), &weights, &DEEP) && cost_of_codes(&weights, &DEEP) == 25);
 }
 
-/// The codewords `00 01 11 100 101`, and those of two weights and of one.
+/// Checks the codewords `00 01 11 100 101`, the codewords of two weights, and the codeword of one weight.
 #[test]
 fn huffman_lines(rt: HostRuntime) {
     assert!(rt;
@@ -172,7 +178,7 @@ fn huffman_zero_weight(rt: HostRuntime) {
     assert!(rt; are_codes(rt.alloc(), &[255, 0], &[(1, 1), (0, 1)]));
 }
 
-/// Whether the trees of weights that end in an error are refused with it.
+/// Returns whether making either tree fails with the error that the iterator of weights returns.
 fn faults_end(alloc: Global) -> bool {
     matches!(
         EncoderHuffmanTree::try_from_probabilities(alloc, [Ok(255u8), Ok(1), Err("e")]),
@@ -183,7 +189,7 @@ fn faults_end(alloc: Global) -> bool {
     )
 }
 
-/// Whether the trees of given weights have their codewords.
+/// Returns whether both trees made from `Result`s of weights have the codewords `1 0`.
 fn given_have_codes(alloc: Global) -> bool {
     let items: [Result<u8, &str>; 2] = [Ok(2), Ok(1)];
     let Ok(encoder) = EncoderHuffmanTree::try_from_probabilities(alloc, items) else {
@@ -201,7 +207,7 @@ fn huffman_iterator_fault(rt: HostRuntime) {
     assert!(rt; faults_end(rt.alloc()) && given_have_codes(rt.alloc()));
 }
 
-/// Whether a symbol past the last has no codeword.
+/// Returns whether a symbol past the last symbol has no codeword.
 fn is_unknown(alloc: Global) -> bool {
     match encoder_of(alloc, &[2, 2, 4, 1, 1]) {
         Ok(encoder) => {
@@ -212,7 +218,7 @@ fn is_unknown(alloc: Global) -> bool {
     }
 }
 
-/// Whether the bits on a stack end within a codeword.
+/// Decodes a symbol. Returns whether the bits on the stack end within a codeword.
 fn is_short(alloc: Global, coder: &mut StackCoder<u8>) -> bool {
     match decoder_of(alloc, &[2, 2, 4, 1, 1]) {
         Ok(decoder) => {
@@ -233,7 +239,7 @@ fn huffman_unknown_and_short(rt: HostRuntime) {
     );
 }
 
-/// The tree of the first 150 Fibonacci numbers: each union is merged with the next number.
+/// Makes the tree of the first 150 Fibonacci numbers. The codeword of symbol 0 has 149 bits.
 pub fn deep_tree(alloc: Global) -> Result<EncoderHuffmanTree, HuffmanError<Infallible>> {
     let mut weights = [0u128; 150];
     let mut number = 1u128;

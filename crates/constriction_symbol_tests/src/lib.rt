@@ -1,15 +1,14 @@
-//! Tests of bit coders and Exp-Golomb codewords, and no code besides: worked values, refusals and refused memory, at
-//! concrete types.
+//! Tests of bit coders and codebooks at concrete types: worked values, refusals and refused memory.
 //!
-//! What a contract of `constriction_symbol` says is proved there for all values. These tests stand for
-//! what no contract can say: that the definitions give the words that a reader expects, that calls which
-//! take memory succeed where there is some, and that a caller reaches each call. `tests/cases/constriction_symbol_tests`
-//! has tests that run without a proof, by `tests/unproved`: of each width of words, other backends, clones, texts,
-//! forgotten guards, and callers' iterators.
+//! The contracts of `constriction_symbol` are proved there for all values. These tests check what no contract can
+//! state: the definitions have the words that a reader expects, calls that need memory succeed if there is some, and a
+//! caller can make each call. `tests/cases/constriction_symbol_tests` has tests that run without a proof, with
+//! `tests/unproved`. They cover each word width, other backends, clones, texts, forgotten guards and callers'
+//! iterators.
 //!
-//! Expected words come from a model of the definitions (lists of bits, and the grammar) apart from this
-//! library. The calls stand in helpers without clauses, most of them for any stream of bits ([`bits`],
-//! [`codewords`]). A test makes the values and asserts once.
+//! The expected words come from a separate model of the definitions (lists of bits, and the grammar). Helpers without a
+//! contract make the calls, most of them on any stream of bits ([`bits`], [`codewords`]). A test makes the values and
+//! asserts once.
 #![tactic(auto)]
 
 #[cfg(test)]

@@ -1,4 +1,4 @@
-//! Symbols by iterators, and what a list call answers.
+//! Tests of symbols read with iterators, and the outcome of a list call.
 
 use crate::bits::writes;
 use crate::coders::{LentQueue, word_queue};
@@ -10,7 +10,7 @@ use constriction_symbol::exp_golomb::ExpGolomb;
 use constriction_symbol::reading::ReadBitStream;
 use std::alloc::AllocError;
 
-/// The answer of a list.
+/// Returns the outcome of a list call.
 pub fn answer_of(answer: Result<(), DefaultEncoderError<AllocError>>) -> Put {
     match answer {
         Ok(()) => Put::Done,
@@ -19,7 +19,7 @@ pub fn answer_of(answer: Result<(), DefaultEncoderError<AllocError>>) -> Put {
     }
 }
 
-/// Reads two numbers by two codebooks, and no third one.
+/// Reads numbers with two codebooks. Returns whether they are `first` and `second`, and the iterator then ends.
 pub fn takes_two(coder: &mut StackCoder<u8>, first: u8, second: u8) -> bool {
     let codebooks = [ExpGolomb::<u8>::new(), ExpGolomb::<u8>::new()];
     let mut given = coder.decode_symbols(codebooks.iter());
@@ -29,7 +29,7 @@ pub fn takes_two(coder: &mut StackCoder<u8>, first: u8, second: u8) -> bool {
         && given.next().is_none()
 }
 
-/// Takes two numbers by one codebook, and none behind them.
+/// Reads two numbers with one codebook. Returns whether they are `first` and `second`, and the iterator then ends.
 fn takes_two_by_one(queue: &mut LentQueue<'_, u8>, first: u8, second: u8) -> bool {
     let codebook = ExpGolomb::<u8>::new();
     let mut given = queue.decode_iid_symbols(2, &codebook);
@@ -38,14 +38,14 @@ fn takes_two_by_one(queue: &mut LentQueue<'_, u8>, first: u8, second: u8) -> boo
         && given.next().is_none()
 }
 
-/// The bits 101100 are the numbers 0 and 5 on a stack, of which 5 comes first.
+/// Checks that the bits `101100` on a stack are the numbers 0 and 5, and that 5 is read first.
 #[test]
 fn symbols_by_two_codebooks(rt: HostRuntime) {
     let mut coder: StackCoder<u8> = StackCoder::new(rt.alloc());
     assert!(rt; writes::<Stack, _>(&mut coder, b"101100") && takes_two(&mut coder, 5, 0));
 }
 
-/// The bits 100110 are the numbers 0 and 5 in a queue.
+/// Checks that the bits `100110` in a queue are the numbers 0 and 5.
 #[test]
 fn symbols_by_one_codebook(rt: HostRuntime) {
     assert!(rt; takes_two_by_one(&mut word_queue([25u8].as_slice()), 0, 5));

@@ -1,9 +1,10 @@
-//! Requests for memory that are refused, one at a time: of bit coders over vectors, of Huffman trees, and of
-//! codewords that are turned round.
+//! Tests of bit coders over vectors, Huffman trees and reversed codewords with requests for memory refused, one at a
+//! time.
 //!
-//! `tests/refused-memory` runs these tests once for each request that they make, and has it refused. A test then says
-//! by its error which call it was, where that call answered want of memory, left what it has to, and went when it was
-//! made again. Where none is refused, a test passes. Words come from lists of bits, apart from this library.
+//! `tests/refused-memory` runs these tests once for each request for memory that they make, and refuses it. A test then
+//! fails with the name of the call that made the request, if the call reported that there was no memory, left the coder
+//! as it must, and succeeded when it was made again. If no request is refused, a test passes. The expected words come
+//! from lists of bits, and not from this library.
 
 use crate::bits::{gives, writes};
 use crate::codewords::Put;
@@ -21,14 +22,13 @@ use std::alloc::{AllocError, Global};
 use std::convert::Infallible;
 use std::test::Fail;
 
-/// What comes of a call of which a request may be refused: whether one was, and whether all is there then that has to
-/// be.
+/// The outcome of a call: whether a request for memory was refused, and whether all values afterwards are as expected.
 type Came = (bool, bool);
 
-/// Whether a call went, where there was memory.
+/// The result of a call's check, or an error if there was no memory.
 type Went = Result<bool, AllocError>;
 
-/// A call that writes bits. Lists are of the numbers 0 and 5.
+/// A call that writes bits. List calls write the numbers 0 and 5.
 #[derive(Clone, Copy)]
 enum Call {
     Bit,
@@ -39,17 +39,17 @@ enum Call {
     PairsBack,
 }
 
-/// A call and its name, the bits before it and those that it writes, and how many of these the items before the faulty
-/// one have.
+/// A call, its name, the bits before the call, the bits that the call writes, and the least number of bits that a
+/// refused call writes.
 type Row = (Call, &'static str, &'static [u8], &'static [u8], usize);
 
 /// Three full words of bits.
 const FULL: &[u8] = b"101100111011001110110011";
 
-/// Bits with room for two more in their last word.
+/// Bits that leave room for two more bits in their last word.
 const BITS: &[u8] = b"1011001110110011101100";
 
-/// Makes a call.
+/// Makes the call `call`, and returns the outcome.
 fn make<S: BitOrder>(coder: &mut SymbolCoder<u8, S>, call: Call) -> Put {
     let codebook = ExpGolomb::<u8>::new();
     match call {
@@ -63,7 +63,7 @@ fn make<S: BitOrder>(coder: &mut SymbolCoder<u8, S>, call: Call) -> Put {
     }
 }
 
-/// Makes a call on a stack, where lists in reverse give the same bits.
+/// Makes the call `call` on a stack, and returns the outcome. All list calls write the same bits.
 fn make_on_stack(coder: &mut StackCoder<u8>, call: Call) -> Put {
     let codebook = ExpGolomb::<u8>::new();
     match call {
@@ -75,7 +75,7 @@ fn make_on_stack(coder: &mut StackCoder<u8>, call: Call) -> Put {
     }
 }
 
-/// How many bits there are, where they have a number.
+/// Returns the number of bits, or `None` if it doesn't fit a `usize`.
 fn len_of<S: Semantics>(coder: &SymbolCoder<u8, S>) -> Option<usize> {
     if coder.len_fits() {
         Some(coder.len())
@@ -84,8 +84,8 @@ fn len_of<S: Semantics>(coder: &SymbolCoder<u8, S>) -> Option<usize> {
     }
 }
 
-/// The bits of a call that are wanting, where those that are there are a beginning of its bits that has the items before
-/// the faulty one.
+/// Returns the bits that a refused call didn't write, or `None` if it wrote too few bits or all bits. `len` is the
+/// coder's number of bits after the call.
 fn rest_of(len: Option<usize>, (_, _, before, bits, whole): Row) -> Option<&'static [u8]> {
     match len?.checked_sub(before.len()) {
         Some(held) if (whole <= held) & (held < bits.len()) => bits.get(held..),
@@ -93,8 +93,10 @@ fn rest_of(len: Option<usize>, (_, _, before, bits, whole): Row) -> Option<&'sta
     }
 }
 
-/// What a call came to by its answer, and behind want of memory by writing what is left of it. Another coder holds the
-/// bits before it, and gets those of the call one by one.
+/// Returns the outcome of a call on `coder` with the answer `put`. After a refusal, writes the missing bits.
+///
+/// `other` has the bits before the call. The function writes the call's bits to `other` one by one, and compares the
+/// two coders.
 fn comes<S: BitOrder>(
     coder: &mut SymbolCoder<u8, S>,
     other: &mut SymbolCoder<u8, S>,
@@ -116,7 +118,7 @@ fn comes<S: BitOrder>(
     }
 }
 
-/// What a call came to, as a test says it.
+/// Turns the outcome of a call into the result of a test. If memory was refused, the error is `name`.
 fn said(came: Came, name: &'static str) -> Result<(), Fail> {
     match came {
         (false, true) => Ok(()),
@@ -125,21 +127,21 @@ fn said(came: Came, name: &'static str) -> Result<(), Fail> {
     }
 }
 
-/// A queue of these bits, whose vector has no room for a third word.
+/// Makes a queue of `bits`, with a vector that has no room for a third word.
 fn queue(alloc: Global, bits: &[u8]) -> Result<QueueEncoder<u8>, AllocError> {
     let mut coder = QueueEncoder::<u8>::with_bit_capacity(alloc, 16)?;
     writes::<Queue, _>(&mut coder, bits);
     Ok(coder)
 }
 
-/// The same on a stack.
+/// Makes a stack of `bits`, with a vector that has no room for a third word.
 fn stack(alloc: Global, bits: &[u8]) -> Result<StackCoder<u8>, AllocError> {
     let mut coder = StackCoder::<u8>::with_bit_capacity(alloc, 15)?;
     writes::<Stack, _>(&mut coder, bits);
     Ok(coder)
 }
 
-/// A call on a queue of its own.
+/// Makes the call of `row` on a new queue, and returns the result of the test.
 fn queue_goes(alloc: Global, row: Row) -> Result<(), Fail> {
     let mut coder = queue(alloc, row.2)?;
     let mut other = queue(alloc, row.2)?;
@@ -148,7 +150,7 @@ fn queue_goes(alloc: Global, row: Row) -> Result<(), Fail> {
     said(came, row.1)
 }
 
-/// A call on a stack of its own.
+/// Makes the call of `row` on a new stack, and returns the result of the test.
 fn stack_goes(alloc: Global, row: Row) -> Result<(), Fail> {
     let mut coder = stack(alloc, row.2)?;
     let mut other = stack(alloc, row.2)?;
@@ -157,7 +159,7 @@ fn stack_goes(alloc: Global, row: Row) -> Result<(), Fail> {
     said(came, row.1)
 }
 
-/// What a guard of a queue came to.
+/// Compares the words that a guard of a queue lends, and tries again after a refusal. Returns the outcome.
 fn queue_shows(coder: &mut QueueEncoder<u8>) -> Came {
     let words = [205u8, 205, 13];
     match shows_queue(coder, &words) {
@@ -166,7 +168,7 @@ fn queue_shows(coder: &mut QueueEncoder<u8>) -> Came {
     }
 }
 
-/// What a guard of a stack came to.
+/// Compares the words that a guard of a stack lends, and tries again after a refusal. Returns the outcome.
 fn stack_shows(coder: &mut StackCoder<u8>) -> Came {
     let words = [205u8, 205, 77];
     match shows_stack(coder, &words) {
@@ -210,7 +212,7 @@ fn refused_requests_of_stacks(rt: HostRuntime) -> Result<(), Fail> {
     said(came, "get_compressed")
 }
 
-/// A call that takes a queue away.
+/// A call that consumes a queue.
 #[derive(Clone, Copy)]
 enum Export {
     Words,
@@ -218,7 +220,7 @@ enum Export {
     Bits,
 }
 
-/// Takes a queue away.
+/// Consumes a queue with the call `export`. Returns whether its words or bits are as expected.
 fn take(coder: QueueEncoder<u8>, export: Export) -> Went {
     match export {
         Export::Words => match coder.into_compressed() {
@@ -236,7 +238,7 @@ fn take(coder: QueueEncoder<u8>, export: Export) -> Went {
     }
 }
 
-/// Takes a queue away. Where that finds no memory, so does a copy from before, which held the same.
+/// Consumes a queue, and consumes its copy if there was no memory. Returns the outcome.
 fn take_or_copy(coder: QueueEncoder<u8>, copy: QueueEncoder<u8>, export: Export) -> Came {
     let are_same = coder == copy;
     match take(coder, export) {
@@ -245,7 +247,7 @@ fn take_or_copy(coder: QueueEncoder<u8>, copy: QueueEncoder<u8>, export: Export)
     }
 }
 
-/// Whether a copy is made, and is the same.
+/// Clones a coder. Returns whether there was memory and the clone equals the coder.
 fn copies<S: BitOrder>(coder: &SymbolCoder<u8, S>) -> bool {
     match coder.clone() {
         Ok(copy) => copy == *coder,
@@ -253,7 +255,7 @@ fn copies<S: BitOrder>(coder: &SymbolCoder<u8, S>) -> bool {
     }
 }
 
-/// Copies a queue, and takes it away.
+/// Clones a queue, and consumes it with the call `export`. Returns the result of the test.
 fn export_goes(alloc: Global, export: Export, name: &'static str) -> Result<(), Fail> {
     let coder = queue(alloc, BITS)?;
     match coder.clone() {
@@ -262,7 +264,7 @@ fn export_goes(alloc: Global, export: Export, name: &'static str) -> Result<(), 
     }
 }
 
-/// The words of a stack.
+/// Exports a stack. Returns whether the words are as expected.
 fn stack_words(coder: StackCoder<u8>) -> Went {
     match coder.into_compressed() {
         Ok(words) => Ok(words.as_slice() == [205u8, 205, 77].as_slice()),
@@ -270,7 +272,7 @@ fn stack_words(coder: StackCoder<u8>) -> Went {
     }
 }
 
-/// Takes a stack away. Where that finds no memory, so does a copy from before, which held the same.
+/// Exports a stack, and exports its copy if there was no memory. Returns the outcome.
 fn stack_or_copy(coder: StackCoder<u8>, copy: StackCoder<u8>) -> Came {
     let are_same = coder == copy;
     match stack_words(coder) {
@@ -279,7 +281,7 @@ fn stack_or_copy(coder: StackCoder<u8>, copy: StackCoder<u8>) -> Came {
     }
 }
 
-/// Copies a stack, and takes it away.
+/// Clones a stack, and exports it. Returns the result of the test.
 fn stack_export_goes(alloc: Global) -> Result<(), Fail> {
     let coder = stack(alloc, BITS)?;
     match coder.clone() {
@@ -288,7 +290,7 @@ fn stack_export_goes(alloc: Global) -> Result<(), Fail> {
     }
 }
 
-/// Makes coders with room, once more where that was refused.
+/// Makes coders with room for 40 bits, and tries again after a refusal. Returns the result of the test.
 fn capacities_go(alloc: Global) -> Result<(), Fail> {
     if QueueEncoder::<u8>::with_bit_capacity(alloc, 40).is_err() {
         let again = QueueEncoder::<u8>::with_bit_capacity(alloc, 40).is_ok();
@@ -310,7 +312,7 @@ fn refused_requests_of_exports(rt: HostRuntime) -> Result<(), Fail> {
     stack_export_goes(rt.alloc())
 }
 
-/// What comes of a tree of three symbols.
+/// Returns whether a tree has three symbols, or an error if there was no memory.
 fn tree_went(tree: Result<usize, HuffmanError<Infallible>>) -> Went {
     match tree {
         Ok(symbols) => Ok(symbols == 3),
@@ -319,7 +321,9 @@ fn tree_went(tree: Result<usize, HuffmanError<Infallible>>) -> Went {
     }
 }
 
-/// Makes a tree of three weights: whether one for encoding, and of weights that are given or lent.
+/// Makes a tree of three weights. Returns whether it has three symbols.
+///
+/// If `for_encoding` is true, it is an encoder's tree. If `are_given` is true, the weights are given as `Result`s.
 fn make_tree(alloc: Global, for_encoding: bool, are_given: bool) -> Went {
     let weights = [5u8, 2, 4];
     let items: [Result<u8, Infallible>; 3] = [Ok(5), Ok(2), Ok(4)];
@@ -339,7 +343,7 @@ fn make_tree(alloc: Global, for_encoding: bool, are_given: bool) -> Went {
     })
 }
 
-/// Makes a tree, and once more where memory was refused.
+/// Makes a tree, and tries again after a refusal. Returns the outcome.
 fn tree_comes(alloc: Global, for_encoding: bool, are_given: bool) -> Came {
     match make_tree(alloc, for_encoding, are_given) {
         Ok(went) => (false, went),
@@ -364,7 +368,7 @@ fn refused_requests_of_trees(rt: HostRuntime) -> Result<(), Fail> {
     Ok(())
 }
 
-/// Two words of bits take no memory when they are turned round.
+/// Checks that reversing a codeword of two words of bits takes no memory.
 #[test]
 fn a_codeword_of_128_bits(rt: HostRuntime) -> Result<(), Fail> {
     turned_round(rt.alloc(), 127)
@@ -375,7 +379,7 @@ fn a_codeword_of_129_bits(rt: HostRuntime) -> Result<(), Fail> {
     turned_round(rt.alloc(), 128)
 }
 
-/// The prefix form of a codeword of more than two words of bits is turned round on a stack that has to grow.
+/// Checks the prefix form of a codeword of more than two words of bits, which is reversed on a stack that has to grow.
 #[test]
 fn huffman_growth_refused(rt: HostRuntime) -> Result<(), Fail> {
     let tree = match deep_tree(rt.alloc()) {

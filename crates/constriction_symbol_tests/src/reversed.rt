@@ -1,4 +1,4 @@
-//! A codeword that is turned round: up to two words of bits it takes no memory, and beyond them it may find none.
+//! A codebook with reversed codewords. Reversing up to two words of bits takes no memory. Reversing more bits may fail.
 
 ghost use Rattle.constriction_symbol.specs.Codewords.{Emits};
 ghost use Rattle.constriction_symbol.specs.Reversed.{IsLongerThan};
@@ -14,7 +14,7 @@ use constriction_symbol::writing::WriteBitStream;
 use std::alloc::{AllocError, Global};
 use std::test::Fail;
 
-/// One symbol, whose codeword is a bit that is set, and so many that are not.
+/// A codebook with one symbol. The codeword is a 1 and then `zeros` zeros.
 #[derive(Drop)]
 struct Lone {
     alloc: Global,
@@ -65,7 +65,7 @@ impl SuffixCodebook for Lone {
     }
 }
 
-/// Emits so many zeros, and a bit that is set.
+/// Emits `zeros` zeros, and then a 1.
 fn emit_lone<E, F: FnMut(bool) -> Result<(), E>>(
     zeros: u32,
     emit: &mut F,
@@ -85,7 +85,9 @@ fn emit_lone<E, F: FnMut(bool) -> Result<(), E>>(
     }
 }
 
-/// The codeword of `zeros + 1` bits in a queue over a buffer. Where it finds no memory, none of its bits is there.
+/// Writes a codeword of `zeros + 1` bits to a queue over a buffer, and checks the words.
+///
+/// If there was no memory, the function checks that no bit was written, and fails with a text that says so.
 pub fn turned_round(alloc: Global, zeros: u32) -> Result<(), Fail> {
     let mut words = [0u64; 3];
     let mut coder: QueueEncoder<u64, Cursor<u64, &mut [u64]>> = QueueEncoder::from_compressed(

@@ -1,4 +1,4 @@
-//! Worked values: words and bits by hand.
+//! Tests of worked values. The words and bits were computed by hand.
 
 use crate::bits::{gives, writes};
 use crate::coders::{LentQueue, exports, has_len, holds_stack, queue_goes, word_queue};
@@ -9,13 +9,13 @@ use constriction_symbol::coder::{DefaultQueueEncoder, DefaultStackCoder, StackCo
 use std::alloc::Global;
 use std::test::Fail;
 
-/// Whether the bits export these words.
+/// Writes `bits` to a stack. Returns whether it exports `words`.
 fn stack_words(alloc: Global, bits: &[u8], words: &[u32]) -> bool {
     let mut coder: DefaultStackCoder = DefaultStackCoder::new(alloc);
     writes::<Stack, _>(&mut coder, bits) && exports(coder, words)
 }
 
-/// Whether the words are those of a stack that gives these bits, the last one first, and then none.
+/// Imports a stack from a copy of `words`. Returns whether reads return `bits`, in this order.
 fn word_bits(alloc: Global, words: &[u32], bits: &[u8]) -> bool {
     match words.to_vec(alloc) {
         Ok(owned) => holds_stack(owned, bits),
@@ -23,7 +23,7 @@ fn word_bits(alloc: Global, words: &[u32], bits: &[u8]) -> bool {
     }
 }
 
-/// Whether the words are those of no stack, and these words come back.
+/// Returns whether an import of `words` is refused, and hands back the words `back`.
 fn is_refused(words: Vec<u32>, back: &[u32]) -> bool {
     match StackCoder::from_compressed(words) {
         Err(CoderError::Frontend(left)) => left.as_slice() == back,
@@ -31,8 +31,9 @@ fn is_refused(words: Vec<u32>, back: &[u32]) -> bool {
     }
 }
 
-/// One bit, no bit, and 32 bits, to words and from words. The bits of `[12]` are 0, 0, 1, of which the
-/// last comes off first.
+/// Checks exports and imports of stacks with one bit, no bit and 32 bits.
+///
+/// The bits of `[12]` are 0, 0, 1. The last bit is read first.
 #[test]
 fn stack_end_bit(rt: HostRuntime) -> Result<(), Fail> {
     let zero = [7u32, 0].to_vec(rt.alloc())?;
@@ -49,7 +50,7 @@ fn stack_end_bit(rt: HostRuntime) -> Result<(), Fail> {
     Ok(())
 }
 
-/// Whether the codeword of the number is this one, as a prefix in a queue, and it is read back.
+/// Encodes a number into a queue. Returns whether the codeword's bits are `bits`, and decode to the number.
 fn is_prefix(alloc: Global, symbol: &[u32], bits: &[u8]) -> bool {
     let mut coder: DefaultQueueEncoder = DefaultQueueEncoder::new(alloc);
     let is_put = matches!(puts::<Queue, _, u32>(&mut coder, symbol), Put::Done)
@@ -63,8 +64,7 @@ fn is_prefix(alloc: Global, symbol: &[u32], bits: &[u8]) -> bool {
     }
 }
 
-/// Whether the codeword of the number is this one, as a suffix on a stack, of which it is read in the same order,
-/// and it is read back.
+/// Encodes a number onto a stack. Returns whether reads return `bits`, in this order, and decode to the number.
 fn is_suffix(alloc: Global, symbol: &[u32], bits: &[u8]) -> bool {
     let mut coder: DefaultStackCoder = DefaultStackCoder::new(alloc);
     matches!(puts::<Stack, _, u32>(&mut coder, symbol), Put::Done)
@@ -75,7 +75,7 @@ fn is_suffix(alloc: Global, symbol: &[u32], bits: &[u8]) -> bool {
         && has_len(&coder, 0)
 }
 
-/// Whether the codeword of the one number is this one in both forms.
+/// Returns whether the number's codeword is `bits` in a queue and on a stack.
 fn is_codeword(alloc: Global, symbol: &[u32], bits: &[u8]) -> bool {
     is_prefix(alloc, symbol, bits) && is_suffix(alloc, symbol, bits)
 }
@@ -100,7 +100,7 @@ fn golomb_codewords(rt: HostRuntime) {
     );
 }
 
-/// Whether no byte's codeword is read from a word of zeros, of which nine are read. After these the refusal leaves 23.
+/// Decodes a byte from 32 zeros. Returns whether they are refused as an invalid codeword, and 23 zeros are left.
 fn zeros_are_refused(zeros: &mut LentQueue<'_, u32>) -> bool {
     matches!(takes::<Queue, _, u8>(zeros, &[0]), Took::Invalid)
         && gives::<Queue, _>(zeros, b"00000000000000000000000..")
@@ -128,7 +128,7 @@ fn golomb_empty_line(rt: HostRuntime) {
     assert!(rt; queue_goes::<u32, u32>(rt.alloc(), &[], &[], 0));
 }
 
-/// Whether a queue is exhausted behind these bits, of which the last is read apart, and not before.
+/// Returns whether a queue may be exhausted after `bits` and `last`, and neither before `bits` nor before `last`.
 fn is_exhausted_behind(words: &[u32], bits: &[u8], last: &[u8]) -> bool {
     let mut decoder = word_queue(words);
     !decoder.maybe_exhausted()
@@ -138,8 +138,7 @@ fn is_exhausted_behind(words: &[u32], bits: &[u8], last: &[u8]) -> bool {
         && decoder.maybe_exhausted()
 }
 
-/// Before a bit is read, and between the words, there may be more; and after the second word's first
-/// bit all others are zeros. Where a bit that is set is left, it isn't exhausted.
+/// Checks that a queue may be exhausted only within its last word, when all bits left are 0.
 #[test]
 fn queue_exhausted(rt: HostRuntime) {
     assert!(rt;

@@ -27,8 +27,8 @@ mod of_usize;
 ///
 /// An implementor proves the contract of each method and three laws:
 ///
-/// - Every word is below `2 ^ BITS`.
-/// - Every `NonZero` is above 0.
+/// - The number of a word is below `2 ^ BITS`.
+/// - The number of a `NonZero` is above 0.
 /// - `BITS` is between 8 and 128.
 ///
 /// No method shares its name with a method of `num_traits`. Code that needs both traits writes both bounds, as in
@@ -41,7 +41,7 @@ mod of_usize;
 /// 200u8.wrapping_plus(100) // 44, as the sum is 256 + 44
 /// ```
 pub trait BitArray: Copy + Drop {
-    // `BITS`, as contracts see it.
+    // `BITS`, for contracts.
     ghost BITS: { ℕ };
 
     /// The number of bits of the type, from 8 to 128.
@@ -50,7 +50,7 @@ pub trait BitArray: Copy + Drop {
     // The number that a word stands for.
     ghost number: { Self → ℕ };
 
-    /// The numbers of the type above 0.
+    /// The type for numbers of `Self` that are above 0.
     type NonZero: Copy + Drop;
 
     // The number that a value of `NonZero` stands for.
@@ -64,7 +64,7 @@ pub trait BitArray: Copy + Drop {
     fn unit() -> Self
         ensures { number result ≡ 1 };
 
-    /// Returns the greatest number of the type, whose bits are all set.
+    /// Returns the greatest number of the type, `2 ^ BITS - 1`.
     fn greatest() -> Self
         ensures { number result + 1 ≡ 2 ^ BITS };
 
@@ -76,27 +76,27 @@ pub trait BitArray: Copy + Drop {
     fn is_below(self, other: Self) -> bool
         ensures { IsTrue result ↔ (number self < number other) };
 
-    /// Returns the sum. The caller proves that it fits the type.
+    /// Returns the sum of `self` and `other`. The caller proves that the sum fits the type.
     fn plus(self, other: Self) -> Self
         requires { number self + number other < 2 ^ BITS }
         ensures { number result ≡ number self + number other };
 
-    /// Returns the difference. The caller proves that `other` is not greater than `self`.
+    /// Returns `self` minus `other`. The caller proves that `other` is not greater than `self`.
     fn minus(self, other: Self) -> Self
         requires { number other ≤ number self }
         ensures { number result ≡ number self - number other };
 
-    /// Returns the product. The caller proves that it fits the type.
+    /// Returns the product of `self` and `other`. The caller proves that the product fits the type.
     fn times(self, other: Self) -> Self
         requires { number self * number other < 2 ^ BITS }
         ensures { number result ≡ number self * number other };
 
-    /// Returns the quotient by `other`, rounded down. The caller proves that `other` is above 0.
+    /// Returns `self` divided by `other`, rounded down. The caller proves that `other` is above 0.
     fn quotient(self, other: Self) -> Self
         requires { 0 < number other }
         ensures { number result ≡ number self / number other };
 
-    /// Returns the quotient by `other`, rounded down. An impl may use `reciprocal` to avoid the division.
+    /// Returns `self` divided by `other`, rounded down. An impl may use `reciprocal` to avoid the division.
     ///
     /// The caller proves that `reciprocal` is the reciprocal of `other`. The default method ignores `reciprocal` and
     /// divides. The impls of this crate, except the impl for `u128`, compute a product and a shift instead.
@@ -107,7 +107,7 @@ pub trait BitArray: Copy + Drop {
         self.quotient(other)
     }
 
-    /// Returns the remainder of the division by `other`. The caller proves that `other` is above 0.
+    /// Returns the remainder of `self` divided by `other`. The caller proves that `other` is above 0.
     fn remainder(self, other: Self) -> Self
         requires { 0 < number other }
         ensures { number result ≡ number self % number other };
@@ -136,17 +136,18 @@ pub trait BitArray: Copy + Drop {
         ensures least { 2 ^ result ≤ 2 * number self + 1 }
         ensures within { result ≤ BITS };
 
-    /// Returns the sum modulo `2 ^ BITS`.
+    /// Returns the sum of `self` and `other`, modulo `2 ^ BITS`.
     fn wrapping_plus(self, other: Self) -> Self
         ensures { number result ≡ (number self + number other) % 2 ^ BITS };
 
-    /// Returns the difference modulo `2 ^ BITS`. If `other` is greater than `self`, this is the difference plus
-    /// `2 ^ BITS`.
+    /// Returns `self` minus `other`, modulo `2 ^ BITS`.
+    ///
+    /// If `other` is greater than `self`, the result is `self + 2 ^ BITS - other`.
     fn wrapping_minus(self, other: Self) -> Self
         ensures value { number result ≡ (number self + 2 ^ BITS - number other) % 2 ^ BITS }
         ensures back { (number result + number other) % 2 ^ BITS ≡ number self };
 
-    /// Returns the same number as a `NonZero`, or `None` exactly for 0.
+    /// Returns the same number as a `NonZero`, or `None` if the number is 0.
     fn to_nonzero(self) -> Option<Self::NonZero>
         ensures { MatchOption result (number self ≡ 0) (λ n. nonzero_number n ≡ number self) };
 
@@ -159,10 +160,10 @@ pub trait BitArray: Copy + Drop {
         requires { number self < 2 ^ 64 }
         ensures { result ≡ number self };
 
-    // A word is below `2 ^ BITS`.
+    // The number of a word is below `2 ^ BITS`.
     ghost number_law: { (x : Self) → number x < 2 ^ BITS };
 
-    // A nonzero number is above 0.
+    // The number of a `NonZero` is above 0.
     ghost nonzero_law: { (n : Self.NonZero) → 0 < nonzero_number n };
 
     // A word has at least 8 and at most 128 bits.

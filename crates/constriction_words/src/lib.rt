@@ -10,7 +10,7 @@
 //! callers don't have to prove:
 //!
 //! - A word's number is below `2 ^ BITS`.
-//! - A nonzero number is above 0.
+//! - The number of a `NonZero` is above 0.
 //! - A word that is `WordOf<T>` is no wider than `T`.
 //!
 //! For example, this function computes the mean of two words without their sum, and its contract has no condition:

@@ -10,11 +10,11 @@
 
 ghost use Rattle.std.specs.Prelude.{◌≡◌, ◌+◌, ◌*◌, ◌/◌, ◌<◌, ℕ};
 
-/// The reciprocal of a divisor above 0, which gives the rounded-down quotient of every number below 2^64.
+/// The reciprocal of a divisor above 0, for exact quotients (rounded down) of numbers below `2^64`.
 ///
-/// It consists of a multiplier, an addend and a shift. It pays off where many numbers are divided by the same number,
-/// as coder states are divided by a symbol's weight. It is made once, and each quotient then takes one 128-bit product
-/// and a shift. On most machines this is several times as fast as a division.
+/// It consists of a multiplier, an addend and a shift. It pays off if the caller divides many numbers by the same
+/// number, for example coder states by a symbol's weight. The caller computes it once. Each quotient then takes one
+/// 128-bit product and a shift. On most machines this is several times as fast as a division.
 ///
 /// # Examples
 ///
@@ -25,7 +25,7 @@ ghost use Rattle.std.specs.Prelude.{◌≡◌, ◌+◌, ◌*◌, ◌/◌, ◌<�
 #[derive(Clone, Copy)]
 pub struct Reciprocal {
     multiplier: u64,
-    /// The multiplier itself where it is rounded down, and 0 where it is rounded up.
+    /// The same number as `multiplier` if `multiplier` is rounded down, or 0 if it is rounded up.
     addend: u64,
     shift: u32,
     ghost shift_fits: { shift < 64 },

@@ -32,7 +32,7 @@ pub trait WordOf<T: BitArray>: BitArray {
     fn widen(self) -> T
         ensures { T.number result ≡ Self.number self };
 
-    /// Returns the lowest `BITS` bits of a wider number: its remainder modulo `2 ^ BITS`.
+    /// Returns the lowest `Self::BITS` bits of `wide`: its remainder modulo `2 ^ Self::BITS`.
     fn narrow(wide: T) -> Self
         ensures { Self.number result ≡ T.number wide % 2 ^ Self.BITS };
 

@@ -1,10 +1,10 @@
-//! The methods with conditions as functions without: `None` where the condition does not hold.
+//! The methods with preconditions, as functions that return `None` if the precondition doesn't hold.
 
 ghost use Rattle.std.specs.Prelude.{◌≡◌, ◌+◌, ◌-◌, ◌*◌, ◌/◌, ◌%◌, ◌^◌, ◌<◌, ◌≤◌, MatchOption};
 
 use constriction_words::{BitArray, Reciprocal};
 
-/// The sum, if it fits.
+/// Returns the sum of `first` and `second`, or `None` if it doesn't fit the type.
 pub fn sum<W: BitArray>(first: W, second: W) -> Option<W>
     ensures { MatchOption result (2 ^ W.BITS ≤ W.number first + W.number second) (λ sum. W.number sum ≡ W.number first + W.number second) }
 {
@@ -14,7 +14,7 @@ pub fn sum<W: BitArray>(first: W, second: W) -> Option<W>
     Some(first.plus(second))
 }
 
-/// The difference, if the second number is not the greater.
+/// Returns `first` minus `second`, or `None` if `second` is above `first`.
 pub fn difference<W: BitArray>(first: W, second: W) -> Option<W> {
     if first.is_below(second) {
         return None;
@@ -22,7 +22,7 @@ pub fn difference<W: BitArray>(first: W, second: W) -> Option<W> {
     Some(first.minus(second))
 }
 
-/// The product, if it fits.
+/// Returns the product of `first` and `second`, or `None` if it doesn't fit the type.
 #[tactic(auto, using(crate::proofs::Fitting::fits_by_quotient))]
 pub fn product<W: BitArray>(first: W, second: W) -> Option<W> {
     if second.is_nothing() {
@@ -34,7 +34,7 @@ pub fn product<W: BitArray>(first: W, second: W) -> Option<W> {
     Some(first.times(second))
 }
 
-/// The quotient, unless the second number is 0.
+/// Returns `first` divided by `second`, rounded down, or `None` if `second` is 0.
 pub fn quotient<W: BitArray>(first: W, second: W) -> Option<W> {
     if second.is_nothing() {
         return None;
@@ -42,7 +42,9 @@ pub fn quotient<W: BitArray>(first: W, second: W) -> Option<W> {
     Some(first.quotient(second))
 }
 
-/// The quotient by means of a reciprocal, where the second number has at most 64 bits.
+/// Returns `first` divided by `second`, rounded down, or `None` if `second` is 0.
+///
+/// Uses a reciprocal if `second` has at most 64 bits.
 #[tactic(auto, using(crate::proofs::Fitting::fits_by_length))]
 pub fn quotient_by<W: BitArray>(first: W, second: W) -> Option<W> {
     if second.is_nothing() {
@@ -55,7 +57,7 @@ pub fn quotient_by<W: BitArray>(first: W, second: W) -> Option<W> {
     Some(first.quotient_by(second, reciprocal))
 }
 
-/// The remainder, unless the second number is 0.
+/// Returns the remainder of `first` divided by `second`, or `None` if `second` is 0.
 pub fn remainder<W: BitArray>(first: W, second: W) -> Option<W> {
     if second.is_nothing() {
         return None;
@@ -63,7 +65,7 @@ pub fn remainder<W: BitArray>(first: W, second: W) -> Option<W> {
     Some(first.remainder(second))
 }
 
-/// The number shifted to the left, if it fits.
+/// Returns `number` shifted left by `by` bits, or `None` if the result doesn't fit the type.
 #[tactic(auto, using(crate::proofs::Fitting::fits_by_quotient))]
 pub fn shifted<W: BitArray>(number: W, by: u32) -> Option<W>
     requires { by < W.BITS }
@@ -74,7 +76,7 @@ pub fn shifted<W: BitArray>(number: W, by: u32) -> Option<W>
     Some(number.shifted_left(by))
 }
 
-/// The number by way of its nonzero form, which 0 has not.
+/// Converts `number` to its nonzero form and back. Returns 0 for 0, which has no nonzero form.
 pub fn through_nonzero<W: BitArray>(number: W) -> W
     ensures { W.number result ≡ W.number number }
 {
@@ -84,7 +86,7 @@ pub fn through_nonzero<W: BitArray>(number: W) -> W
     }
 }
 
-/// The number as an index, if it fits.
+/// Returns `number` as a `usize`, or `None` if it doesn't fit.
 #[tactic(auto, using(crate::proofs::Fitting::fits_by_length))]
 pub fn index<W: BitArray>(number: W) -> Option<usize> {
     if number.bit_length() > usize::BITS {

@@ -1,11 +1,11 @@
-//! Generic callers, which know that words fit with no condition of their own.
+//! Generic callers without preconditions: the bounds of words show that all results fit.
 
 ghost use Rattle.std.specs.Prelude.{◌≡◌, ◌+◌, ◌/◌, ◌^◌, ◌<◌};
 
 use constriction_words::BitArray;
 use num_traits::{PrimInt, WrappingAdd, WrappingSub};
 
-/// The mean of two words, rounded down. Their bounds alone show that the sums below fit.
+/// Returns the mean of two words, rounded down. The bounds of the words alone show that the sums fit.
 fn mean<Word: BitArray>(first: Word, second: Word) -> Word
     ensures { Word.number result ≡ (Word.number first + Word.number second) / 2 }
 {
@@ -16,8 +16,9 @@ fn mean<Word: BitArray>(first: Word, second: Word) -> Word
         .plus(odd)
 }
 
-/// A length that the word's number fits, by methods of both traits. That `BITS` is such a length is
-/// the word's bound.
+/// Returns a number of bits that the word fits, by methods of `BitArray` and of `PrimInt`.
+///
+/// The bound of words says that each word fits `BITS` bits.
 fn enough_bits<Word: BitArray + PrimInt>(word: Word) -> u32
     ensures { Word.number word < 2 ^ result }
 {
@@ -28,7 +29,7 @@ fn enough_bits<Word: BitArray + PrimInt>(word: Word) -> u32
     }
 }
 
-/// What both traits have a method for is the same, each by its bare name.
+/// Returns whether the methods of `BitArray` agree with the corresponding methods of `num_traits`.
 fn agree<Word>(first: Word, second: Word) -> bool
 where
     Word: BitArray + PrimInt + WrappingAdd + WrappingSub,

@@ -1,11 +1,12 @@
-//! Tests of words, and no code besides: each method of `BitArray` and `WordOf` at boundary values of 8 bits, against
-//! values that were worked out apart from the code; and small generic callers, which have no conditions.
+//! Tests of words: each method of `BitArray` and `WordOf` at boundary values of 8 bits, and small generic callers
+//! without preconditions. The expected values were computed separately.
 //!
-//! What a contract of `constriction_words` says is proved there for all values. These tests stand for
-//! what no contract can say: that the definitions give the numbers that a reader expects, that the
-//! machine's operations give the proved values, and that a caller reaches each method.
-//! They are a crate of their own so that `constriction_words` is proved once. `tests/cases/constriction_words_tests` has the
-//! same at the other types, and many reciprocals: these run without a proof, by `tests/unproved`.
+//! The contracts of `constriction_words` are proved there for all values. These tests check what no contract can state:
+//! the definitions have the values that a reader expects, the machine's operations return the proved values, and a
+//! caller can call each method. The tests are a separate crate, so that `constriction_words` is proved once.
+//!
+//! `tests/cases/constriction_words_tests` tests the methods at the other types, and many reciprocals. These tests run
+//! without a proof, with `tests/unproved`.
 #![tactic(auto)]
 
 #[cfg(test)]

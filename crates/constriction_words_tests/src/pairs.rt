@@ -1,20 +1,20 @@
-//! Two words at a time.
+//! Tests of the methods of two words.
 
 use crate::arithmetic::{difference, product, quotient, quotient_by, remainder, sum};
 use constriction_words::BitArray;
 
-/// Two words, and what the methods return of them.
+/// Two words, and the results that the methods should return for them.
 #[derive(Drop)]
 pub struct Pair<W> {
     pub numbers: (W, W),
-    /// The sum, difference, product, quotient and remainder; `None` where the condition fails.
+    /// The sum, difference, product, quotient and remainder, each `None` if its precondition fails.
     pub exact: [Option<W>; 5],
     pub is_below: bool,
     /// The wrapping sum and difference.
     pub wrapping: (W, W),
 }
 
-/// The methods return what is said of the two words.
+/// Returns whether the methods return the results of `pair`.
 fn is_pair<W: BitArray + PartialEq>(pair: &Pair<W>) -> bool {
     let (first, second) = pair.numbers;
     let [added, taken, times, divided, left] = pair.exact;
@@ -29,7 +29,7 @@ fn is_pair<W: BitArray + PartialEq>(pair: &Pair<W>) -> bool {
         && first.wrapping_minus(second) == pair.wrapping.1
 }
 
-/// The methods return what is said of each of the pairs.
+/// Returns whether the methods return the results of each of `pairs`.
 pub fn are_pairs<W: BitArray + PartialEq>(pairs: &[Pair<W>]) -> bool {
     for pair in pairs {
         if !is_pair(pair) {
@@ -39,7 +39,7 @@ pub fn are_pairs<W: BitArray + PartialEq>(pairs: &[Pair<W>]) -> bool {
     true
 }
 
-/// A pair of bytes.
+/// Makes a pair of bytes from its fields.
 fn bytes(
     numbers: (u8, u8),
     exact: [Option<u8>; 5],

@@ -1,17 +1,17 @@
-//! Quotients by a reciprocal, beside the division.
+//! A test that compares quotients by a reciprocal with quotients of a division.
 
 ghost use Rattle.std.specs.Prelude.{◌<◌};
 
 use constriction_words::{BitArray, Reciprocal};
 
-/// The reciprocal divides the number as a division does.
+/// Returns whether the reciprocal's quotient of `number` equals `number / divisor`.
 pub fn divides(reciprocal: Reciprocal, divisor: u64, number: u64) -> bool
     requires { 0 < divisor }
 {
     reciprocal.quotient(number) == number / divisor
 }
 
-/// The reciprocals of the least and the greatest divisors.
+/// Checks the reciprocals of six divisors, from the least to the greatest.
 #[test]
 fn reciprocals_divide(rt: HostRuntime) {
     for divisor in [1u64, 2, 3, 10, 1 << 63, u64::MAX] {

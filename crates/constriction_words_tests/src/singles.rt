@@ -1,21 +1,21 @@
-//! One word at a time.
+//! Tests of the methods of one word.
 
 use crate::arithmetic::{index, shifted, through_nonzero};
 use constriction_words::BitArray;
 
-/// A word, and what the methods return of it.
+/// A word, and the results that the methods should return for it.
 #[derive(Drop)]
 pub struct Single<W> {
     pub number: W,
     pub by: u32,
-    /// Shifted to the left by that many bits, where it fits.
+    /// `number` shifted left by `by` bits, or `None` if the result doesn't fit.
     pub left: Option<W>,
-    /// Shifted to the right by as many, and as many of its lowest bits.
+    /// `number` shifted right by `by` bits, and the lowest `by` bits of `number`.
     pub right_and_low: (W, W),
     pub length: u32,
 }
 
-/// The methods return what is said of the word.
+/// Returns whether the methods return the results of `single`.
 fn is_single<W: BitArray + PartialEq>(single: &Single<W>) -> bool {
     let number = single.number;
     single.by < W::BITS
@@ -28,8 +28,9 @@ fn is_single<W: BitArray + PartialEq>(single: &Single<W>) -> bool {
         && number.to_nonzero().is_none() == (single.length == 0)
 }
 
-/// The type has these bits and names these numbers, 0, 1 and its greatest, and the methods return what is said of each of
-/// the words.
+/// Returns whether the methods return the results of each of `singles`, and the type's constants are as expected.
+///
+/// `bits` is the expected `BITS`. `named` are the expected values of 0, 1 and the greatest number.
 pub fn are_singles<W: BitArray + PartialEq>(
     bits: u32,
     named: (W, W, W),
@@ -43,7 +44,7 @@ pub fn are_singles<W: BitArray + PartialEq>(
     W::BITS == bits && W::nothing() == named.0 && W::unit() == named.1 && W::greatest() == named.2
 }
 
-/// The words are these as indices, where they fit.
+/// Returns whether `index` returns `indices` for `words`.
 pub fn are_indices<W: BitArray>(words: &[W], indices: &[Option<usize>]) -> bool {
     for (word, expected) in words.iter().zip(indices.iter()) {
         if index(*word) != *expected {
@@ -53,7 +54,7 @@ pub fn are_indices<W: BitArray>(words: &[W], indices: &[Option<usize>]) -> bool 
     words.len() == indices.len()
 }
 
-/// A byte.
+/// Makes the `Single` of a byte from its fields.
 fn byte(number: u8, by: u32, left: Option<u8>, right_and_low: (u8, u8), length: u32) -> Single<u8> {
     Single {
         number,

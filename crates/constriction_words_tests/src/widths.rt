@@ -1,9 +1,11 @@
-//! Words within wider words.
+//! A test of words within wider words.
 
 use constriction_words::{BitArray, WordOf};
 
-/// Five words are these numbers in the wider type: 0, 1, a middle one, and the two greatest. Wider numbers narrow to 0
-/// twice, to 1, and to the two greatest.
+/// Returns whether `words` widen to `wide`, and `wider` narrow to the expected words.
+///
+/// `words` are 0, 1, a middle number, and the two greatest numbers. `wider` must narrow to 0, 0, 1, and the two
+/// greatest numbers.
 pub fn are_widths<W, T>(words: [W; 5], wide: [T; 5], wider: [T; 5]) -> bool
 where
     W: WordOf<T> + PartialEq,

@@ -1,9 +1,9 @@
 //! Traits of values that turn into a backend for reading, or lend one.
 //!
-//! The new backend holds the same words. That alone doesn't keep recorded positions valid. For example, the new buffer
-//! could begin with an extra word, and the cursor could start after that word. The words left to read would be equal,
-//! but recorded positions would lead to other words. Therefore `becomes` also states the buffer and the position of the
-//! new backend.
+//! The new backend holds the same words. This law alone doesn't keep recorded positions valid. For example, the new
+//! buffer could begin with an extra word, and the cursor could start after that word. The words left to read would be
+//! equal, but recorded positions would lead to other words. Therefore `becomes` of vectors and slices also states the
+//! buffer and the position of the new backend.
 
 ghost use Rattle.std.specs.Prelude.{◌≡◌};
 
@@ -43,7 +43,7 @@ pub trait AsReadWords<'a, Word, S: Semantics>: Holds<Word, S> {
         ensures place { becomes self.now result };
 }
 
-/// A value that turns into a backend for reading that can also seek.
+/// A value that turns into a backend that can read and seek.
 ///
 /// An implementor chooses `becomes` freely and proves that the new backend holds the same words, as for
 /// [`IntoReadWords`].
@@ -59,7 +59,7 @@ pub trait IntoSeekReadWords<Word, S: Semantics>: Holds<Word, S> {
         ensures place { becomes self result };
 }
 
-/// A value that lends a backend for reading that can also seek.
+/// A value that lends a backend that can read and seek.
 ///
 /// An implementor chooses `becomes` freely and proves that the lent backend holds the same words, as for
 /// [`IntoReadWords`].

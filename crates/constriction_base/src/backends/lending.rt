@@ -14,12 +14,12 @@ pub trait Words<Word> {
         ensures { result.now ≡ lent self.now };
 }
 
-/// A buffer whose words can be replaced and reversed. The number of words stays the same.
+/// A buffer that can replace its words and reverse their order. The number of words stays the same.
 ///
 /// An implementor proves what each call does to the lent words: `set_word` replaces a word, and `reverse_words`
 /// reverses the order of the words.
 pub trait WordsMut<Word>: Words<Word> {
-    /// Replaces the word at `index`. The caller proves that `index` is below the number of words.
+    /// Replaces the word at `index` by `word`. The caller proves that `index` is below the number of words.
     fn set_word(&mut self, index: usize, word: Word)
         requires { index < length (Self.lent self.old) }
         ensures { Self.lent self.new ≡ slice_set (Self.lent self.old) index word };

@@ -7,7 +7,7 @@ use crate::backends::semantics::Semantics;
 
 /// A value that holds words in the reading order `S`.
 ///
-/// A type that implements the trait for both orders has one list of words for each.
+/// A type that implements the trait for both orders has one list of words for each order.
 ///
 /// This trait doesn't restrict how an implementor defines `words`. Where `is_list` holds, the contracts of reading and
 /// writing state how each call changes the list.
@@ -23,9 +23,10 @@ pub trait Holds<Word, S: Semantics> {
 ///
 /// A `Stack` reads the word that was written last. A `Queue` reads the word that was written first.
 ///
-/// An implementor chooses what a read may return, how the read changes the backend, and when the backend seems
-/// exhausted. It then proves that the calls obey these choices. Where `is_list` holds, it also proves that a read takes
-/// the first word of the list.
+/// An implementor chooses what a read may return, how the read changes the backend (`reads`), and what
+/// `maybe_exhausted` returns (`seems_exhausted`). It proves that the calls obey these choices, and that
+/// `maybe_exhausted` returns `true` if the next read may return `Ok(None)`. Where `is_list` holds, it also proves that
+/// a read takes the first word of the list, and that `maybe_exhausted` returns `true` for an empty list.
 ///
 /// # Examples
 ///
@@ -39,7 +40,7 @@ pub trait ReadWords<Word, S: Semantics>: Holds<Word, S> {
     /// It is `Infallible` for vectors and cursors, and the iterator's own error type for `FallibleIteratorReadWords`.
     type ReadError;
 
-    /// Relates the backend before a read, what the read returns, and the backend after it.
+    /// Relates the backend before a read, what the read returns, and the backend after the read.
     ghost reads: { Self → Result (Option Word) Self.ReadError → Self → Type 0 };
 
     /// The value that `maybe_exhausted` returns.
@@ -47,7 +48,7 @@ pub trait ReadWords<Word, S: Semantics>: Holds<Word, S> {
 
     /// Takes the next word and returns it, or returns `Ok(None)` if no word is left.
     ///
-    /// Where `is_list` holds, only a read that returns a word changes the list of words.
+    /// Where `is_list` holds, a read that returns `Ok(None)` leaves the list of words unchanged.
     ///
     /// # Errors
     ///
@@ -66,7 +67,7 @@ pub trait ReadWords<Word, S: Semantics>: Holds<Word, S> {
         ensures ended { (after : Self) → reads self.now (Ok None) after → IsTrue result };
 }
 
-/// A backend that can count the words that are left.
+/// A backend that can count the words left to read.
 ///
 /// An implementor proves that `is_list` holds and that `remaining` returns the length of the list.
 pub trait BoundedReadWords<Word, S: Semantics>: ReadWords<Word, S> {

@@ -1,8 +1,9 @@
 //! Positions in a backend or in a coder.
 //!
 //! For vectors and cursors, `can_seek` and `seek_fails` exclude each other: a seek succeeds exactly if `can_seek`
-//! holds, and a refused seek changes nothing. Some coders read after their backend's seek, or have two backends. For
-//! these coders, both may hold for the same position. `stays` states how a refused seek may change the value.
+//! holds, and a refused seek changes nothing. Some coders read words after their backend has sought, or have two
+//! backends. For these coders, `can_seek` and `seek_fails` may both hold for a position. `stays` states how a refused
+//! seek may change the value.
 
 ghost use Rattle.std.specs.Prelude.{◌≡◌, ℕ, length, IsOk, OnOk, OnErr};
 
@@ -28,7 +29,7 @@ pub trait Pos: PosSeek {
     /// It always holds for vectors and cursors.
     ghost can_tell: { Self → Type 0 };
 
-    /// Returns the current position. The caller proves `can_tell`.
+    /// Returns the current position. The caller proves that `can_tell` holds.
     fn pos(&self) -> Self::Position
         requires { can_tell self.now }
         ensures { stands_at self.now result };
@@ -46,11 +47,11 @@ pub trait CountsWords<Word>: Pos<Position = usize> + Holds<Word, Stack> {
     // The position is the number of words on the stack.
     ghost count_law: { (b : Self) (place : ℕ) → Self.stands_at b place → place ≡ length (Self.words b) };
 
-    // The position can always be told.
+    // `pos` may always be called.
     ghost told_law: { (b : Self) → Self.can_tell b };
 }
 
-/// A value that can go to a position.
+/// A value that can seek to a position.
 ///
 /// An implementor chooses `can_seek`, `seek_fails`, `sought` and `stays` freely, and proves that `seek` obeys them.
 /// `can_seek` and `seek_fails` may both hold for the same position, if a read during `seek` decides whether the seek
@@ -62,13 +63,13 @@ pub trait Seek: PosSeek {
     /// Holds if a seek to the position may be refused. A seek to any other position succeeds.
     ghost seek_fails: { Self → Self.Position → Type 0 };
 
-    /// Relates the value before a successful seek, the position, and the value after it.
+    /// Relates the value before a successful seek, the position, and the value after the seek.
     ghost sought: { Self → Self.Position → Self → Type 0 };
 
-    /// Relates the value before a refused seek, the position, and the value after it.
+    /// Relates the value before a refused seek, the position, and the value after the seek.
     ghost stays: { Self → Self.Position → Self → Type 0 };
 
-    /// Goes to a position, for example one that `pos` returned earlier.
+    /// Seeks to `position`, for example to a position that `pos` returned.
     ///
     /// # Errors
     ///
@@ -81,16 +82,16 @@ pub trait Seek: PosSeek {
         ensures kept { OnErr result (stays self.old position self.new) };
 }
 
-/// A value that can seek to its current position.
+/// A value that can always seek to its current position.
 ///
-/// An implementor proves two laws, which tie [`Pos`] to [`Seek`]: a seek to the current position may succeed, and it is
-/// never refused. The laws are a separate trait, because a coder may implement [`Pos`] over one backend and [`Seek`]
-/// over another.
+/// An implementor proves two laws, which tie [`Pos`] to [`Seek`]. For each position that `stands_at` allows, `can_seek`
+/// holds, and `seek_fails` doesn't hold. Therefore a seek to the current position always succeeds. The laws are a
+/// separate trait, because a coder may implement [`Pos`] over one backend and [`Seek`] over another backend.
 pub trait SeeksBack: Pos + Seek {
-    // A seek to the current position may succeed.
+    // `can_seek` holds for the current position.
     ghost reach_law: { (b : Self) (position : Self.Position) → Self.stands_at b position → Self.can_seek b position };
 
-    // A seek to the current position is never refused.
+    // `seek_fails` doesn't hold for the current position.
     ghost accept_law: { (b : Self) (position : Self.Position) → Self.stands_at b position → Self.seek_fails b position
         → ⊥ };
 }

@@ -5,7 +5,7 @@
 /// An implementor proves nothing.
 pub trait Semantics {}
 
-/// Last in, first out: the word written last is read first.
+/// The order "last in, first out": the word written last is read first.
 ///
 /// # Examples
 ///
@@ -16,7 +16,7 @@ pub trait Semantics {}
 #[derive(Clone, Copy, Debug, Default, PartialEq, Eq)]
 pub struct Stack;
 
-/// First in, first out: the word written first is read first.
+/// The order "first in, first out": the word written first is read first.
 ///
 /// # Examples
 ///

@@ -7,9 +7,9 @@ use crate::backends::reading::ReadWords;
 use crate::backends::semantics::Stack;
 use crate::backends::writing::WriteWords;
 
-/// Takes `count` words off the backend, or fewer if a read is refused.
+/// Takes `count` words off the backend `bulk`, or fewer if a read is refused.
 ///
-/// If no read is ever refused, the call takes exactly the first `count` words, or all words if there are fewer. A
+/// If no read is ever refused, the call takes exactly the first `count` words, or all words if fewer are left. A
 /// coder's guard calls `take_back` to remove the words that the guard wrote onto the backend.
 pub fn take_back<Word, Backend>(bulk: &mut Backend, count: usize)
 where

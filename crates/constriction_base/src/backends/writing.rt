@@ -10,19 +10,19 @@ ghost use Rattle.std.specs.Prelude.{◌≡◌, ◌+◌, ℕ, Bool, false, ◌∷
 use crate::backends::reading::Holds;
 use crate::backends::semantics::Stack;
 
-/// A backend for writing, whose words form a stack: each write puts a word on top.
+/// A backend for writing. Its words form a stack: each write puts a word on top.
 ///
 /// The errors that a call may return depend only on the backend before the call and, for `prepare`, on the number of
-/// words that the caller asks room for.
+/// words that the caller asks for.
 ///
 /// An implementor chooses:
 ///
 /// - `writes`: how a write changes the backend.
 /// - `write_fails` and `prepare_fails`: which errors the calls may return.
 /// - `room`: how many writes are sure to succeed, possibly none.
-/// - `makes_room`: whether `prepare` makes room.
+/// - `makes_room`: whether a successful `prepare` makes room.
 /// - `is_lack_of_room`: which errors mean lack of room.
-/// - `seems_full`: when the backend seems full.
+/// - `seems_full`: what `maybe_full` returns.
 ///
 /// It then proves that the calls obey these choices, and proves the laws that relate the choices to one another.
 ///
@@ -40,17 +40,17 @@ pub trait WriteWords<Word>: Holds<Word, Stack> {
     /// For vectors, it means lack of memory. For cursors, it means lack of room.
     type WriteError;
 
-    /// Relates the backend before a write, the word, what the write returns, and the backend after it.
+    /// Relates the backend before a write, the word, what the write returns, and the backend after the write.
     ///
     /// The relation includes state that `words` and `room` don't capture, such as a cursor's position and a vector's
-    /// capacity. Contracts of calls that write several words chain it: each write starts from the backend that the
-    /// previous one left.
+    /// capacity. Contracts of calls that write several words chain this relation: each write starts from the backend
+    /// that the previous write left.
     ghost writes: { Self → Word → Result (Unit {0}) Self.WriteError → Self → Type 0 };
 
     /// Holds for each error that the next write may return.
     ghost write_fails: { Self → Self.WriteError → Type 0 };
 
-    /// Holds for each error that a call of `prepare` for this number of words may return.
+    /// Holds for each error that `prepare` may return when the caller asks for room for this number of words.
     ghost prepare_fails: { Self → ℕ → Self.WriteError → Type 0 };
 
     /// The number of writes that are sure to succeed.
@@ -103,13 +103,13 @@ pub trait WriteWords<Word>: Holds<Word, Stack> {
         ensures fails { (e : Self.WriteError) → write_fails self.new e → write_fails self.old e }
         ensures err { IfErr result (λ e. prepare_fails self.old count e) };
 
-    // Where there is room, no write is refused.
+    // If there is room, the next write isn't refused.
     ghost room_law: { (b : Self) (e : Self.WriteError) → 0 < room b → write_fails b e → ⊥ };
 
-    // No request for at most the room that there is fails.
+    // If the room is at least `count`, a request for `count` words isn't refused.
     ghost prepare_law: { (b : Self) (count : ℕ) (e : Self.WriteError) → count ≤ room b → prepare_fails b count e → ⊥ };
 
-    // Where the backend doesn't seem full, a request for one word is not refused for lack of room.
+    // If `maybe_full` returns `false`, a request for one word isn't refused for lack of room.
     ghost full_law: { (b : Self) (e : Self.WriteError) → seems_full b ≡ false → is_lack_of_room e → prepare_fails b 1 e
         → ⊥ };
 

@@ -1,7 +1,7 @@
 //! Writing to a cursor: each write replaces the word at the position, until the buffer ends.
 //!
-//! The contract of `write` says more than the trait: one word and the position change, and all other words stay the
-//! same.
+//! The contract of `write` states more than the contract in the trait: one word and the position change, and all other
+//! words stay the same.
 
 ghost use Rattle.std.specs.Prelude.{◌≡◌, ◌+◌, ◌-◌, ◌∷◌, ◌<◌, ◌≤◌, ◌==◌, Result, Ok, Err, length, reverse, IsOk, OnOk};
 ghost use Rattle.std.specs.Prelude.{OnErr, IfErr, slice_set, take};
@@ -31,7 +31,7 @@ impl<Word: BitArray, Buf: WordsMut<Word> + Drop> WriteWords<Word> for Cursor<Wor
 
     ghost seems_full = { λ c. c.pos == length (Buf.lent c.buf) };
 
-    /// Replaces the word at the position and moves past it. No other word changes.
+    /// Replaces the word at the position by `word`, and moves the position past it. No other word changes.
     ///
     /// # Errors
     ///

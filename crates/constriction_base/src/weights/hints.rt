@@ -1,7 +1,7 @@
 //! Hints: where the search for a quantile's symbol begins and ends, by the quantile's high bits.
 //!
-//! The number of buckets is a power of two. It is more than twice and at most four times the number of known symbols,
-//! but never above `2 ^ PRECISION` or 2^63.
+//! The number of buckets is a power of two. It is more than twice and at most four times the number of symbols up to
+//! the last symbol with a weight above 0, but never above `2 ^ PRECISION` or 2^63.
 
 ghost use Rattle.std.specs.Prelude.{◌≡◌, ◌+◌, ◌-◌, ◌*◌, ◌^◌, ◌<◌, ◌≤◌, ◌⊎◌, length, map, slice_index, IfOk};
 ghost use Rattle.constriction_base.specs.Tables.{IsRising};
@@ -10,10 +10,10 @@ ghost use Rattle.constriction_base.specs.Hints.{AreHints};
 use constriction_words::BitArray;
 use std::alloc::{AllocError, Global};
 
-/// Returns how many low bits of a quantile its bucket leaves out, in a table of `symbols` symbols.
+/// Returns the number of low bits in which the quantiles of a bucket differ, in a table of `symbols` symbols.
 ///
-/// There are more than two and at most four buckets for each symbol. There may be fewer in two cases: each bucket is a
-/// single quantile, or the number of buckets is 2^63.
+/// There are more than two and at most four buckets for each symbol. There may be fewer buckets in two cases: each
+/// bucket is a single quantile, or there are 2^63 buckets.
 pub fn shift_for(symbols: usize, precision: usize) -> u32
     requires some { 0 < symbols }
     requires within { (1 ≤ precision) × (precision ≤ 128) }
@@ -26,7 +26,7 @@ pub fn shift_for(symbols: usize, precision: usize) -> u32
     precision - precision.min(symbols.ilog2() + 2).min(63)
 }
 
-/// Returns the last symbol, from `from` on, whose interval begins at or below the quantile.
+/// Returns the last symbol, from `from` on, with a start at or below `quantile`.
 fn symbol_from<Probability: BitArray>(
     starts: &[Probability],
     from: usize,
@@ -47,7 +47,7 @@ fn symbol_from<Probability: BitArray>(
     symbol
 }
 
-/// Returns the symbol of each bucket's first quantile, and after these the last symbol.
+/// Returns the symbol of each bucket's first quantile, followed by the last symbol.
 pub fn hints_of<Probability: BitArray, const PRECISION: usize>(
     alloc: Global,
     starts: &[Probability],

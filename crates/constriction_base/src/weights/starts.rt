@@ -1,4 +1,4 @@
-//! The starts of the intervals of weights, and whether the weights add up to `2 ^ PRECISION`.
+//! Computes the starts of intervals from weights, and checks whether the weights add up to `2 ^ PRECISION`.
 
 ghost use Rattle.std.specs.Prelude.{◌≡◌, ◌≢◌, ◌+◌, ◌^◌, ◌<◌, ◌≤◌, length, map, sum_by, IfOk, IfSome, IfNone};
 ghost use Rattle.constriction_base.specs.Tables.{Sums, IsLastSymbol};
@@ -14,7 +14,9 @@ pub fn ones<Word: BitArray>(count: usize) -> Word
     Word::greatest().shifted_right(Word::BITS - count as u32)
 }
 
-/// Returns the number of symbols up to the last weight above 0, or `None` if the total isn't `2 ^ PRECISION`.
+/// Returns the number of weights up to and including the last nonzero weight.
+///
+/// Returns `None` if the weights don't add up to `2 ^ PRECISION`.
 pub fn known_symbols<Probability: BitArray, const PRECISION: usize>(
     weights: &[Probability],
 ) -> Option<usize>
@@ -30,12 +32,12 @@ pub fn known_symbols<Probability: BitArray, const PRECISION: usize>(
     for (i, weight) in weights.iter().enumerate() {
         if !weight.is_nothing() {
             if known > 0 {
-                return None; // there is nothing left of the total
+                return None; // nothing is left of the total
             }
             let rest = last.minus(left);
             let less = weight.minus(one);
             if rest.is_below(less) {
-                return None; // there is less left of the total
+                return None; // less than `weight` is left of the total
             }
             if less.is_below(rest) {
                 left = left.plus(*weight);
@@ -47,7 +49,7 @@ pub fn known_symbols<Probability: BitArray, const PRECISION: usize>(
     if known > 0 { Some(known) } else { None }
 }
 
-/// Returns the start of each weight's interval, and after these the sum of all weights.
+/// Returns the start of each weight's interval, followed by the sum of all weights.
 pub fn starts_of<Probability: BitArray>(
     alloc: Global,
     weights: &[Probability],

@@ -1,4 +1,4 @@
-//! Cases of the chain coder at words of 32 bits, numbers of the remainders of 64 bits and a precision of 24 bits.
+//! Cases of the chain coder with words of 32 bits, remainders heads of 64 bits and a precision of 24 bits.
 
 use crate::bucket::BucketTable;
 use crate::chains::{decode_each, encode_each};
@@ -10,20 +10,25 @@ use constriction_chain::DefaultChainCoder;
 use constriction_words::WordOf;
 use std::alloc::Global;
 
-/// The coder of a copy of words in binary form. There is none where they are too few or memory is missing.
+/// Makes a coder from a copy of `words`, which are in binary form.
+///
+/// Returns `None` if there are too few words, or if there is no memory.
 fn coder_of(alloc: Global, words: &[u32]) -> Option<DefaultChainCoder> {
     let words = words.to_vec(alloc).ok()?;
     DefaultChainCoder::from_binary(alloc, words).ok()
 }
 
-/// The coder of a copy of remainders. There is none where no decode left them or memory is missing.
+/// Makes a coder from a copy of `remainders`.
+///
+/// Returns `None` if no coder has these remainders, or if there is no memory.
 fn coder_back(alloc: Global, remainders: &[u32]) -> Option<DefaultChainCoder> {
     let remainders = remainders.to_vec(alloc).ok()?;
     DefaultChainCoder::from_remainders(alloc, remainders).ok()
 }
 
-/// Writes as many words of the remainders with both heads on top as there is room for. It returns how many there
-/// are, 0 where memory is missing.
+/// Copies the words of the coder's remainders, with both heads on top, to `out`, as many as fit.
+///
+/// Returns how many these are, or 0 if there is no memory.
 fn give_remainders(coder: DefaultChainCoder, out: &mut [u32]) -> usize {
     match coder.into_remainders() {
         Ok((_, remainders)) => copy_out(&remainders, out),
@@ -31,8 +36,9 @@ fn give_remainders(coder: DefaultChainCoder, out: &mut [u32]) -> usize {
     }
 }
 
-/// Writes as many words in binary form as there is room for. It returns how many there are, 0 where bits are left
-/// over or memory is missing.
+/// Copies the coder's compressed words in binary form to `out`, as many as fit.
+///
+/// Returns how many these are, or 0 if the coder has no binary form or there is no memory.
 fn give_words(coder: DefaultChainCoder, out: &mut [u32]) -> usize {
     match coder.into_binary() {
         Ok((_, words)) => copy_out(&words, out),
@@ -40,8 +46,9 @@ fn give_words(coder: DefaultChainCoder, out: &mut [u32]) -> usize {
     }
 }
 
-/// Decodes a symbol for each place of `symbols`, in their order, and gives the remainders out. It returns how
-/// many words they are, 0 where there are none.
+/// Fills `symbols` with symbols decoded from the coder `found`, and copies the remainders to `out`, as many as fit.
+///
+/// Returns how many words the remainders have, or 0 if `found` is `None`, a decode fails or there is no memory.
 #[inline(never)]
 fn decode_out<M: DecoderModel<24, Symbol = usize>>(
     found: Option<DefaultChainCoder>,
@@ -62,8 +69,10 @@ where
     }
 }
 
-/// Puts symbols back, the last first, and gives the words out. It returns how many they are, 0 where there are
-/// none.
+/// Encodes symbols from the last to the first on the coder `found`, and copies its words to `out`, as many as fit.
+///
+/// The words are in binary form. Returns how many there are, or 0 if `found` is `None`, if an encode fails, or if
+/// [`give_words`] returns 0.
 #[inline(never)]
 fn encode_out<M: EncoderModel<24, Symbol = usize>>(
     found: Option<DefaultChainCoder>,
@@ -84,7 +93,9 @@ where
     }
 }
 
-/// Decodes as many symbols as there is room for, by a table of weights.
+/// Fills `symbols` with symbols decoded from `words` in binary form, with a table of weights.
+///
+/// Copies the remainders to `out`, as many words as fit. Returns their total number, or 0 after a failure.
 #[unsafe(no_mangle)]
 pub extern "C" fn constriction_bench_chain_decode_u32u64p24_table(
     alloc: Global,
@@ -99,7 +110,9 @@ pub extern "C" fn constriction_bench_chain_decode_u32u64p24_table(
     decode_out(coder_of(alloc, words), symbols, &table, out)
 }
 
-/// Puts symbols back by a table of weights.
+/// Encodes symbols from the last to the first onto `remainders`, with a table of weights.
+///
+/// Copies the compressed words, in binary form, to `out`, as many as fit. Returns their number, or 0 after a failure.
 #[unsafe(no_mangle)]
 pub extern "C" fn constriction_bench_chain_encode_u32u64p24_table(
     alloc: Global,
@@ -114,7 +127,9 @@ pub extern "C" fn constriction_bench_chain_encode_u32u64p24_table(
     encode_out(coder_back(alloc, remainders), symbols, &table, out)
 }
 
-/// Decodes as many symbols below `2^bits` as there is room for, by equal weights.
+/// Fills `symbols` with symbols below `2^bits`, decoded from `words` in binary form with equal weights.
+///
+/// Copies the remainders to `out`, as many words as fit. Returns their total number, or 0 after a failure.
 #[unsafe(no_mangle)]
 pub extern "C" fn constriction_bench_chain_decode_u32u64p24_flat(
     alloc: Global,
@@ -129,7 +144,9 @@ pub extern "C" fn constriction_bench_chain_decode_u32u64p24_flat(
     decode_out(coder_of(alloc, words), symbols, &flat, out)
 }
 
-/// Puts symbols below `2^bits` back by equal weights.
+/// Encodes symbols below `2^bits` from the last to the first onto `remainders`, with equal weights.
+///
+/// Copies the compressed words, in binary form, to `out`, as many as fit. Returns their number, or 0 after a failure.
 #[unsafe(no_mangle)]
 pub extern "C" fn constriction_bench_chain_encode_u32u64p24_flat(
     alloc: Global,
@@ -144,7 +161,10 @@ pub extern "C" fn constriction_bench_chain_encode_u32u64p24_flat(
     encode_out(coder_back(alloc, remainders), symbols, &flat, out)
 }
 
-/// Decodes as many symbols as there is room for, by a table with a symbol for each part of the quantiles.
+/// Fills `symbols` with symbols decoded from `words`, with a table that lists a symbol for each part of the quantiles.
+///
+/// `words` are in binary form. Copies the remainders to `out`, as many words as fit. Returns the total number of words,
+/// or 0 after a failure.
 #[unsafe(no_mangle)]
 pub extern "C" fn constriction_bench_chain_decode_u32u64p24_bucket(
     alloc: Global,

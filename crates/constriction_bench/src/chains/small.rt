@@ -1,5 +1,5 @@
 // Written by tools/sizes from large.rt.
-//! Cases of the chain coder at words of 16 bits, numbers of the remainders of 32 bits and a precision of 12 bits.
+//! Cases of the chain coder with words of 16 bits, remainders heads of 32 bits and a precision of 12 bits.
 
 use crate::chains::{decode_each, encode_each};
 use crate::flat::Flat;
@@ -11,20 +11,25 @@ use constriction_chain::SmallChainCoder;
 use constriction_words::WordOf;
 use std::alloc::Global;
 
-/// The coder of a copy of words in binary form. There is none where they are too few or memory is missing.
+/// Makes a coder from a copy of `words`, which are in binary form.
+///
+/// Returns `None` if there are too few words, or if there is no memory.
 fn coder_of(alloc: Global, words: &[u16]) -> Option<SmallChainCoder> {
     let words = words.to_vec(alloc).ok()?;
     SmallChainCoder::from_binary(alloc, words).ok()
 }
 
-/// The coder of a copy of remainders. There is none where no decode left them or memory is missing.
+/// Makes a coder from a copy of `remainders`.
+///
+/// Returns `None` if no coder has these remainders, or if there is no memory.
 fn coder_back(alloc: Global, remainders: &[u16]) -> Option<SmallChainCoder> {
     let remainders = remainders.to_vec(alloc).ok()?;
     SmallChainCoder::from_remainders(alloc, remainders).ok()
 }
 
-/// Writes as many words of the remainders with both heads on top as there is room for. It returns how many there
-/// are, 0 where memory is missing.
+/// Copies the words of the coder's remainders, with both heads on top, to `out`, as many as fit.
+///
+/// Returns how many these are, or 0 if there is no memory.
 fn give_remainders(coder: SmallChainCoder, out: &mut [u16]) -> usize {
     match coder.into_remainders() {
         Ok((_, remainders)) => copy_out(&remainders, out),
@@ -32,8 +37,9 @@ fn give_remainders(coder: SmallChainCoder, out: &mut [u16]) -> usize {
     }
 }
 
-/// Writes as many words in binary form as there is room for. It returns how many there are, 0 where bits are left
-/// over or memory is missing.
+/// Copies the coder's compressed words in binary form to `out`, as many as fit.
+///
+/// Returns how many these are, or 0 if the coder has no binary form or there is no memory.
 fn give_words(coder: SmallChainCoder, out: &mut [u16]) -> usize {
     match coder.into_binary() {
         Ok((_, words)) => copy_out(&words, out),
@@ -41,8 +47,9 @@ fn give_words(coder: SmallChainCoder, out: &mut [u16]) -> usize {
     }
 }
 
-/// Decodes a symbol for each place of `symbols`, in their order, and gives the remainders out. It returns how
-/// many words they are, 0 where there are none.
+/// Fills `symbols` with symbols decoded from the coder `found`, and copies the remainders to `out`, as many as fit.
+///
+/// Returns how many words the remainders have, or 0 if `found` is `None`, a decode fails or there is no memory.
 #[inline(never)]
 fn decode_out<M: DecoderModel<12, Symbol = usize>>(
     found: Option<SmallChainCoder>,
@@ -63,8 +70,10 @@ where
     }
 }
 
-/// Puts symbols back, the last first, and gives the words out. It returns how many they are, 0 where there are
-/// none.
+/// Encodes symbols from the last to the first on the coder `found`, and copies its words to `out`, as many as fit.
+///
+/// The words are in binary form. Returns how many there are, or 0 if `found` is `None`, if an encode fails, or if
+/// [`give_words`] returns 0.
 #[inline(never)]
 fn encode_out<M: EncoderModel<12, Symbol = usize>>(
     found: Option<SmallChainCoder>,
@@ -85,7 +94,9 @@ where
     }
 }
 
-/// Decodes as many symbols as there is room for, by a table of weights.
+/// Fills `symbols` with symbols decoded from `words` in binary form, with a table of weights.
+///
+/// Copies the remainders to `out`, as many words as fit. Returns their total number, or 0 after a failure.
 #[unsafe(no_mangle)]
 pub extern "C" fn constriction_bench_chain_decode_u16u32p12_table(
     alloc: Global,
@@ -100,7 +111,9 @@ pub extern "C" fn constriction_bench_chain_decode_u16u32p12_table(
     decode_out(coder_of(alloc, words), symbols, &table, out)
 }
 
-/// Puts symbols back by a table of weights.
+/// Encodes symbols from the last to the first onto `remainders`, with a table of weights.
+///
+/// Copies the compressed words, in binary form, to `out`, as many as fit. Returns their number, or 0 after a failure.
 #[unsafe(no_mangle)]
 pub extern "C" fn constriction_bench_chain_encode_u16u32p12_table(
     alloc: Global,
@@ -115,7 +128,9 @@ pub extern "C" fn constriction_bench_chain_encode_u16u32p12_table(
     encode_out(coder_back(alloc, remainders), symbols, &table, out)
 }
 
-/// Decodes as many symbols below `2^bits` as there is room for, by equal weights.
+/// Fills `symbols` with symbols below `2^bits`, decoded from `words` in binary form with equal weights.
+///
+/// Copies the remainders to `out`, as many words as fit. Returns their total number, or 0 after a failure.
 #[unsafe(no_mangle)]
 pub extern "C" fn constriction_bench_chain_decode_u16u32p12_flat(
     alloc: Global,
@@ -130,7 +145,9 @@ pub extern "C" fn constriction_bench_chain_decode_u16u32p12_flat(
     decode_out(coder_of(alloc, words), symbols, &flat, out)
 }
 
-/// Puts symbols below `2^bits` back by equal weights.
+/// Encodes symbols below `2^bits` from the last to the first onto `remainders`, with equal weights.
+///
+/// Copies the compressed words, in binary form, to `out`, as many as fit. Returns their number, or 0 after a failure.
 #[unsafe(no_mangle)]
 pub extern "C" fn constriction_bench_chain_encode_u16u32p12_flat(
     alloc: Global,
@@ -145,7 +162,10 @@ pub extern "C" fn constriction_bench_chain_encode_u16u32p12_flat(
     encode_out(coder_back(alloc, remainders), symbols, &flat, out)
 }
 
-/// Decodes as many symbols as there is room for, by a table with the symbol of each quantile.
+/// Fills `symbols` with symbols decoded from `words`, with a table that lists the symbol of each quantile.
+///
+/// `words` are in binary form. Copies the remainders to `out`, as many words as fit. Returns the total number of words,
+/// or 0 after a failure.
 #[unsafe(no_mangle)]
 pub extern "C" fn constriction_bench_chain_decode_u16u32p12_lookup(
     alloc: Global,

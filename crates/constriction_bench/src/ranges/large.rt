@@ -1,4 +1,4 @@
-//! Cases of the range coder at words of 32 bits, states of 64 bits and a precision of 24 bits.
+//! Cases of the range coder with words of 32 bits, states of 64 bits and a precision of 24 bits.
 
 use crate::bucket::BucketTable;
 use crate::flat::Flat;
@@ -6,7 +6,9 @@ use crate::ranges::{decode_range_in, encode_range_out};
 use constriction_base::weights::WeightTable;
 use std::alloc::Global;
 
-/// Encodes symbols by a table of weights.
+/// Encodes symbols in order, with a table of weights.
+///
+/// Copies the words to `out`, as many as fit. Returns the total number of words, or 0 after a failure.
 #[unsafe(no_mangle)]
 pub extern "C" fn constriction_bench_range_encode_u32u64p24_table(
     alloc: Global,
@@ -20,7 +22,7 @@ pub extern "C" fn constriction_bench_range_encode_u32u64p24_table(
     encode_range_out::<u32, u64, _, 24>(alloc, symbols, &table, out)
 }
 
-/// Decodes as many symbols as there is room for, by a table of weights.
+/// Fills `symbols` with symbols decoded from `words`, with a table of weights. Returns `false` after a failure.
 #[unsafe(no_mangle)]
 pub extern "C" fn constriction_bench_range_decode_u32u64p24_table(
     alloc: Global,
@@ -34,7 +36,9 @@ pub extern "C" fn constriction_bench_range_decode_u32u64p24_table(
     decode_range_in::<u32, u64, _, 24>(alloc, words, symbols, &table)
 }
 
-/// Encodes symbols below `2^bits` by equal weights.
+/// Encodes symbols below `2^bits` in order, with equal weights.
+///
+/// Copies the words to `out`, as many as fit. Returns the total number of words, or 0 after a failure.
 #[unsafe(no_mangle)]
 pub extern "C" fn constriction_bench_range_encode_u32u64p24_flat(
     alloc: Global,
@@ -48,7 +52,9 @@ pub extern "C" fn constriction_bench_range_encode_u32u64p24_flat(
     encode_range_out::<u32, u64, _, 24>(alloc, symbols, &flat, out)
 }
 
-/// Decodes as many symbols below `2^bits` as there is room for, by equal weights.
+/// Fills `symbols` with symbols below `2^bits`, decoded from `words` with equal weights.
+///
+/// Returns `false` after a failure.
 #[unsafe(no_mangle)]
 pub extern "C" fn constriction_bench_range_decode_u32u64p24_flat(
     alloc: Global,
@@ -62,7 +68,9 @@ pub extern "C" fn constriction_bench_range_decode_u32u64p24_flat(
     decode_range_in::<u32, u64, _, 24>(alloc, words, symbols, &flat)
 }
 
-/// Decodes as many symbols as there is room for, by a table with a symbol for each part of the quantiles.
+/// Fills `symbols` with symbols decoded from `words`, with a table that lists a symbol for each part of the quantiles.
+///
+/// Returns `false` after a failure.
 #[unsafe(no_mangle)]
 pub extern "C" fn constriction_bench_range_decode_u32u64p24_bucket(
     alloc: Global,

@@ -1,5 +1,5 @@
 // Written by tools/sizes from large.rt.
-//! Cases of the range coder at words of 16 bits, states of 32 bits and a precision of 12 bits.
+//! Cases of the range coder with words of 16 bits, states of 32 bits and a precision of 12 bits.
 
 use crate::flat::Flat;
 use crate::lookup::LookupTable;
@@ -7,7 +7,9 @@ use crate::ranges::{decode_range_in, encode_range_out};
 use constriction_base::weights::WeightTable;
 use std::alloc::Global;
 
-/// Encodes symbols by a table of weights.
+/// Encodes symbols in order, with a table of weights.
+///
+/// Copies the words to `out`, as many as fit. Returns the total number of words, or 0 after a failure.
 #[unsafe(no_mangle)]
 pub extern "C" fn constriction_bench_range_encode_u16u32p12_table(
     alloc: Global,
@@ -21,7 +23,7 @@ pub extern "C" fn constriction_bench_range_encode_u16u32p12_table(
     encode_range_out::<u16, u32, _, 12>(alloc, symbols, &table, out)
 }
 
-/// Decodes as many symbols as there is room for, by a table of weights.
+/// Fills `symbols` with symbols decoded from `words`, with a table of weights. Returns `false` after a failure.
 #[unsafe(no_mangle)]
 pub extern "C" fn constriction_bench_range_decode_u16u32p12_table(
     alloc: Global,
@@ -35,7 +37,9 @@ pub extern "C" fn constriction_bench_range_decode_u16u32p12_table(
     decode_range_in::<u16, u32, _, 12>(alloc, words, symbols, &table)
 }
 
-/// Encodes symbols below `2^bits` by equal weights.
+/// Encodes symbols below `2^bits` in order, with equal weights.
+///
+/// Copies the words to `out`, as many as fit. Returns the total number of words, or 0 after a failure.
 #[unsafe(no_mangle)]
 pub extern "C" fn constriction_bench_range_encode_u16u32p12_flat(
     alloc: Global,
@@ -49,7 +53,9 @@ pub extern "C" fn constriction_bench_range_encode_u16u32p12_flat(
     encode_range_out::<u16, u32, _, 12>(alloc, symbols, &flat, out)
 }
 
-/// Decodes as many symbols below `2^bits` as there is room for, by equal weights.
+/// Fills `symbols` with symbols below `2^bits`, decoded from `words` with equal weights.
+///
+/// Returns `false` after a failure.
 #[unsafe(no_mangle)]
 pub extern "C" fn constriction_bench_range_decode_u16u32p12_flat(
     alloc: Global,
@@ -63,7 +69,9 @@ pub extern "C" fn constriction_bench_range_decode_u16u32p12_flat(
     decode_range_in::<u16, u32, _, 12>(alloc, words, symbols, &flat)
 }
 
-/// Decodes as many symbols as there is room for, by a table with the symbol of each quantile.
+/// Fills `symbols` with symbols decoded from `words`, with a table that lists the symbol of each quantile.
+///
+/// Returns `false` after a failure.
 #[unsafe(no_mangle)]
 pub extern "C" fn constriction_bench_range_decode_u16u32p12_lookup(
     alloc: Global,

@@ -22,6 +22,8 @@ use constriction_inputs::models::{Families, Mixtures, Rows, Weights};
 use std::alloc::Global;
 
 /// Encodes symbols from the last to the first, with one table of weights for all symbols.
+///
+/// Calls [`encode_reverse`] and returns the code of its result ([`code_of`]).
 #[unsafe(no_mangle)]
 pub extern "C" fn constriction_ans_encode_reverse_u32(
     alloc: Global,
@@ -41,6 +43,8 @@ pub extern "C" fn constriction_ans_encode_reverse_u32(
 }
 
 /// Encodes symbols from the last to the first, with a row of `width` weights for each symbol.
+///
+/// Calls [`encode_reverse`] and returns the code of its result ([`code_of`]).
 #[unsafe(no_mangle)]
 pub extern "C" fn constriction_ans_encode_each_reverse_u32(
     alloc: Global,
@@ -61,6 +65,8 @@ pub extern "C" fn constriction_ans_encode_each_reverse_u32(
 }
 
 /// Encodes intervals from the last to the first. Interval `i` begins at `lefts[i]`, and its length is `ps[i]`.
+///
+/// Calls [`encode_intervals_reverse`] and returns the code of its result ([`code_of`]).
 #[unsafe(no_mangle)]
 pub extern "C" fn constriction_ans_encode_intervals_reverse_u32(
     alloc: Global,
@@ -79,6 +85,8 @@ pub extern "C" fn constriction_ans_encode_intervals_reverse_u32(
 }
 
 /// Encodes symbols from the last to the first, each under the model of its own location and scale ([`Families`]).
+///
+/// Calls [`encode_reverse`] and returns the code of its result ([`code_of`]).
 #[unsafe(no_mangle)]
 pub extern "C" fn constriction_ans_encode_quantized_reverse_u32(
     alloc: Global,
@@ -102,6 +110,8 @@ pub extern "C" fn constriction_ans_encode_quantized_reverse_u32(
 }
 
 /// Encodes symbols from the last to the first, each under its own mixture of a family's distributions ([`Mixtures`]).
+///
+/// Calls [`encode_reverse`] and returns the code of its result ([`code_of`]).
 #[unsafe(no_mangle)]
 pub extern "C" fn constriction_ans_encode_mixture_reverse_u32(
     alloc: Global,
@@ -129,6 +139,8 @@ pub extern "C" fn constriction_ans_encode_mixture_reverse_u32(
 }
 
 /// Decodes symbols with one table of weights for all symbols.
+///
+/// Calls [`decode`] and returns the code of its result ([`code_of`]).
 #[unsafe(no_mangle)]
 pub extern "C" fn constriction_ans_decode_u32(
     alloc: Global,
@@ -146,6 +158,8 @@ pub extern "C" fn constriction_ans_decode_u32(
 }
 
 /// Decodes symbols with a row of `width` weights for each symbol.
+///
+/// Calls [`decode`] and returns the code of its result ([`code_of`]).
 #[unsafe(no_mangle)]
 pub extern "C" fn constriction_ans_decode_each_u32(
     alloc: Global,
@@ -164,6 +178,8 @@ pub extern "C" fn constriction_ans_decode_each_u32(
 }
 
 /// Decodes symbols, each under the model of its own location and scale ([`Families`]).
+///
+/// Calls [`decode`] and returns the code of its result ([`code_of`]).
 #[unsafe(no_mangle)]
 pub extern "C" fn constriction_ans_decode_quantized_u32(
     alloc: Global,
@@ -185,6 +201,8 @@ pub extern "C" fn constriction_ans_decode_quantized_u32(
 }
 
 /// Decodes symbols, each under its own mixture of a family's distributions ([`Mixtures`]).
+///
+/// Calls [`decode`] and returns the code of its result ([`code_of`]).
 #[unsafe(no_mangle)]
 pub extern "C" fn constriction_ans_decode_mixture_u32(
     alloc: Global,
@@ -211,6 +229,8 @@ pub extern "C" fn constriction_ans_decode_mixture_u32(
 }
 
 /// Imports the state that `constriction_ans_into_compressed_u32` exports as `words`.
+///
+/// Calls [`from_compressed`] and returns the code of its result ([`code_of`]).
 #[unsafe(no_mangle)]
 pub extern "C" fn constriction_ans_from_compressed_u32(
     words: &[u32],
@@ -224,6 +244,8 @@ pub extern "C" fn constriction_ans_from_compressed_u32(
 }
 
 /// Imports the state whose binary form is `words`. Every list of words is the binary form of a state.
+///
+/// Calls [`from_binary`], which always succeeds, and returns 0.
 #[unsafe(no_mangle)]
 pub extern "C" fn constriction_ans_from_binary_u32(
     words: &[u32],
@@ -238,6 +260,8 @@ pub extern "C" fn constriction_ans_from_binary_u32(
 }
 
 /// Exports the state: writes the words of its head, without leading zero words, after the first `len` words.
+///
+/// Calls [`into_compressed`] and returns the code of its result ([`code_of`]).
 #[unsafe(no_mangle)]
 pub extern "C" fn constriction_ans_into_compressed_u32(
     alloc: Global,
@@ -253,6 +277,8 @@ pub extern "C" fn constriction_ans_into_compressed_u32(
 }
 
 /// Exports the binary form: writes the bits of the head below its leading 1 after the first `len` words of `words`.
+///
+/// Calls [`into_binary`] and returns the code of its result ([`code_of`]).
 #[unsafe(no_mangle)]
 pub extern "C" fn constriction_ans_into_binary_u32(
     alloc: Global,

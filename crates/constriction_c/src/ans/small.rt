@@ -23,6 +23,8 @@ use constriction_inputs::models::{Families, Mixtures, Rows, Weights};
 use std::alloc::Global;
 
 /// Encodes symbols from the last to the first, with one table of weights for all symbols.
+///
+/// Calls [`encode_reverse`] and returns the code of its result ([`code_of`]).
 #[unsafe(no_mangle)]
 pub extern "C" fn constriction_ans_encode_reverse_u16(
     alloc: Global,
@@ -42,6 +44,8 @@ pub extern "C" fn constriction_ans_encode_reverse_u16(
 }
 
 /// Encodes symbols from the last to the first, with a row of `width` weights for each symbol.
+///
+/// Calls [`encode_reverse`] and returns the code of its result ([`code_of`]).
 #[unsafe(no_mangle)]
 pub extern "C" fn constriction_ans_encode_each_reverse_u16(
     alloc: Global,
@@ -62,6 +66,8 @@ pub extern "C" fn constriction_ans_encode_each_reverse_u16(
 }
 
 /// Encodes intervals from the last to the first. Interval `i` begins at `lefts[i]`, and its length is `ps[i]`.
+///
+/// Calls [`encode_intervals_reverse`] and returns the code of its result ([`code_of`]).
 #[unsafe(no_mangle)]
 pub extern "C" fn constriction_ans_encode_intervals_reverse_u16(
     alloc: Global,
@@ -80,6 +86,8 @@ pub extern "C" fn constriction_ans_encode_intervals_reverse_u16(
 }
 
 /// Encodes symbols from the last to the first, each under the model of its own location and scale ([`Families`]).
+///
+/// Calls [`encode_reverse`] and returns the code of its result ([`code_of`]).
 #[unsafe(no_mangle)]
 pub extern "C" fn constriction_ans_encode_quantized_reverse_u16(
     alloc: Global,
@@ -103,6 +111,8 @@ pub extern "C" fn constriction_ans_encode_quantized_reverse_u16(
 }
 
 /// Encodes symbols from the last to the first, each under its own mixture of a family's distributions ([`Mixtures`]).
+///
+/// Calls [`encode_reverse`] and returns the code of its result ([`code_of`]).
 #[unsafe(no_mangle)]
 pub extern "C" fn constriction_ans_encode_mixture_reverse_u16(
     alloc: Global,
@@ -130,6 +140,8 @@ pub extern "C" fn constriction_ans_encode_mixture_reverse_u16(
 }
 
 /// Decodes symbols with one table of weights for all symbols.
+///
+/// Calls [`decode`] and returns the code of its result ([`code_of`]).
 #[unsafe(no_mangle)]
 pub extern "C" fn constriction_ans_decode_u16(
     alloc: Global,
@@ -147,6 +159,8 @@ pub extern "C" fn constriction_ans_decode_u16(
 }
 
 /// Decodes symbols with a row of `width` weights for each symbol.
+///
+/// Calls [`decode`] and returns the code of its result ([`code_of`]).
 #[unsafe(no_mangle)]
 pub extern "C" fn constriction_ans_decode_each_u16(
     alloc: Global,
@@ -165,6 +179,8 @@ pub extern "C" fn constriction_ans_decode_each_u16(
 }
 
 /// Decodes symbols, each under the model of its own location and scale ([`Families`]).
+///
+/// Calls [`decode`] and returns the code of its result ([`code_of`]).
 #[unsafe(no_mangle)]
 pub extern "C" fn constriction_ans_decode_quantized_u16(
     alloc: Global,
@@ -186,6 +202,8 @@ pub extern "C" fn constriction_ans_decode_quantized_u16(
 }
 
 /// Decodes symbols, each under its own mixture of a family's distributions ([`Mixtures`]).
+///
+/// Calls [`decode`] and returns the code of its result ([`code_of`]).
 #[unsafe(no_mangle)]
 pub extern "C" fn constriction_ans_decode_mixture_u16(
     alloc: Global,
@@ -212,6 +230,8 @@ pub extern "C" fn constriction_ans_decode_mixture_u16(
 }
 
 /// Imports the state that `constriction_ans_into_compressed_u16` exports as `words`.
+///
+/// Calls [`from_compressed`] and returns the code of its result ([`code_of`]).
 #[unsafe(no_mangle)]
 pub extern "C" fn constriction_ans_from_compressed_u16(
     words: &[u16],
@@ -225,6 +245,8 @@ pub extern "C" fn constriction_ans_from_compressed_u16(
 }
 
 /// Imports the state whose binary form is `words`. Every list of words is the binary form of a state.
+///
+/// Calls [`from_binary`], which always succeeds, and returns 0.
 #[unsafe(no_mangle)]
 pub extern "C" fn constriction_ans_from_binary_u16(
     words: &[u16],
@@ -239,6 +261,8 @@ pub extern "C" fn constriction_ans_from_binary_u16(
 }
 
 /// Exports the state: writes the words of its head, without leading zero words, after the first `len` words.
+///
+/// Calls [`into_compressed`] and returns the code of its result ([`code_of`]).
 #[unsafe(no_mangle)]
 pub extern "C" fn constriction_ans_into_compressed_u16(
     alloc: Global,
@@ -254,6 +278,8 @@ pub extern "C" fn constriction_ans_into_compressed_u16(
 }
 
 /// Exports the binary form: writes the bits of the head below its leading 1 after the first `len` words of `words`.
+///
+/// Calls [`into_binary`] and returns the code of its result ([`code_of`]).
 #[unsafe(no_mangle)]
 pub extern "C" fn constriction_ans_into_binary_u16(
     alloc: Global,

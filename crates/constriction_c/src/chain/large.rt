@@ -1,4 +1,4 @@
-//! The chain coder with 32-bit words, 64-bit and 32-bit heads and a precision of 24 bits.
+//! The chain coder with 32-bit words, a 64-bit remainders head, a 32-bit compressed head and a precision of 24 bits.
 
 ghost use Rattle.std.specs.Prelude.{◌≡◌, map};
 ghost use Rattle.constriction_c.specs.Large.{LargeChainBegins, LargeChainEnds, LargeChainPuts, LargeChainTakes};
@@ -28,7 +28,7 @@ pub struct ChainHeadsU32 {
 }
 
 impl ChainHeadsU32 {
-    /// Returns the heads as a value of the type that the calls of `constriction_calls` take.
+    /// Returns the heads as the type that the calls of `constriction_calls` take.
     #[inline]
     pub fn parts(&self) -> ChainHeads<u32, u64>
         ensures { result ≡ large_heads self.now }
@@ -39,7 +39,7 @@ impl ChainHeadsU32 {
         }
     }
 
-    /// Makes the struct from the heads that a call of `constriction_calls` sets.
+    /// Makes the struct from `heads`, which a call of `constriction_calls` has set.
     #[inline]
     pub fn of(heads: ChainHeads<u32, u64>) -> Self
         ensures { result ≡ record { remainders = heads.remainders; compressed = heads.compressed } }
@@ -52,6 +52,8 @@ impl ChainHeadsU32 {
 }
 
 /// Decodes symbols with one table of weights for all symbols.
+///
+/// Calls [`decode`] and returns the code of its result ([`code_of`]).
 #[unsafe(no_mangle)]
 pub extern "C" fn constriction_chain_decode_u32(
     alloc: Global,
@@ -78,6 +80,8 @@ pub extern "C" fn constriction_chain_decode_u32(
 }
 
 /// Decodes symbols with a row of `width` weights for each symbol.
+///
+/// Calls [`decode`] and returns the code of its result ([`code_of`]).
 #[unsafe(no_mangle)]
 pub extern "C" fn constriction_chain_decode_each_u32(
     alloc: Global,
@@ -105,6 +109,8 @@ pub extern "C" fn constriction_chain_decode_each_u32(
 }
 
 /// Decodes symbols, each under the model of its own location and scale ([`Families`]).
+///
+/// Calls [`decode`] and returns the code of its result ([`code_of`]).
 #[unsafe(no_mangle)]
 pub extern "C" fn constriction_chain_decode_quantized_u32(
     alloc: Global,
@@ -135,6 +141,8 @@ pub extern "C" fn constriction_chain_decode_quantized_u32(
 }
 
 /// Decodes symbols, each under its own mixture of a family's distributions ([`Mixtures`]).
+///
+/// Calls [`decode`] and returns the code of its result ([`code_of`]).
 #[unsafe(no_mangle)]
 pub extern "C" fn constriction_chain_decode_mixture_u32(
     alloc: Global,
@@ -169,6 +177,8 @@ pub extern "C" fn constriction_chain_decode_mixture_u32(
 }
 
 /// Encodes symbols from the last to the first, with one table of weights for all symbols.
+///
+/// Calls [`encode_reverse`] and returns the code of its result ([`code_of`]).
 #[unsafe(no_mangle)]
 pub extern "C" fn constriction_chain_encode_reverse_u32(
     alloc: Global,
@@ -195,6 +205,8 @@ pub extern "C" fn constriction_chain_encode_reverse_u32(
 }
 
 /// Encodes symbols from the last to the first, with a row of `width` weights for each symbol.
+///
+/// Calls [`encode_reverse`] and returns the code of its result ([`code_of`]).
 #[unsafe(no_mangle)]
 pub extern "C" fn constriction_chain_encode_each_reverse_u32(
     alloc: Global,
@@ -222,6 +234,8 @@ pub extern "C" fn constriction_chain_encode_each_reverse_u32(
 }
 
 /// Encodes symbols from the last to the first, each under the model of its own location and scale ([`Families`]).
+///
+/// Calls [`encode_reverse`] and returns the code of its result ([`code_of`]).
 #[unsafe(no_mangle)]
 pub extern "C" fn constriction_chain_encode_quantized_reverse_u32(
     alloc: Global,
@@ -252,6 +266,8 @@ pub extern "C" fn constriction_chain_encode_quantized_reverse_u32(
 }
 
 /// Encodes symbols from the last to the first, each under its own mixture of a family's distributions ([`Mixtures`]).
+///
+/// Calls [`encode_reverse`] and returns the code of its result ([`code_of`]).
 #[unsafe(no_mangle)]
 pub extern "C" fn constriction_chain_encode_mixture_reverse_u32(
     alloc: Global,
@@ -286,6 +302,8 @@ pub extern "C" fn constriction_chain_encode_mixture_reverse_u32(
 }
 
 /// Encodes intervals from the last to the first. Interval `i` begins at `lefts[i]`, and its length is `ps[i]`.
+///
+/// Calls [`encode_intervals_reverse`] and returns the code of its result ([`code_of`]).
 #[unsafe(no_mangle)]
 pub extern "C" fn constriction_chain_encode_intervals_reverse_u32(
     alloc: Global,
@@ -311,6 +329,8 @@ pub extern "C" fn constriction_chain_encode_intervals_reverse_u32(
 }
 
 /// Imports a coder from compressed words. The coder has no words of remainders below its heads.
+///
+/// Calls [`from_compressed`] and returns the code of its result ([`code_of`]).
 #[unsafe(no_mangle)]
 pub extern "C" fn constriction_chain_from_compressed_u32(
     alloc: Global,
@@ -328,6 +348,8 @@ pub extern "C" fn constriction_chain_from_compressed_u32(
 }
 
 /// Imports a coder from compressed words in binary form. The coder has no words of remainders below its heads.
+///
+/// Calls [`from_binary`] and returns the code of its result ([`code_of`]).
 #[unsafe(no_mangle)]
 pub extern "C" fn constriction_chain_from_binary_u32(
     alloc: Global,
@@ -344,6 +366,8 @@ pub extern "C" fn constriction_chain_from_binary_u32(
 }
 
 /// Imports a coder from the words of remainders. The coder has no compressed words below its heads.
+///
+/// Calls [`from_remainders`] and returns the code of its result ([`code_of`]).
 #[unsafe(no_mangle)]
 pub extern "C" fn constriction_chain_from_remainders_u32(
     alloc: Global,
@@ -359,7 +383,9 @@ pub extern "C" fn constriction_chain_from_remainders_u32(
     code_without_space(answer)
 }
 
-/// Exports compressed words: writes the words of the remainders head after the compressed words in use.
+/// Exports compressed words: writes the words of the remainders head after the first `count` words of `compressed`.
+///
+/// Calls [`into_compressed`] and returns the code of its result ([`code_of`]).
 #[unsafe(no_mangle)]
 pub extern "C" fn constriction_chain_into_compressed_u32(
     alloc: Global,
@@ -375,7 +401,9 @@ pub extern "C" fn constriction_chain_into_compressed_u32(
     code_of(answer, needed)
 }
 
-/// Exports the binary form: appends to the compressed words the remainders head's bits below its leading 1.
+/// Exports the binary form: appends the remainders head's bits below its leading 1 to the compressed words.
+///
+/// Calls [`into_binary`] and returns the code of its result ([`code_of`]).
 #[unsafe(no_mangle)]
 pub extern "C" fn constriction_chain_into_binary_u32(
     alloc: Global,
@@ -391,7 +419,9 @@ pub extern "C" fn constriction_chain_into_binary_u32(
     code_of(answer, needed)
 }
 
-/// Exports remainders: writes the words of both heads after the remainders in use.
+/// Exports remainders: writes the words of both heads after the first `rest` words of `remainders`.
+///
+/// Calls [`into_remainders`] and returns the code of its result ([`code_of`]).
 #[unsafe(no_mangle)]
 pub extern "C" fn constriction_chain_into_remainders_u32(
     alloc: Global,

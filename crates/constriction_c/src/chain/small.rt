@@ -1,5 +1,5 @@
 // Written by tools/sizes from large.rt.
-//! The chain coder with 16-bit words, 32-bit and 16-bit heads and a precision of 12 bits.
+//! The chain coder with 16-bit words, a 32-bit remainders head, a 16-bit compressed head and a precision of 12 bits.
 
 ghost use Rattle.std.specs.Prelude.{◌≡◌, map};
 ghost use Rattle.constriction_c.specs.Small.{SmallChainBegins, SmallChainEnds, SmallChainPuts, SmallChainTakes};
@@ -29,7 +29,7 @@ pub struct ChainHeadsU16 {
 }
 
 impl ChainHeadsU16 {
-    /// Returns the heads as a value of the type that the calls of `constriction_calls` take.
+    /// Returns the heads as the type that the calls of `constriction_calls` take.
     #[inline]
     pub fn parts(&self) -> ChainHeads<u16, u32>
         ensures { result ≡ small_heads self.now }
@@ -40,7 +40,7 @@ impl ChainHeadsU16 {
         }
     }
 
-    /// Makes the struct from the heads that a call of `constriction_calls` sets.
+    /// Makes the struct from `heads`, which a call of `constriction_calls` has set.
     #[inline]
     pub fn of(heads: ChainHeads<u16, u32>) -> Self
         ensures { result ≡ record { remainders = heads.remainders; compressed = heads.compressed } }
@@ -53,6 +53,8 @@ impl ChainHeadsU16 {
 }
 
 /// Decodes symbols with one table of weights for all symbols.
+///
+/// Calls [`decode`] and returns the code of its result ([`code_of`]).
 #[unsafe(no_mangle)]
 pub extern "C" fn constriction_chain_decode_u16(
     alloc: Global,
@@ -79,6 +81,8 @@ pub extern "C" fn constriction_chain_decode_u16(
 }
 
 /// Decodes symbols with a row of `width` weights for each symbol.
+///
+/// Calls [`decode`] and returns the code of its result ([`code_of`]).
 #[unsafe(no_mangle)]
 pub extern "C" fn constriction_chain_decode_each_u16(
     alloc: Global,
@@ -106,6 +110,8 @@ pub extern "C" fn constriction_chain_decode_each_u16(
 }
 
 /// Decodes symbols, each under the model of its own location and scale ([`Families`]).
+///
+/// Calls [`decode`] and returns the code of its result ([`code_of`]).
 #[unsafe(no_mangle)]
 pub extern "C" fn constriction_chain_decode_quantized_u16(
     alloc: Global,
@@ -136,6 +142,8 @@ pub extern "C" fn constriction_chain_decode_quantized_u16(
 }
 
 /// Decodes symbols, each under its own mixture of a family's distributions ([`Mixtures`]).
+///
+/// Calls [`decode`] and returns the code of its result ([`code_of`]).
 #[unsafe(no_mangle)]
 pub extern "C" fn constriction_chain_decode_mixture_u16(
     alloc: Global,
@@ -170,6 +178,8 @@ pub extern "C" fn constriction_chain_decode_mixture_u16(
 }
 
 /// Encodes symbols from the last to the first, with one table of weights for all symbols.
+///
+/// Calls [`encode_reverse`] and returns the code of its result ([`code_of`]).
 #[unsafe(no_mangle)]
 pub extern "C" fn constriction_chain_encode_reverse_u16(
     alloc: Global,
@@ -196,6 +206,8 @@ pub extern "C" fn constriction_chain_encode_reverse_u16(
 }
 
 /// Encodes symbols from the last to the first, with a row of `width` weights for each symbol.
+///
+/// Calls [`encode_reverse`] and returns the code of its result ([`code_of`]).
 #[unsafe(no_mangle)]
 pub extern "C" fn constriction_chain_encode_each_reverse_u16(
     alloc: Global,
@@ -223,6 +235,8 @@ pub extern "C" fn constriction_chain_encode_each_reverse_u16(
 }
 
 /// Encodes symbols from the last to the first, each under the model of its own location and scale ([`Families`]).
+///
+/// Calls [`encode_reverse`] and returns the code of its result ([`code_of`]).
 #[unsafe(no_mangle)]
 pub extern "C" fn constriction_chain_encode_quantized_reverse_u16(
     alloc: Global,
@@ -253,6 +267,8 @@ pub extern "C" fn constriction_chain_encode_quantized_reverse_u16(
 }
 
 /// Encodes symbols from the last to the first, each under its own mixture of a family's distributions ([`Mixtures`]).
+///
+/// Calls [`encode_reverse`] and returns the code of its result ([`code_of`]).
 #[unsafe(no_mangle)]
 pub extern "C" fn constriction_chain_encode_mixture_reverse_u16(
     alloc: Global,
@@ -287,6 +303,8 @@ pub extern "C" fn constriction_chain_encode_mixture_reverse_u16(
 }
 
 /// Encodes intervals from the last to the first. Interval `i` begins at `lefts[i]`, and its length is `ps[i]`.
+///
+/// Calls [`encode_intervals_reverse`] and returns the code of its result ([`code_of`]).
 #[unsafe(no_mangle)]
 pub extern "C" fn constriction_chain_encode_intervals_reverse_u16(
     alloc: Global,
@@ -312,6 +330,8 @@ pub extern "C" fn constriction_chain_encode_intervals_reverse_u16(
 }
 
 /// Imports a coder from compressed words. The coder has no words of remainders below its heads.
+///
+/// Calls [`from_compressed`] and returns the code of its result ([`code_of`]).
 #[unsafe(no_mangle)]
 pub extern "C" fn constriction_chain_from_compressed_u16(
     alloc: Global,
@@ -329,6 +349,8 @@ pub extern "C" fn constriction_chain_from_compressed_u16(
 }
 
 /// Imports a coder from compressed words in binary form. The coder has no words of remainders below its heads.
+///
+/// Calls [`from_binary`] and returns the code of its result ([`code_of`]).
 #[unsafe(no_mangle)]
 pub extern "C" fn constriction_chain_from_binary_u16(
     alloc: Global,
@@ -345,6 +367,8 @@ pub extern "C" fn constriction_chain_from_binary_u16(
 }
 
 /// Imports a coder from the words of remainders. The coder has no compressed words below its heads.
+///
+/// Calls [`from_remainders`] and returns the code of its result ([`code_of`]).
 #[unsafe(no_mangle)]
 pub extern "C" fn constriction_chain_from_remainders_u16(
     alloc: Global,
@@ -360,7 +384,9 @@ pub extern "C" fn constriction_chain_from_remainders_u16(
     code_without_space(answer)
 }
 
-/// Exports compressed words: writes the words of the remainders head after the compressed words in use.
+/// Exports compressed words: writes the words of the remainders head after the first `count` words of `compressed`.
+///
+/// Calls [`into_compressed`] and returns the code of its result ([`code_of`]).
 #[unsafe(no_mangle)]
 pub extern "C" fn constriction_chain_into_compressed_u16(
     alloc: Global,
@@ -376,7 +402,9 @@ pub extern "C" fn constriction_chain_into_compressed_u16(
     code_of(answer, needed)
 }
 
-/// Exports the binary form: appends to the compressed words the remainders head's bits below its leading 1.
+/// Exports the binary form: appends the remainders head's bits below its leading 1 to the compressed words.
+///
+/// Calls [`into_binary`] and returns the code of its result ([`code_of`]).
 #[unsafe(no_mangle)]
 pub extern "C" fn constriction_chain_into_binary_u16(
     alloc: Global,
@@ -392,7 +420,9 @@ pub extern "C" fn constriction_chain_into_binary_u16(
     code_of(answer, needed)
 }
 
-/// Exports remainders: writes the words of both heads after the remainders in use.
+/// Exports remainders: writes the words of both heads after the first `rest` words of `remainders`.
+///
+/// Calls [`into_remainders`] and returns the code of its result ([`code_of`]).
 #[unsafe(no_mangle)]
 pub extern "C" fn constriction_chain_into_remainders_u16(
     alloc: Global,

@@ -42,7 +42,7 @@ pub struct RangeDecoderU32 {
 }
 
 impl RangeEncoderU32 {
-    /// Returns the numbers that the calls take.
+    /// Returns the encoder as the type that the calls of `constriction_calls` take.
     #[inline]
     fn parts(&self) -> EncoderParts<u32, u64>
         ensures { result ≡ large_encoder self.now }
@@ -55,7 +55,7 @@ impl RangeEncoderU32 {
         }
     }
 
-    /// Makes the encoder of these numbers.
+    /// Makes the struct from `parts`, which a call of `constriction_calls` has set.
     #[inline]
     fn of(parts: EncoderParts<u32, u64>) -> Self
         ensures { large_encoder result ≡ parts }
@@ -70,7 +70,7 @@ impl RangeEncoderU32 {
 }
 
 impl RangeDecoderU32 {
-    /// Returns the numbers that the calls take.
+    /// Returns the decoder as the type that the calls of `constriction_calls` take.
     #[inline]
     fn parts(&self) -> DecoderParts<u64>
         ensures { result ≡ large_decoder self.now }
@@ -83,7 +83,7 @@ impl RangeDecoderU32 {
         }
     }
 
-    /// Makes the decoder of these numbers.
+    /// Makes the struct from `parts`, which a call of `constriction_calls` has set or returned.
     #[inline]
     fn of(parts: DecoderParts<u64>) -> Self
         ensures { large_decoder result ≡ parts }
@@ -97,7 +97,9 @@ impl RangeDecoderU32 {
     }
 }
 
-/// Sets `encoder` to an encoder that starts from the initial interval, and so has encoded no symbols.
+/// Sets `encoder` to a new encoder, which has encoded no symbols.
+///
+/// Returns 0.
 #[unsafe(no_mangle)]
 pub extern "C" fn constriction_range_encoder_u32(encoder: &mut RangeEncoderU32) -> u32
     ensures done { result ≡ 0 }
@@ -113,6 +115,8 @@ pub extern "C" fn constriction_range_encoder_u32(encoder: &mut RangeEncoderU32) 
 }
 
 /// Encodes symbols in order, with one table of weights for all symbols.
+///
+/// Calls [`encode`] and returns the code of its result ([`code_of`]).
 #[unsafe(no_mangle)]
 pub extern "C" fn constriction_range_encode_u32(
     alloc: Global,
@@ -134,6 +138,8 @@ pub extern "C" fn constriction_range_encode_u32(
 }
 
 /// Encodes symbols in order, with a row of `width` weights for each symbol.
+///
+/// Calls [`encode`] and returns the code of its result ([`code_of`]).
 #[unsafe(no_mangle)]
 pub extern "C" fn constriction_range_encode_each_u32(
     alloc: Global,
@@ -156,6 +162,8 @@ pub extern "C" fn constriction_range_encode_each_u32(
 }
 
 /// Encodes intervals in order. Interval `i` begins at `lefts[i]`, and its length is `ps[i]`.
+///
+/// Calls [`encode_intervals`] and returns the code of its result ([`code_of`]).
 #[unsafe(no_mangle)]
 pub extern "C" fn constriction_range_encode_intervals_u32(
     alloc: Global,
@@ -176,6 +184,8 @@ pub extern "C" fn constriction_range_encode_intervals_u32(
 }
 
 /// Encodes symbols in order, each under the model of its own location and scale ([`Families`]).
+///
+/// Calls [`encode`] and returns the code of its result ([`code_of`]).
 #[unsafe(no_mangle)]
 pub extern "C" fn constriction_range_encode_quantized_u32(
     alloc: Global,
@@ -201,6 +211,8 @@ pub extern "C" fn constriction_range_encode_quantized_u32(
 }
 
 /// Encodes symbols in order, each under its own mixture of a family's distributions ([`Mixtures`]).
+///
+/// Calls [`encode`] and returns the code of its result ([`code_of`]).
 #[unsafe(no_mangle)]
 pub extern "C" fn constriction_range_encode_mixture_u32(
     alloc: Global,
@@ -230,6 +242,8 @@ pub extern "C" fn constriction_range_encode_mixture_u32(
 }
 
 /// Writes the words that the encoder holds back, and a seal, after the first `len` words of `words`.
+///
+/// Calls [`into_compressed`] and returns the code of its result ([`code_of`]).
 #[unsafe(no_mangle)]
 pub extern "C" fn constriction_range_into_compressed_u32(
     alloc: Global,
@@ -246,7 +260,9 @@ pub extern "C" fn constriction_range_into_compressed_u32(
 
 /// Writes the words that the encoder holds back, and a self-delimiting seal, after the first `len` words of `words`.
 ///
-/// A state is two words wide, so the function writes the same words as `constriction_range_into_compressed_u32`.
+/// A state is two words wide, so this function writes the same words as `constriction_range_into_compressed_u32`.
+///
+/// Calls [`into_self_delimited`] and returns the code of its result ([`code_of`]).
 #[unsafe(no_mangle)]
 pub extern "C" fn constriction_range_into_self_delimited_u32(
     alloc: Global,
@@ -263,6 +279,8 @@ pub extern "C" fn constriction_range_into_self_delimited_u32(
 }
 
 /// Sets `decoder` to a decoder of sealed words, positioned before the first symbol.
+///
+/// Calls [`from_compressed`], which always succeeds, and returns 0.
 #[unsafe(no_mangle)]
 pub extern "C" fn constriction_range_from_compressed_u32(
     words: &[u32],
@@ -276,6 +294,8 @@ pub extern "C" fn constriction_range_from_compressed_u32(
 }
 
 /// Decodes symbols in order, with one table of weights for all symbols.
+///
+/// Calls [`decode`] and returns the code of its result ([`code_of`]).
 #[unsafe(no_mangle)]
 pub extern "C" fn constriction_range_decode_u32(
     alloc: Global,
@@ -295,6 +315,8 @@ pub extern "C" fn constriction_range_decode_u32(
 }
 
 /// Decodes symbols in order, with a row of `width` weights for each symbol.
+///
+/// Calls [`decode`] and returns the code of its result ([`code_of`]).
 #[unsafe(no_mangle)]
 pub extern "C" fn constriction_range_decode_each_u32(
     alloc: Global,
@@ -315,6 +337,8 @@ pub extern "C" fn constriction_range_decode_each_u32(
 }
 
 /// Decodes symbols in order, each under the model of its own location and scale ([`Families`]).
+///
+/// Calls [`decode`] and returns the code of its result ([`code_of`]).
 #[unsafe(no_mangle)]
 pub extern "C" fn constriction_range_decode_quantized_u32(
     alloc: Global,
@@ -338,6 +362,8 @@ pub extern "C" fn constriction_range_decode_quantized_u32(
 }
 
 /// Decodes symbols in order, each under its own mixture of a family's distributions ([`Mixtures`]).
+///
+/// Calls [`decode`] and returns the code of its result ([`code_of`]).
 #[unsafe(no_mangle)]
 pub extern "C" fn constriction_range_decode_mixture_u32(
     alloc: Global,
@@ -366,6 +392,8 @@ pub extern "C" fn constriction_range_decode_mixture_u32(
 }
 
 /// Sets `decoder` to a decoder of `words` at a position that was recorded during encoding.
+///
+/// Calls [`seek`] and returns the code of its result ([`code_of`]).
 #[unsafe(no_mangle)]
 pub extern "C" fn constriction_range_seek_u32(
     decoder: &mut RangeDecoderU32,
@@ -384,6 +412,8 @@ pub extern "C" fn constriction_range_seek_u32(
 }
 
 /// Sets `maybe` to 1 if the encoded symbols may have ended at the decoder's position, and to 0 if not.
+///
+/// Calls [`maybe_exhausted`] and returns the code of its result ([`code_of`]).
 #[unsafe(no_mangle)]
 pub extern "C" fn constriction_range_maybe_exhausted_u32(
     decoder: &RangeDecoderU32,

@@ -43,7 +43,7 @@ pub struct RangeDecoderU16 {
 }
 
 impl RangeEncoderU16 {
-    /// Returns the numbers that the calls take.
+    /// Returns the encoder as the type that the calls of `constriction_calls` take.
     #[inline]
     fn parts(&self) -> EncoderParts<u16, u32>
         ensures { result ≡ small_encoder self.now }
@@ -56,7 +56,7 @@ impl RangeEncoderU16 {
         }
     }
 
-    /// Makes the encoder of these numbers.
+    /// Makes the struct from `parts`, which a call of `constriction_calls` has set.
     #[inline]
     fn of(parts: EncoderParts<u16, u32>) -> Self
         ensures { small_encoder result ≡ parts }
@@ -71,7 +71,7 @@ impl RangeEncoderU16 {
 }
 
 impl RangeDecoderU16 {
-    /// Returns the numbers that the calls take.
+    /// Returns the decoder as the type that the calls of `constriction_calls` take.
     #[inline]
     fn parts(&self) -> DecoderParts<u32>
         ensures { result ≡ small_decoder self.now }
@@ -84,7 +84,7 @@ impl RangeDecoderU16 {
         }
     }
 
-    /// Makes the decoder of these numbers.
+    /// Makes the struct from `parts`, which a call of `constriction_calls` has set or returned.
     #[inline]
     fn of(parts: DecoderParts<u32>) -> Self
         ensures { small_decoder result ≡ parts }
@@ -98,7 +98,9 @@ impl RangeDecoderU16 {
     }
 }
 
-/// Sets `encoder` to an encoder that starts from the initial interval, and so has encoded no symbols.
+/// Sets `encoder` to a new encoder, which has encoded no symbols.
+///
+/// Returns 0.
 #[unsafe(no_mangle)]
 pub extern "C" fn constriction_range_encoder_u16(encoder: &mut RangeEncoderU16) -> u32
     ensures done { result ≡ 0 }
@@ -114,6 +116,8 @@ pub extern "C" fn constriction_range_encoder_u16(encoder: &mut RangeEncoderU16) 
 }
 
 /// Encodes symbols in order, with one table of weights for all symbols.
+///
+/// Calls [`encode`] and returns the code of its result ([`code_of`]).
 #[unsafe(no_mangle)]
 pub extern "C" fn constriction_range_encode_u16(
     alloc: Global,
@@ -135,6 +139,8 @@ pub extern "C" fn constriction_range_encode_u16(
 }
 
 /// Encodes symbols in order, with a row of `width` weights for each symbol.
+///
+/// Calls [`encode`] and returns the code of its result ([`code_of`]).
 #[unsafe(no_mangle)]
 pub extern "C" fn constriction_range_encode_each_u16(
     alloc: Global,
@@ -157,6 +163,8 @@ pub extern "C" fn constriction_range_encode_each_u16(
 }
 
 /// Encodes intervals in order. Interval `i` begins at `lefts[i]`, and its length is `ps[i]`.
+///
+/// Calls [`encode_intervals`] and returns the code of its result ([`code_of`]).
 #[unsafe(no_mangle)]
 pub extern "C" fn constriction_range_encode_intervals_u16(
     alloc: Global,
@@ -177,6 +185,8 @@ pub extern "C" fn constriction_range_encode_intervals_u16(
 }
 
 /// Encodes symbols in order, each under the model of its own location and scale ([`Families`]).
+///
+/// Calls [`encode`] and returns the code of its result ([`code_of`]).
 #[unsafe(no_mangle)]
 pub extern "C" fn constriction_range_encode_quantized_u16(
     alloc: Global,
@@ -202,6 +212,8 @@ pub extern "C" fn constriction_range_encode_quantized_u16(
 }
 
 /// Encodes symbols in order, each under its own mixture of a family's distributions ([`Mixtures`]).
+///
+/// Calls [`encode`] and returns the code of its result ([`code_of`]).
 #[unsafe(no_mangle)]
 pub extern "C" fn constriction_range_encode_mixture_u16(
     alloc: Global,
@@ -231,6 +243,8 @@ pub extern "C" fn constriction_range_encode_mixture_u16(
 }
 
 /// Writes the words that the encoder holds back, and a seal, after the first `len` words of `words`.
+///
+/// Calls [`into_compressed`] and returns the code of its result ([`code_of`]).
 #[unsafe(no_mangle)]
 pub extern "C" fn constriction_range_into_compressed_u16(
     alloc: Global,
@@ -247,7 +261,9 @@ pub extern "C" fn constriction_range_into_compressed_u16(
 
 /// Writes the words that the encoder holds back, and a self-delimiting seal, after the first `len` words of `words`.
 ///
-/// A state is two words wide, so the function writes the same words as `constriction_range_into_compressed_u16`.
+/// A state is two words wide, so this function writes the same words as `constriction_range_into_compressed_u16`.
+///
+/// Calls [`into_self_delimited`] and returns the code of its result ([`code_of`]).
 #[unsafe(no_mangle)]
 pub extern "C" fn constriction_range_into_self_delimited_u16(
     alloc: Global,
@@ -264,6 +280,8 @@ pub extern "C" fn constriction_range_into_self_delimited_u16(
 }
 
 /// Sets `decoder` to a decoder of sealed words, positioned before the first symbol.
+///
+/// Calls [`from_compressed`], which always succeeds, and returns 0.
 #[unsafe(no_mangle)]
 pub extern "C" fn constriction_range_from_compressed_u16(
     words: &[u16],
@@ -277,6 +295,8 @@ pub extern "C" fn constriction_range_from_compressed_u16(
 }
 
 /// Decodes symbols in order, with one table of weights for all symbols.
+///
+/// Calls [`decode`] and returns the code of its result ([`code_of`]).
 #[unsafe(no_mangle)]
 pub extern "C" fn constriction_range_decode_u16(
     alloc: Global,
@@ -296,6 +316,8 @@ pub extern "C" fn constriction_range_decode_u16(
 }
 
 /// Decodes symbols in order, with a row of `width` weights for each symbol.
+///
+/// Calls [`decode`] and returns the code of its result ([`code_of`]).
 #[unsafe(no_mangle)]
 pub extern "C" fn constriction_range_decode_each_u16(
     alloc: Global,
@@ -316,6 +338,8 @@ pub extern "C" fn constriction_range_decode_each_u16(
 }
 
 /// Decodes symbols in order, each under the model of its own location and scale ([`Families`]).
+///
+/// Calls [`decode`] and returns the code of its result ([`code_of`]).
 #[unsafe(no_mangle)]
 pub extern "C" fn constriction_range_decode_quantized_u16(
     alloc: Global,
@@ -339,6 +363,8 @@ pub extern "C" fn constriction_range_decode_quantized_u16(
 }
 
 /// Decodes symbols in order, each under its own mixture of a family's distributions ([`Mixtures`]).
+///
+/// Calls [`decode`] and returns the code of its result ([`code_of`]).
 #[unsafe(no_mangle)]
 pub extern "C" fn constriction_range_decode_mixture_u16(
     alloc: Global,
@@ -367,6 +393,8 @@ pub extern "C" fn constriction_range_decode_mixture_u16(
 }
 
 /// Sets `decoder` to a decoder of `words` at a position that was recorded during encoding.
+///
+/// Calls [`seek`] and returns the code of its result ([`code_of`]).
 #[unsafe(no_mangle)]
 pub extern "C" fn constriction_range_seek_u16(
     decoder: &mut RangeDecoderU16,
@@ -385,6 +413,8 @@ pub extern "C" fn constriction_range_seek_u16(
 }
 
 /// Sets `maybe` to 1 if the encoded symbols may have ended at the decoder's position, and to 0 if not.
+///
+/// Calls [`maybe_exhausted`] and returns the code of its result ([`code_of`]).
 #[unsafe(no_mangle)]
 pub extern "C" fn constriction_range_maybe_exhausted_u16(
     decoder: &RangeDecoderU16,

@@ -9,7 +9,9 @@ use crate::codes::{code_of, code_without_space};
 use constriction_calls::store::{build, chunk};
 use std::alloc::Global;
 
-/// Builds a store of chunks, and writes its words and the three lists of its index.
+/// Builds a store of chunks, and writes its words and its index. The index is `positions`, `lowers` and `ranges`.
+///
+/// Calls [`build`] and returns the code of its result ([`code_of`]).
 #[unsafe(no_mangle)]
 pub extern "C" fn constriction_store_build_u32(
     alloc: Global,
@@ -36,7 +38,12 @@ pub extern "C" fn constriction_store_build_u32(
     )
 }
 
-/// Decodes a chunk of a store into `symbols`. `pos`, `lower` and `range` are the chunk's items in the index's lists.
+/// Fills `symbols` with the symbols of one chunk of a store.
+///
+/// `pos`, `lower` and `range` are the chunk's numbers in the lists `positions`, `lowers` and `ranges`, as
+/// `constriction_store_build_u32` writes them.
+///
+/// Calls [`chunk`] and returns the code of its result ([`code_of`]).
 #[unsafe(no_mangle)]
 pub extern "C" fn constriction_store_chunk_u32(
     alloc: Global,

@@ -1,4 +1,4 @@
-//! Encoding and decoding with codebooks, over 32-bit words. A function sets `needed` only if the buffer is too short.
+//! Encoding and decoding with codebooks, over 32-bit words. A function sets `needed` only for `NoSpace`.
 
 ghost use Rattle.std.specs.Prelude.{map};
 ghost use Rattle.constriction_c.specs.Large.{large_word};
@@ -15,7 +15,9 @@ use constriction_symbol::exp_golomb::ExpGolomb;
 use constriction_words::BitArray;
 use std::alloc::Global;
 
-/// Encodes numbers as a queue of bits, with Exp-Golomb codewords.
+/// Encodes numbers in order as a queue of bits, with Exp-Golomb codewords.
+///
+/// Calls [`encode_queue`] and returns the code of its result ([`code_of`]).
 #[unsafe(no_mangle)]
 pub extern "C" fn constriction_exp_golomb_encode_queue_u32(
     alloc: Global,
@@ -31,7 +33,9 @@ pub extern "C" fn constriction_exp_golomb_encode_queue_u32(
     code_of(answer, needed)
 }
 
-/// Encodes numbers as a stack of bits, with Exp-Golomb codewords.
+/// Encodes numbers from the last to the first as a stack of bits, with Exp-Golomb codewords.
+///
+/// Calls [`encode_stack`] and returns the code of its result ([`code_of`]).
 #[unsafe(no_mangle)]
 pub extern "C" fn constriction_exp_golomb_encode_stack_u32(
     alloc: Global,
@@ -47,7 +51,9 @@ pub extern "C" fn constriction_exp_golomb_encode_stack_u32(
     code_of(answer, needed)
 }
 
-/// Encodes symbols as a queue of bits, with the Huffman tree of the weights.
+/// Encodes symbols in order as a queue of bits, with the Huffman tree of `weights`.
+///
+/// Calls [`encode_queue`] and returns the code of its result ([`code_of`]).
 #[unsafe(no_mangle)]
 pub extern "C" fn constriction_huffman_encode_queue_u32(
     alloc: Global,
@@ -65,7 +71,9 @@ pub extern "C" fn constriction_huffman_encode_queue_u32(
     code_of(answer, needed)
 }
 
-/// Encodes symbols as a stack of bits, with the Huffman tree of the weights.
+/// Encodes symbols from the last to the first as a stack of bits, with the Huffman tree of `weights`.
+///
+/// Calls [`encode_stack`] and returns the code of its result ([`code_of`]).
 #[unsafe(no_mangle)]
 pub extern "C" fn constriction_huffman_encode_stack_u32(
     alloc: Global,
@@ -83,7 +91,9 @@ pub extern "C" fn constriction_huffman_encode_stack_u32(
     code_of(answer, needed)
 }
 
-/// Decodes numbers from a queue of bits, with Exp-Golomb codewords.
+/// Fills `symbols` with numbers decoded from a queue of bits, with Exp-Golomb codewords.
+///
+/// Calls [`decode_queue`] and returns the code of its result ([`code_of`]).
 #[unsafe(no_mangle)]
 pub extern "C" fn constriction_exp_golomb_decode_queue_u32(
     alloc: Global,
@@ -96,7 +106,9 @@ pub extern "C" fn constriction_exp_golomb_decode_queue_u32(
     code_without_space(decode_queue(alloc, &ExpGolomb::<u32>::new(), words, symbols))
 }
 
-/// Decodes numbers from a stack of bits, with Exp-Golomb codewords.
+/// Fills `symbols` with numbers decoded from a stack of bits, with Exp-Golomb codewords.
+///
+/// Calls [`decode_stack`] and returns the code of its result ([`code_of`]).
 #[unsafe(no_mangle)]
 pub extern "C" fn constriction_exp_golomb_decode_stack_u32(
     alloc: Global,
@@ -109,7 +121,9 @@ pub extern "C" fn constriction_exp_golomb_decode_stack_u32(
     code_without_space(decode_stack(alloc, &ExpGolomb::<u32>::new(), words, symbols))
 }
 
-/// Decodes symbols from a queue of bits, with the Huffman tree of the weights.
+/// Fills `symbols` with symbols decoded from a queue of bits, with the Huffman tree of `weights`.
+///
+/// Calls [`decode_queue`] and returns the code of its result ([`code_of`]).
 #[unsafe(no_mangle)]
 pub extern "C" fn constriction_huffman_decode_queue_u32(
     alloc: Global,
@@ -123,7 +137,9 @@ pub extern "C" fn constriction_huffman_decode_queue_u32(
     code_without_space(decode_queue(alloc, &Tree { weights }, words, symbols))
 }
 
-/// Decodes symbols from a stack of bits, with the Huffman tree of the weights.
+/// Fills `symbols` with symbols decoded from a stack of bits, with the Huffman tree of `weights`.
+///
+/// Calls [`decode_stack`] and returns the code of its result ([`code_of`]).
 #[unsafe(no_mangle)]
 pub extern "C" fn constriction_huffman_decode_stack_u32(
     alloc: Global,

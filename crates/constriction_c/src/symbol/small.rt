@@ -1,5 +1,5 @@
 // Written by tools/sizes from large.rt.
-//! Encoding and decoding with codebooks, over 16-bit words. A function sets `needed` only if the buffer is too short.
+//! Encoding and decoding with codebooks, over 16-bit words. A function sets `needed` only for `NoSpace`.
 
 ghost use Rattle.std.specs.Prelude.{map};
 ghost use Rattle.constriction_c.specs.Small.{small_word};
@@ -16,7 +16,9 @@ use constriction_symbol::exp_golomb::ExpGolomb;
 use constriction_words::BitArray;
 use std::alloc::Global;
 
-/// Encodes numbers as a queue of bits, with Exp-Golomb codewords.
+/// Encodes numbers in order as a queue of bits, with Exp-Golomb codewords.
+///
+/// Calls [`encode_queue`] and returns the code of its result ([`code_of`]).
 #[unsafe(no_mangle)]
 pub extern "C" fn constriction_exp_golomb_encode_queue_u16(
     alloc: Global,
@@ -32,7 +34,9 @@ pub extern "C" fn constriction_exp_golomb_encode_queue_u16(
     code_of(answer, needed)
 }
 
-/// Encodes numbers as a stack of bits, with Exp-Golomb codewords.
+/// Encodes numbers from the last to the first as a stack of bits, with Exp-Golomb codewords.
+///
+/// Calls [`encode_stack`] and returns the code of its result ([`code_of`]).
 #[unsafe(no_mangle)]
 pub extern "C" fn constriction_exp_golomb_encode_stack_u16(
     alloc: Global,
@@ -48,7 +52,9 @@ pub extern "C" fn constriction_exp_golomb_encode_stack_u16(
     code_of(answer, needed)
 }
 
-/// Encodes symbols as a queue of bits, with the Huffman tree of the weights.
+/// Encodes symbols in order as a queue of bits, with the Huffman tree of `weights`.
+///
+/// Calls [`encode_queue`] and returns the code of its result ([`code_of`]).
 #[unsafe(no_mangle)]
 pub extern "C" fn constriction_huffman_encode_queue_u16(
     alloc: Global,
@@ -66,7 +72,9 @@ pub extern "C" fn constriction_huffman_encode_queue_u16(
     code_of(answer, needed)
 }
 
-/// Encodes symbols as a stack of bits, with the Huffman tree of the weights.
+/// Encodes symbols from the last to the first as a stack of bits, with the Huffman tree of `weights`.
+///
+/// Calls [`encode_stack`] and returns the code of its result ([`code_of`]).
 #[unsafe(no_mangle)]
 pub extern "C" fn constriction_huffman_encode_stack_u16(
     alloc: Global,
@@ -84,7 +92,9 @@ pub extern "C" fn constriction_huffman_encode_stack_u16(
     code_of(answer, needed)
 }
 
-/// Decodes numbers from a queue of bits, with Exp-Golomb codewords.
+/// Fills `symbols` with numbers decoded from a queue of bits, with Exp-Golomb codewords.
+///
+/// Calls [`decode_queue`] and returns the code of its result ([`code_of`]).
 #[unsafe(no_mangle)]
 pub extern "C" fn constriction_exp_golomb_decode_queue_u16(
     alloc: Global,
@@ -97,7 +107,9 @@ pub extern "C" fn constriction_exp_golomb_decode_queue_u16(
     code_without_space(decode_queue(alloc, &ExpGolomb::<u16>::new(), words, symbols))
 }
 
-/// Decodes numbers from a stack of bits, with Exp-Golomb codewords.
+/// Fills `symbols` with numbers decoded from a stack of bits, with Exp-Golomb codewords.
+///
+/// Calls [`decode_stack`] and returns the code of its result ([`code_of`]).
 #[unsafe(no_mangle)]
 pub extern "C" fn constriction_exp_golomb_decode_stack_u16(
     alloc: Global,
@@ -110,7 +122,9 @@ pub extern "C" fn constriction_exp_golomb_decode_stack_u16(
     code_without_space(decode_stack(alloc, &ExpGolomb::<u16>::new(), words, symbols))
 }
 
-/// Decodes symbols from a queue of bits, with the Huffman tree of the weights.
+/// Fills `symbols` with symbols decoded from a queue of bits, with the Huffman tree of `weights`.
+///
+/// Calls [`decode_queue`] and returns the code of its result ([`code_of`]).
 #[unsafe(no_mangle)]
 pub extern "C" fn constriction_huffman_decode_queue_u16(
     alloc: Global,
@@ -124,7 +138,9 @@ pub extern "C" fn constriction_huffman_decode_queue_u16(
     code_without_space(decode_queue(alloc, &Tree { weights }, words, symbols))
 }
 
-/// Decodes symbols from a stack of bits, with the Huffman tree of the weights.
+/// Fills `symbols` with symbols decoded from a stack of bits, with the Huffman tree of `weights`.
+///
+/// Calls [`decode_stack`] and returns the code of its result ([`code_of`]).
 #[unsafe(no_mangle)]
 pub extern "C" fn constriction_huffman_decode_stack_u16(
     alloc: Global,

@@ -56,7 +56,7 @@ pub fn decode<
     Ok(())
 }
 
-/// Decodes under a list of models. Returns the head and the number of words left.
+/// Fills `symbols` with symbols decoded under a list of models. Returns the new head and the number of words left.
 #[inline(never)]
 fn decode_by<
     Word: WordOf<State>,
@@ -88,7 +88,7 @@ fn decode_by<
     (new_head, left)
 }
 
-/// Decodes a symbol.
+/// Decodes a symbol with `model`. This never fails, because a cursor refuses no read.
 #[inline]
 fn decode_next<
     'a,

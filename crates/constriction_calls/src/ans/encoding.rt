@@ -1,6 +1,6 @@
 //! Encoding symbols onto a state that the caller keeps.
 //!
-//! The calls encode a list from the last symbol to the first. So decoding returns the symbols in the order of the list.
+//! The calls encode a list from the last symbol to the first, so that decoding returns the symbols in the list's order.
 
 ghost use Rattle.std.specs.Prelude.{◌≡◌, ◌≤◌, [], length, map, reverse, IfSome};
 ghost use Rattle.constriction_base.specs.Models.{AreModels, pairs_of};
@@ -109,9 +109,9 @@ pub fn encode_intervals_reverse<
     }
 }
 
-/// Encodes symbols onto a head without words. Returns the words written, and the head.
+/// Encodes symbols from the last to the first onto `head`, without words below it. Returns the new words and the head.
 ///
-/// Returns `None` if a model doesn't know its symbol, or if there is no memory.
+/// Returns `None` if a model has no entry for its symbol, or if there is no memory.
 #[inline(never)]
 fn coded<
     Word: WordOf<State>,

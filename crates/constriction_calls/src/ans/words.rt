@@ -42,10 +42,10 @@ pub fn from_compressed<Word: WordOf<State>, State: BitArray>(
     Ok(())
 }
 
-/// Imports the state whose binary form is `words`. Every list of words is the binary form of a state.
+/// Imports the state that [`into_binary`] exports as `words`. Every list of words is the binary form of a state.
 ///
 /// The last words become the head, with a leading 1 above their bits. The call sets `head`, and sets `len` to the
-/// number of words that stay below the head. [`into_binary`] exports the binary form.
+/// number of words that stay below the head.
 pub fn from_binary<Word: WordOf<State>, State: BitArray>(
     words: &[Word],
     len: &mut usize,

@@ -89,11 +89,11 @@ pub fn decode<
     Ok(())
 }
 
-/// Decodes as many symbols as there are places, each under its model.
+/// Decodes `places.len()` symbols, each under its own model.
 ///
 /// # Errors
 ///
-/// `OutOfData` and `NoMemory`.
+/// `OutOfData` and `NoMemory`, as [`crate::chain`] lists them.
 fn take_by<
     'a,
     Word: WordOf<State>,
@@ -122,7 +122,7 @@ fn take_by<
     }
 }
 
-/// Decodes `count` symbols, each under the model at its place.
+/// Decodes `count` symbols in order, each under its own model of the list `models`.
 ///
 /// # Errors
 ///
@@ -163,11 +163,11 @@ fn take_symbols<
     Ok(symbols)
 }
 
-/// Appends a coder's remainders to a caller's, and sets the heads and the number of compressed words.
+/// Appends a coder's remainders to the caller's, and sets `heads` and `compressed_len` to the coder's.
 ///
 /// # Errors
 ///
-/// The errors of [`append`]. Nothing changed then.
+/// The errors of [`append`]. After an error nothing has changed.
 fn end_taking<'a, Word: WordOf<State>, State: BitArray, const PRECISION: usize>(
     coder: Taking<'a, Word, State, PRECISION>,
     heads: &mut ChainHeads<Word, State>,

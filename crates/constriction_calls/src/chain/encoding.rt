@@ -153,11 +153,11 @@ pub fn encode_intervals_reverse<
     )
 }
 
-/// Encodes symbols from the last to the first, each under its model.
+/// Encodes symbols from the last to the first, each under its own model, onto `coder`.
 ///
 /// # Errors
 ///
-/// `ImpossibleSymbol` exactly if a model doesn't know its symbol. Otherwise `OutOfData` or `NoMemory`.
+/// `ImpossibleSymbol` exactly if a model has no entry for its symbol. Otherwise `OutOfData` or `NoMemory`.
 fn put_by<
     'a,
     Word: WordOf<State>,
@@ -193,7 +193,7 @@ fn put_by<
     }
 }
 
-/// Encodes symbols from the last to the first, each under the model at its place.
+/// Encodes symbols from the last to the first, each under its own model of the list `models`.
 ///
 /// # Errors
 ///
@@ -238,11 +238,11 @@ fn put_symbols<
     Ok(())
 }
 
-/// Appends a coder's compressed words to a caller's, and sets the heads and the number of remainders.
+/// Appends a coder's compressed words to the caller's, and sets `heads` and `remainders_len` to the coder's.
 ///
 /// # Errors
 ///
-/// The errors of [`append`]. Nothing changed then.
+/// The errors of [`append`]. After an error nothing has changed.
 fn end_putting<'a, Word: WordOf<State>, State: BitArray, const PRECISION: usize>(
     coder: Putting<'a, Word, State, PRECISION>,
     heads: &mut ChainHeads<Word, State>,

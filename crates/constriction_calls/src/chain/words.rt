@@ -25,8 +25,7 @@ type Bare<Word, State, const PRECISION: usize> = ChainCoder<
 
 /// Imports a coder from compressed words. The coder has no words of remainders below its heads.
 ///
-/// The call sets `heads`. It sets `len` to the number of entries of `words` that remain on the compressed side, below
-/// the heads.
+/// The call sets `heads`, and sets `len` to the number of words of `words` that stay compressed words below the heads.
 ///
 /// # Errors
 ///
@@ -61,8 +60,7 @@ pub fn from_compressed<Word: WordOf<State>, State: BitArray, const PRECISION: us
 
 /// Imports a coder from compressed words in binary form. The coder has no words of remainders below its heads.
 ///
-/// The call sets `heads`. It sets `len` to the number of entries of `words` that remain on the compressed side, below
-/// the heads.
+/// The call sets `heads`, and sets `len` to the number of words of `words` that stay compressed words below the heads.
 ///
 /// # Errors
 ///
@@ -132,7 +130,7 @@ pub fn from_remainders<Word: WordOf<State>, State: BitArray, const PRECISION: us
 
 /// Exports compressed words: writes the words of the remainders head after the compressed words in use.
 ///
-/// The words are written without leading zero words. The call adds their number to `compressed_len`.
+/// The call writes no leading zero words. It increases `compressed_len` by the number of words that it writes.
 /// [`from_compressed`] imports the first `compressed_len` words. The call doesn't use the remainders below the head.
 ///
 /// # Errors
@@ -219,7 +217,7 @@ pub fn into_binary<Word: WordOf<State>, State: BitArray, const PRECISION: usize>
 ///
 /// # Errors
 ///
-/// The errors of [`into_compressed`], for the buffer of the remainders. If bits are left over, that is no error.
+/// The errors of [`into_compressed`], for the buffer of the remainders. Bits left over are no error.
 pub fn into_remainders<Word: WordOf<State>, State: BitArray, const PRECISION: usize>(
     alloc: Global,
     heads: &ChainHeads<Word, State>,

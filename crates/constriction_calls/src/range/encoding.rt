@@ -19,7 +19,9 @@ use constriction_stream::encoding::Encode;
 use constriction_words::{BitArray, WordOf};
 use std::alloc::Global;
 
-/// Encodes symbols under a list of models. Returns `None` if a model doesn't know its symbol, or there is no memory.
+/// Encodes symbols in order, each under its own model of a list.
+///
+/// Returns `None` if a model has no entry for its symbol, or if there is no memory.
 #[inline(never)]
 fn put_list<
     Word: WordOf<State>,
@@ -51,9 +53,9 @@ fn put_list<
     Some(parts_of(encoder))
 }
 
-/// Encodes symbols, and returns the words written and the encoder.
+/// Encodes symbols in order, and returns the words written and the numbers of the encoder.
 ///
-/// Returns `None` if a model doesn't know its symbol, or if there is no memory.
+/// Returns `None` if a model has no entry for its symbol, or if there is no memory.
 fn put_by<
     Word: WordOf<State>,
     State: BitArray,

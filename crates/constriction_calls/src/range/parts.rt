@@ -111,7 +111,7 @@ pub fn parts_of<Word: WordOf<State>, State: BitArray>(
 /// A range decoder that reads borrowed words.
 pub type Reading<'a, Word, State> = RangeDecoder<Word, State, Cursor<Word, &'a [Word]>>;
 
-/// Makes a decoder from the caller's numbers, which next reads the word of `words` at the position `parts.pos`.
+/// Makes a decoder from the caller's numbers. The decoder next reads the word of `words` at the position `parts.pos`.
 ///
 /// Returns `None` exactly if no decoder has the numbers. The caller proves that the position isn't past the end.
 pub fn decoder_of<'a, Word: WordOf<State>, State: BitArray>(

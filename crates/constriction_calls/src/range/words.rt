@@ -49,7 +49,7 @@ pub fn into_compressed<Word: WordOf<State>, State: BitArray>(
     }
 }
 
-/// Returns the number of held words and of the seal's words, however many bits these have.
+/// Returns the number of words that sealing an encoder writes: the held words, and the words of the seal.
 fn sealed_count<Word: WordOf<State>, State: BitArray>(
     alloc: Global,
     parts: EncoderParts<Word, State>,
@@ -71,8 +71,8 @@ fn sealed_count<Word: WordOf<State>, State: BitArray>(
 /// The call increases `len` by the number of words that it writes. A decoder of the buffer's first `len` words returns
 /// the encoded symbols, and any words may follow these words.
 ///
-/// The caller proves that `State` is two words wide. Then this call writes the same words as [`into_compressed`]. Their
-/// number is counted without memory, so the call checks the length of the buffer before it asks for memory.
+/// The caller proves that `State` is two words wide. Then this call writes the same words as [`into_compressed`]. It
+/// counts these words without memory, so it checks the length of the buffer before it asks for memory.
 ///
 /// # Errors
 ///

@@ -19,8 +19,10 @@ use constriction_store::{MOST_SYMBOLS, Store};
 use constriction_words::{BitArray, WordOf};
 use std::alloc::Global;
 
-/// Returns whether the lengths add up to a number of symbols that a store holds, and each list of the index has as many
-/// items as there are lengths.
+/// Returns whether the lengths of a caller's lists make a store.
+///
+/// The sum of `lengths` has to be `symbols`, and `symbols` at most [`MOST_SYMBOLS`]. Each list of the index has to be
+/// as long as `lengths`. `positions`, `lowers` and `ranges` are the lengths of these lists.
 fn fit(symbols: usize, lengths: &[usize], positions: usize, lowers: usize, ranges: usize) -> bool
     ensures { IsTrue result ↔ FitStore symbols lengths.now positions lowers ranges }
 {
@@ -31,7 +33,7 @@ fn fit(symbols: usize, lengths: &[usize], positions: usize, lowers: usize, range
     add_up(lengths, symbols)
 }
 
-/// Returns the words and the index of the store of these chunks.
+/// Cuts `symbols` into chunks, and returns the words and the index of their store.
 ///
 /// Returns `None` if a symbol is impossible, or if there is no memory.
 fn stored<Word: WordOf<State>, State: BitArray, P: WordOf<Word>, const PRECISION: usize>(
@@ -68,7 +70,7 @@ fn stored<Word: WordOf<State>, State: BitArray, P: WordOf<Word>, const PRECISION
 /// Builds a store of chunks, and writes its words and its index into the caller's buffers.
 ///
 /// `symbols` has the symbols of all chunks, one chunk after another. `lengths` has the number of symbols of each chunk.
-/// The call writes the words at the beginning of `words`, and sets `len` to their number. It writes one item for each
+/// The call writes the words at the beginning of `words`, and sets `len` to their number. It writes one number for each
 /// chunk to each list of the index: `positions`, `lowers` and `ranges`.
 ///
 /// # Errors
@@ -79,7 +81,7 @@ fn stored<Word: WordOf<State>, State: BitArray, P: WordOf<Word>, const PRECISION
 /// - `WrongLength`: a list of the index isn't as long as `lengths`, or the sum of `lengths` isn't the number of
 ///   symbols, or there are more than 1048576 symbols.
 /// - `WrongWeights`: the weights don't add up to `2 ^ PRECISION`.
-/// - `ImpossibleSymbol`: a symbol's weight is 0, or the symbol isn't an index of `weights`.
+/// - `ImpossibleSymbol`: a symbol's weight is 0, or the symbol isn't below the number of weights.
 /// - `NoSpace(needed)`: `words` is too short. `needed` is the number of words of the store.
 /// - `NoMemory`: there is no memory.
 pub fn build<Word: WordOf<State>, State: BitArray, P: WordOf<Word>, const PRECISION: usize>(

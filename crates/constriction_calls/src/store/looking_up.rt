@@ -17,7 +17,7 @@ use constriction_queue::{RangeCoderState, RangeDecoder};
 use constriction_words::{BitArray, WordOf};
 use std::alloc::Global;
 
-/// Makes a decoder of borrowed words at a position.
+/// Makes a decoder of `words` at the position `place`, with the interval of `state`.
 fn decoder_at<'a, Word: WordOf<State>, State: BitArray>(
     words: &'a [Word],
     place: usize,
@@ -40,11 +40,11 @@ fn decoder_at<'a, Word: WordOf<State>, State: BitArray>(
     }
 }
 
-/// Decodes a chunk of a store, and fills `symbols` with the chunk's symbols.
+/// Fills `symbols` with the symbols of one chunk of a store.
 ///
-/// `pos`, `lower` and `range` are the chunk's items in the three lists of the index. The length of `symbols` is the
-/// number of symbols to decode. The call reads only the words of the chunk, and the `State::BITS / Word::BITS` words
-/// after them. The call doesn't rely on its arguments: they need not come from a store.
+/// `pos`, `lower` and `range` are the chunk's numbers in the lists `positions`, `lowers` and `ranges` of the index. The
+/// length of `symbols` is the number of symbols to decode. The call reads only the words of the chunk, and the
+/// `State::BITS / Word::BITS` words after them. The arguments may have any values: they need not come from a store.
 ///
 /// # Errors
 ///

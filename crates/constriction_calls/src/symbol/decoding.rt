@@ -93,11 +93,11 @@ pub fn decode_stack<Word: BitArray, C: Codes>(
     read_symbols::<Stack, _, C::Decoder>(alloc, &mut decoder, &codebook, symbols)
 }
 
-/// Decodes a symbol for each place of `symbols`.
+/// Fills `symbols` with symbols decoded from `stream`.
 ///
 /// # Errors
 ///
-/// `OutOfData`, `InvalidData` and `NoMemory`. The last comes also if the source of the bits refuses a read.
+/// `OutOfData`, `InvalidData` and `NoMemory`. `NoMemory` is also returned if the backend refuses a read.
 fn read_symbols<S: Semantics, R: ReadBitStream<S>, C: DecoderCodebook>(
     alloc: Global,
     stream: &mut R,
@@ -129,7 +129,7 @@ where
     Ok(())
 }
 
-/// Converts a codebook's error to the caller's.
+/// Converts the error of a decode to the refusal that the caller gets.
 fn told_as<V: Drop, E: Drop>(error: CoderError<SymbolCodeError<V>, E>) -> Refusal
     ensures { IsToldAs error result }
 {

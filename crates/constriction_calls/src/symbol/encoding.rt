@@ -22,7 +22,7 @@ use constriction_symbol::writing::WriteBitStream;
 use constriction_words::BitArray;
 use std::alloc::Global;
 
-/// Encodes symbols as a queue of bits, in order.
+/// Encodes symbols in order as a queue of bits.
 ///
 /// `codes` has the codebook. The call writes the words of the queue at the beginning of `words`, and sets `len` to the
 /// number of these words.
@@ -77,7 +77,7 @@ pub fn encode_at<Word: BitArray, C: Codes>(
     Ok(())
 }
 
-/// Encodes symbols as a stack of bits, from the last to the first. Decoding returns them in the order of the list.
+/// Encodes symbols from the last to the first as a stack of bits. Decoding returns them in the order of the list.
 ///
 /// `codes` has the codebook. The call writes the words of the stack at the beginning of `words`, and sets `len` to the
 /// number of these words.
@@ -103,7 +103,8 @@ pub fn encode_stack<Word: BitArray, C: Codes>(
 
 /// Returns the words of a queue from the word of a bit on, and the bit after the last codeword.
 ///
-/// The queue begins with the bits of `words` below `bit`. Returns `None` for any error but `NoSpace`.
+/// The queue begins with the bits of `words` below `bit`. Returns `None` if the weights make no tree, if a symbol has no
+/// codeword, or if there is no memory.
 fn words_from<Word: BitArray, C: Codes>(
     alloc: Global,
     codes: &C,
@@ -153,7 +154,7 @@ fn queue_of_first<Word: BitArray>(
 
 /// Returns the words of a queue that has bits already, and the number of its bits.
 ///
-/// Returns `None` for any error but `NoSpace`.
+/// Returns `None` if the weights make no tree, if a symbol has no codeword, or if there is no memory.
 fn queue_words<Word: BitArray, C: Codes>(
     alloc: Global,
     codes: &C,
@@ -182,7 +183,9 @@ fn queue_words<Word: BitArray, C: Codes>(
     }
 }
 
-/// Returns the words of a stack, or `None` for any error but `NoSpace`.
+/// Returns the words of the stack that [`encode_stack`] writes.
+///
+/// Returns `None` if the weights make no tree, if a symbol has no codeword, or if there is no memory.
 fn stack_words<Word: BitArray, C: Codes>(
     alloc: Global,
     codes: &C,

@@ -1,4 +1,4 @@
-//! Methods of the coder that encode lists of symbols from last to first. As methods they need no trait in scope.
+//! Encoding lists of symbols from last to first, as methods of the coder, so that no trait has to be in scope.
 
 ghost use Rattle.constriction_stream.specs.Lists.{GivesAtMost, LowersByItems, StepsUntilFault, TriesItem};
 ghost use Rattle.constriction_stream.specs.Symbols.{EncodesPair, EncodesSymbol};
@@ -24,8 +24,8 @@ impl<
     ///
     /// # Errors
     ///
-    /// The error of the first symbol that fails, counted from the end of the list. The coder has encoded exactly the
-    /// symbols after it in the list. The call takes no further item from the iterator.
+    /// Returns the error of the first symbol that fails, counted from the end of the list. The coder has encoded
+    /// exactly the symbols after the failing symbol in the list. The call takes no further item from the iterator.
     pub fn encode_symbols_reverse<S, M, I>(
         &mut self,
         symbols_and_models: I,
@@ -56,7 +56,7 @@ impl<
     /// The call stops at the first failing item, counted from the end of the list. The coder has encoded exactly the
     /// symbols after that item in the list.
     ///
-    /// - `InvalidEntropyModel(error)` if the item is `Err(error)`. The item doesn't change the coder.
+    /// - `InvalidEntropyModel(error)` if the item is `Err(error)`.
     /// - `CodingError(error)` if encoding the item's symbol fails with this error.
     pub fn try_encode_symbols_reverse<S, M, E, I>(
         &mut self,
@@ -88,8 +88,8 @@ impl<
     ///
     /// # Errors
     ///
-    /// The error of the first symbol that fails, counted from the end of the list. The coder has encoded exactly the
-    /// symbols after it in the list. The call takes no further item from the iterator.
+    /// Returns the error of the first symbol that fails, counted from the end of the list. The coder has encoded
+    /// exactly the symbols after the failing symbol in the list. The call takes no further item from the iterator.
     ///
     /// # Examples
     ///

@@ -12,9 +12,9 @@ use constriction_words::{BitArray, WordOf};
 /// The positions of a coder's two backends. The coder's `pos` returns them together with the heads.
 #[derive(Debug, Clone, Copy, PartialEq, Eq, Hash, Drop)]
 pub struct BackendPosition<CompressedPosition, RemaindersPosition> {
-    /// The position of the compressed words.
+    /// The position of the compressed backend.
     pub compressed: CompressedPosition,
-    /// The position of the remainders.
+    /// The position of the remainders' backend.
     pub remainders: RemaindersPosition,
 }
 
@@ -85,12 +85,12 @@ impl<
         ⊎ (C.sought old.compressed position.0.compressed new.compressed
         × R.stays old.remainders position.0.remainders new.remainders)) };
 
-    /// Goes to a recorded position. The compressed backend seeks first, then the remainders.
+    /// Goes to a recorded position. The compressed backend seeks first, and the remainders' backend seeks second.
     ///
     /// # Errors
     ///
-    /// `Err(())` if one of the backends refuses to seek to its position. The heads are unchanged. If the remainders
-    /// refuse, the compressed backend has already moved.
+    /// Returns `Err(())` if one of the backends refuses to seek to its position. The heads are unchanged. If the
+    /// remainders' backend refuses, the compressed backend has already moved.
     ///
     /// # Examples
     ///

@@ -152,7 +152,7 @@ impl<
     /// After each error the heads are unchanged, and the compressed words have at least as much room as before the
     /// call.
     ///
-    /// - `Frontend(ImpossibleSymbol)` exactly if the model doesn't contain the symbol. The coder is unchanged.
+    /// - `Frontend(ImpossibleSymbol)` exactly if the symbol is impossible under the model. The coder is unchanged.
     /// - `Frontend(OutOfRemainders)` if a word of the remainders is needed and none is left. The only change is the
     ///   room that the compressed backend granted.
     /// - `Backend(Remainders(error))` if a word of the remainders is needed and its read fails with this error. If

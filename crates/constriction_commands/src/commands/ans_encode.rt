@@ -17,7 +17,7 @@ use constriction_stack::DefaultAnsCoder;
 use constriction_stream::encoding::Encode;
 use std::alloc::Global;
 
-/// Encodes symbols so that the first one is decoded first, and returns the words.
+/// Encodes `symbols` so that the first symbol is decoded first, and returns the words.
 fn encode<M: EncoderModel<PRECISION, Symbol = usize, Probability = u32>>(
     alloc: Global,
     model: &M,

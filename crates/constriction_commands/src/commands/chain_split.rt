@@ -18,7 +18,7 @@ use constriction_chain::{BackendError, DefaultChainCoder};
 use constriction_stream::decoding::Decode;
 use std::alloc::{AllocError, Global};
 
-/// Makes a coder from words.
+/// Creates a chain coder from `words`.
 fn coder_of(alloc: Global, words: Vec<u32>) -> Result<DefaultChainCoder, Fault>
     ensures ok { IfOk result (λ coder. IsChainOf (map (λ word. word % 2 ^ 32) words.items) coder.state) }
     ensures err { IfErr result (λ fault. (fault ≡ NoChain) × IsNoChain (map (λ word. word % 2 ^ 32) words.items)) }
@@ -30,7 +30,7 @@ fn coder_of(alloc: Global, words: Vec<u32>) -> Result<DefaultChainCoder, Fault>
     }
 }
 
-/// Decodes `count` symbols.
+/// Decodes `count` symbols under `model`.
 fn decode<M: DecoderModel<PRECISION, Symbol = usize, Probability = u32>>(
     alloc: Global,
     model: &M,
@@ -54,7 +54,7 @@ fn decode<M: DecoderModel<PRECISION, Symbol = usize, Probability = u32>>(
     Ok(symbols)
 }
 
-/// Returns three lines: the symbols, and two lists of words.
+/// Returns three lines: `symbols`, `prefix` and `suffix`.
 fn three_lines(
     alloc: Global,
     symbols: &[usize],

@@ -17,7 +17,7 @@ use constriction_symbol::exp_golomb::ExpGolomb;
 use constriction_symbol::writing::WriteBitStream;
 use std::alloc::{AllocError, Global};
 
-/// Appends the codeword of a number as digits.
+/// Appends the codeword of `number` to `line`, as binary digits.
 fn push_codeword(alloc: Global, line: &mut Vec<u8>, number: u32) -> Result<(), AllocError>
     ensures { OnOk result (line.new.items ≡ line.old.items ++ digits (golomb number)) }
 {
@@ -25,7 +25,7 @@ fn push_codeword(alloc: Global, line: &mut Vec<u8>, number: u32) -> Result<(), A
     push_digits(line, bits.as_slice())
 }
 
-/// Returns the line of the codewords of numbers.
+/// Returns a line of the codewords of `numbers`, separated by spaces.
 fn line_of_codewords(alloc: Global, numbers: &[u32]) -> Result<Vec<u8>, AllocError>
     ensures { IfOk result (λ line. line.items ≡ golomb_line numbers.now) }
 {
@@ -40,7 +40,7 @@ fn line_of_codewords(alloc: Global, numbers: &[u32]) -> Result<Vec<u8>, AllocErr
     Ok(line)
 }
 
-/// Encodes numbers as a queue of bits, and returns its words.
+/// Encodes `numbers` to a queue of bits, and returns the queue's words.
 fn queue_of(alloc: Global, numbers: &[u32]) -> Result<Vec<u32>, AllocError>
     ensures { IfOk result
         (λ words. IsQueueWords 32 (flat_map golomb numbers.now) (map (λ word. word % 2 ^ 32) words.items)) }

@@ -11,7 +11,7 @@ use crate::input::{parse_numbers, split_line};
 use constriction_symbol::huffman::{EncoderHuffmanTree, HuffmanError};
 use std::alloc::{AllocError, Global};
 
-/// Makes the tree of the weights of symbols 0, 1, ..
+/// Builds the Huffman tree of the symbols 0, 1, .. with the weights `weights`.
 fn make_tree(alloc: Global, weights: &[usize]) -> Result<EncoderHuffmanTree, Fault>
     ensures ok { IfOk result (λ tree. IsHuffman weights.now (book_of tree)) }
     ensures err { IfErr result (TreeFails weights.now) }
@@ -26,7 +26,7 @@ fn make_tree(alloc: Global, weights: &[usize]) -> Result<EncoderHuffmanTree, Fau
     }
 }
 
-/// Appends the codeword of a symbol as digits, or a hyphen for the empty codeword.
+/// Appends the codeword of `symbol` to `line`, as binary digits, or a hyphen for the empty codeword.
 fn push_codeword(
     alloc: Global,
     line: &mut Vec<u8>,
@@ -43,7 +43,7 @@ fn push_codeword(
     push_digits(line, bits.as_slice())
 }
 
-/// Returns the line of the codewords of a tree.
+/// Returns a line of the codewords of `tree`, separated by spaces.
 fn line_of_codewords(alloc: Global, tree: &EncoderHuffmanTree) -> Result<Vec<u8>, AllocError>
     ensures { IfOk result (λ line. line.items ≡ codewords_line (length (leaves tree.now)) (path tree.now)) }
 {
@@ -58,7 +58,7 @@ fn line_of_codewords(alloc: Global, tree: &EncoderHuffmanTree) -> Result<Vec<u8>
     Ok(line)
 }
 
-/// Makes the Huffman tree of the weights in the input `text`, and returns a line of its codewords.
+/// Builds the Huffman tree of the weights in the input `text`, and returns a line of its codewords.
 ///
 /// Line 1 of the input has the weights of the symbols 0, 1, .. in order. The line returned has the codewords in the
 /// same order, as binary digits. A hyphen stands for the empty codeword.

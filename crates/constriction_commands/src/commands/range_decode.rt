@@ -22,7 +22,7 @@ use std::alloc::Global;
 /// A decoder that borrows its words.
 type Decoder<'a> = DefaultRangeDecoder<Cursor<u32, &'a [u32]>>;
 
-/// Makes a decoder of words.
+/// Returns a decoder that borrows `words`.
 fn decoder_of(words: &[u32]) -> Decoder<'_>
     ensures { IsAt 32 64 words.now (initial 64) result.lower result.range result.point result.words }
 {
@@ -32,7 +32,7 @@ fn decoder_of(words: &[u32]) -> Decoder<'_>
     }
 }
 
-/// Decodes `count` symbols. Behind the words it reads zero words.
+/// Decodes `count` symbols under `model` from `words`. After the last word, the decoder reads zero words.
 fn decode<M: DecoderModel<PRECISION, Symbol = usize, Probability = u32>>(
     alloc: Global,
     model: &M,

@@ -1,8 +1,8 @@
 //! The command `range-encode`, which encodes symbols with a range coder.
 //!
-//! The code returns the fault `out of memory` if there are more symbols than the encoder can count, which is
-//! `2^64 - 18`. No machine has the memory for so many symbols. But the language guarantees only that the length of a
-//! list is below `2^64`, so the case needs a fault.
+//! The code returns the fault `out of memory` if there are more than `2^64 - 18` symbols, which is the most that the
+//! encoder can count. No machine has the memory for so many symbols. But the language guarantees only that the length
+//! of a list is below `2^64`, so the case needs a fault.
 
 ghost use Rattle.std.specs.Prelude.{◌≡◌, ◌%◌, ◌^◌, map, IfOk, IfErr};
 ghost use Rattle.constriction_base.specs.Models.{items_of};
@@ -21,7 +21,7 @@ use constriction_queue::DefaultRangeEncoder;
 use constriction_stream::encoding::Encode;
 use std::alloc::Global;
 
-/// Encodes symbols so that the first one is decoded first, and returns the words.
+/// Encodes `symbols` so that the first symbol is decoded first, and returns the words.
 fn encode<M: EncoderModel<PRECISION, Symbol = usize, Probability = u32>>(
     alloc: Global,
     model: &M,

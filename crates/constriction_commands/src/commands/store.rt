@@ -21,7 +21,7 @@ use std::alloc::Global;
 /// A store of 32-bit words.
 type Chunks = Store<u32, u64, Table, PRECISION>;
 
-/// Builds the store of chunks.
+/// Builds the store of `chunks` under `table`.
 fn store_of(alloc: Global, chunks: &[Vec<usize>], table: Table) -> Result<Chunks, Fault>
     ensures words { IfOk result (λ store. AreWordsOf (entries table) (lists_of chunks.now) store.words) }
     ensures held { IfOk result (λ store. HoldsChunks 32 64 (model_of store.model) store.words store.index
@@ -38,7 +38,7 @@ fn store_of(alloc: Global, chunks: &[Vec<usize>], table: Table) -> Result<Chunks
     }
 }
 
-/// Appends the lines of the chunks at these places, in order.
+/// Looks up the chunks with the indices `places`, and appends a line of symbols for each chunk to `lines`.
 fn push_chunks(
     alloc: Global,
     lines: &mut Vec<u8>,

@@ -1,4 +1,4 @@
-//! Parsing weights, look-ups and chunks.
+//! Parses weights, indices of chunks to look up, and chunks.
 
 ghost use Rattle.std.specs.Prelude.{IfOk, IfErr};
 ghost use Rattle.constriction_store.specs.Chunks.{lists_of};

@@ -1,4 +1,4 @@
-//! Parsing weights and symbols.
+//! Parses weights and symbols.
 
 ghost use Rattle.std.specs.Prelude.{IfOk, IfErr};
 ghost use Rattle.constriction_commands.specs.Inputs.{GivesSymbols, NoSymbols};

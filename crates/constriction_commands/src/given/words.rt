@@ -1,4 +1,4 @@
-//! Parsing weights, a count of symbols, and words.
+//! Parses weights, a count of symbols, and words.
 
 ghost use Rattle.std.specs.Prelude.{◌≡◌, ◌⊎◌, ◌<◌, ◌≤◌, ℕ, List, ◌∷◌, [], IfOk, IfErr};
 ghost use Rattle.constriction_commands.specs.Inputs.{GivesWords, NoWords, most};
@@ -13,10 +13,10 @@ use std::alloc::Global;
 
 /// The greatest count of symbols.
 ///
-/// The count is read as a 32-bit number, like the words. A greater one is a `bad number` either way.
+/// The count is parsed as a 32-bit number, like the words. A greater count is a `bad number`, even if it fits 32 bits.
 const MOST: u32 = 16_777_216;
 
-/// Removes the count from the front of a line of numbers, and returns it.
+/// Removes the first of `numbers`, which is the count of symbols, and returns it.
 fn take_count(numbers: &mut Vec<u32>) -> Result<u32, Fault>
     ensures ok { IfOk result (λ count. (numbers.old.items ≡ count ∷ numbers.new.items) × (count ≤ most)) }
     ensures err { IfErr result (λ fault. ((fault ≡ NoCount) × (numbers.old.items ≡ []))

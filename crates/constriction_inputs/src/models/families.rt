@@ -87,7 +87,7 @@ impl<'a, P: WordOf<u32>, const PRECISION: usize> Models<P, PRECISION> for Famili
 }
 
 impl<'a> Families<'a> {
-    /// Collects the arguments for models of a family. The arguments aren't checked here.
+    /// Collects the arguments for models of a family. The call doesn't check the arguments.
     #[inline]
     pub fn new(family: u32, min: i32, max: i32, locations: &'a [i64], scales: &'a [u32]) -> Self
         ensures numbers { (result.family ≡ family) × (result.min ≡ min) × (result.max ≡ max) }
@@ -106,7 +106,7 @@ impl<'a> Families<'a> {
     ///
     /// # Errors
     ///
-    /// The call checks for errors in this order. Each error is returned exactly in its case.
+    /// The call returns the first of these errors whose condition holds, and no other error.
     ///
     /// - `WrongLength`: the numbers of scales and of locations differ.
     /// - `WrongInterval`: the range has fewer than two or more than `2 ^ PRECISION` symbols.
@@ -137,7 +137,7 @@ impl<'a> Families<'a> {
         Ok((family, quantizer))
     }
 
-    /// Returns whether each symbol is the index of a symbol of the range.
+    /// Returns whether each number in `symbols` is an index into the range.
     pub(crate) fn are_places(&self, symbols: &[usize]) -> bool
         requires { self.now.min <ℤ self.now.max }
         ensures { IsTrue result ↔ ArePlacesInRange self.now.min self.now.max symbols.now }
@@ -152,7 +152,7 @@ impl<'a> Families<'a> {
     }
 }
 
-/// Returns the family of a number, or `None` if no family has it.
+/// Returns the family with the number `code`, or `None` if no family has this number.
 fn family_at(code: u32) -> Option<Family>
     ensures { result ≡ family_of code }
 {
@@ -176,7 +176,7 @@ fn are_above_zero(scales: &[u32]) -> bool
     true
 }
 
-/// Returns the model of each location and its scale.
+/// Returns a model of `family` for each location and its scale.
 fn models_of<P: WordOf<u32>, const PRECISION: usize>(
     alloc: Global,
     family: Family,

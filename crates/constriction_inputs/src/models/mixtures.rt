@@ -25,9 +25,9 @@ use weighing::are_mixable;
 /// Mixtures of distributions of one family, with one mixture for each symbol.
 ///
 /// A mixture has `width` components, and each component has a location, a scale and a weight. The weights are in
-/// `weights`. The locations and scales are in `components`, in multiples of `2^-16`. Each of the three lists has the
-/// items of the first symbol, then the items of the second symbol, and so on. A symbol is passed as its index in the
-/// range of `components`.
+/// `weights`. The locations and scales are in `components`, in multiples of `2^-16`. Each of the three lists has
+/// `width` numbers for the first symbol, then `width` numbers for the second symbol, and so on. The caller passes each
+/// symbol as its distance from the least symbol of `components`.
 ///
 /// The weights of a mixture are relative. Their sum has to be at least 1 and at most `2^32`. A component of weight 0
 /// doesn't change the mixture.
@@ -35,7 +35,7 @@ use weighing::are_mixable;
 /// # Examples
 ///
 /// ```
-/// // Two symbols from 0 to 255, each under two logistic distributions, the first of which has three quarters.
+/// // Two symbols from 0 to 255, each under two logistic distributions with the weights 3 and 1.
 /// let components = Families::new(
 ///     2,
 ///     0,
@@ -56,7 +56,7 @@ pub struct Mixtures<'a> {
 }
 
 impl<'a> Mixtures<'a> {
-    /// Collects the arguments for mixtures. The arguments aren't checked here. [`Mixtures`] has an example.
+    /// Collects the arguments for mixtures. The call doesn't check the arguments. [`Mixtures`] has an example.
     #[inline]
     pub fn new(components: Families<'a>, weights: &'a [u32], width: usize) -> Self
         ensures { (result.components ≡ components.entry) × (result.weights.now ≡ weights.now) × (result.width ≡ width) }
@@ -131,7 +131,7 @@ impl<'a, P: WordOf<u32>, const PRECISION: usize> Models<P, PRECISION> for Mixtur
 
 /// The list of the models of mixtures. It has memory for the components of one mixture only.
 ///
-/// Each call of `turn_to` replaces these components by those of the selected mixture.
+/// Each call of `turn_to` replaces these components by the components of the selected mixture.
 ///
 /// # Examples
 ///

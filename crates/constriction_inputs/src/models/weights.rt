@@ -67,9 +67,10 @@ impl<'a, P: BitArray, const PRECISION: usize> Models<P, PRECISION> for Weights<'
     }
 }
 
-/// Returns the table of the symbols `0`, `1`, .. with these weights. If `divides` is true, it keeps their reciprocals.
+/// Returns the table of the symbols `0`, `1`, .. with the weights `weights`.
 ///
-/// Returns `None` if the weights don't add up to `2 ^ PRECISION` or there is no memory.
+/// If `divides` is true and `PRECISION` is at most 63, the table keeps the reciprocals of the weights. The call returns
+/// `None` if the weights don't add up to `2 ^ PRECISION`, or if there is no memory.
 pub fn table_by<P: BitArray, const PRECISION: usize>(
     alloc: Global,
     weights: &[P],

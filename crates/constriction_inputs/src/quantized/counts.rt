@@ -1,4 +1,4 @@
-//! Weights in proportion to counts, written into a caller's buffer.
+//! Writes weights in proportion to counts into a caller's buffer.
 
 ghost use Rattle.std.specs.Prelude.{◌≡◌, ◌<◌, ◌≤◌, ◌^◌, ℕ, length, map, slice_index};
 ghost use Rattle.constriction_inputs.specs.QuantizedCalls.{GivesWeightsOfCounts};
@@ -15,7 +15,7 @@ use std::alloc::Global;
 ///
 /// # Errors
 ///
-/// The call checks for errors in this order. After an error `weights` is unchanged.
+/// The call checks for errors in this order. After an error, `weights` is unchanged.
 ///
 /// - `WrongLength`: the numbers of weights and of counts differ.
 /// - `WrongWeights`: all counts are 0, or more than `2 ^ PRECISION` counts are above 0.
@@ -43,7 +43,7 @@ pub fn put_weights_of_counts<P: WordOf<u32>, const PRECISION: usize>(
     }
 }
 
-/// Writes numbers that fit `P`.
+/// Copies the numbers of `made` into `weights`. The caller proves that each number fits `P`.
 fn put<P: WordOf<u32>>(made: &[u32], weights: &mut [P])
     requires counted { length made.now ≡ length weights.now }
     requires fit { (k : ℕ) → k < length made.now → slice_index made.now k < 2 ^ P.BITS }

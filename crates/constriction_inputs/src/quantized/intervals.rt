@@ -1,8 +1,8 @@
-//! The start and the length of each symbol's interval, under a model with the symbol's own location and scale.
+//! Writes the start and the length of each symbol's interval, under a model with the symbol's own location and scale.
 //!
 //! A caller in another language can inspect a model's table: it passes the indices of all symbols in order, with the
-//! same location and scale for each. The intervals returned are then the whole table. The caller can also encode these
-//! intervals.
+//! same location and scale for each symbol. The intervals written are then the whole table. The caller can also encode
+//! these intervals.
 
 ghost use Rattle.std.specs.Prelude.{◌≡◌, ◌<◌, ◌≤◌, Some, length, map};
 ghost use Rattle.std.specs.List.{AllByRecursion};
@@ -24,7 +24,7 @@ use constriction_words::{BitArray, WordOf};
 ///
 /// # Errors
 ///
-/// The call checks for errors in this order. Each error is returned exactly in its case. After an error `lefts` and
+/// The call returns the first of these errors whose condition holds, and no other error. After an error, `lefts` and
 /// `ps` are unchanged.
 ///
 /// - `WrongLength`: `lefts` or `ps` doesn't have one item for each symbol.
@@ -72,7 +72,7 @@ pub fn intervals_of_quantized<P: WordOf<u32>, const PRECISION: usize>(
     Ok(())
 }
 
-/// Writes the intervals of indices in the range.
+/// Writes the start and the length of each symbol's interval. The caller proves that each symbol is in the range.
 fn put_intervals<P: WordOf<u32>, const PRECISION: usize>(
     family: Family,
     quantizer: &LeakyQuantizer<P, PRECISION>,

@@ -1,4 +1,4 @@
-//! Sums of weights: whether weights add up to `2 ^ PRECISION`, and the sum of the weights before a symbol.
+//! Checks whether weights add up to `2 ^ PRECISION`, and computes the sum of the weights before a symbol.
 
 ghost use Rattle.std.specs.Prelude.{◌≡◌, ◌↔◌, ◌+◌, ◌*◌, ◌^◌, ◌<◌, ◌≤◌, length, map, sum_by, take, IsTrue};
 ghost use Rattle.constriction_inputs.specs.Rows.{AreTotals};
@@ -7,13 +7,13 @@ ghost use Rattle.constriction_inputs.specs.Weights.{IsTotal};
 use constriction_base::weights::starts::ones;
 use constriction_words::BitArray;
 
-/// Returns whether the weights add up to `2 ^ PRECISION`. The result is exact, even if the sum doesn't fit `P`.
+/// Returns whether `weights` add up to `2 ^ PRECISION`. The result is exact, even if the sum doesn't fit `P`.
 pub fn is_total<P: BitArray, const PRECISION: usize>(weights: &[P]) -> bool
     requires { (1 ≤ PRECISION) × (PRECISION ≤ P.BITS) }
     ensures { IsTrue result ↔ IsTotal PRECISION (map P.number weights.now) }
 {
     let one = P::unit();
-    let mut rest = ones::<P>(PRECISION); // one below what is left of the total
+    let mut rest = ones::<P>(PRECISION); // what is left of the total, minus 1
     let mut is_reached = false;
     for weight in weights {
         if !weight.is_nothing() {

@@ -1,4 +1,4 @@
-//! An exchange on a stack coder: one symbol is decoded, then another is encoded. A bound limits the words that it adds.
+//! An exchange on a stack coder decodes one symbol and then encodes another. A bound limits the words that it adds.
 //!
 //! The bound is proved from the coder's public contract and the laws of [`bounds`](crate::bounds) alone.
 
@@ -22,7 +22,7 @@ use constriction_stream::decoding::Decode;
 use constriction_stream::encoding::Encode;
 use constriction_words::{BitArray, WordOf};
 
-/// Returns whether a head is so low that a word moves in below it, if one is left.
+/// Returns whether `head` is below `2^(s-w)`.
 fn is_low<Word: WordOf<State>, State: BitArray>(head: State) -> bool
     requires { IsSizes Word.BITS State.BITS }
     ensures { MatchBool result (State.number head < 2 ^ (State.BITS - Word.BITS))
@@ -44,8 +44,8 @@ pub enum ExchangeError {
 
 /// Decodes a symbol with the model `off`, and encodes `symbol` with the model `on`, as bits-back coding does.
 ///
-/// Returns the decoded symbol. If the call succeeds, the clause `net` bounds the words that it adds. A head is low if
-/// it is below `2^(s-w)`.
+/// Returns the decoded symbol. The clause `net` bounds the number of words that a successful call adds. A head is low
+/// if it is below `2^(s-w)`.
 ///
 /// # Errors
 ///

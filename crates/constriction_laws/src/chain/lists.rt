@@ -37,8 +37,7 @@ impl<Symbol> StepsUndo for Encoding<Symbol> {
         (decode_back sizes.0 sizes.1 item.model item.symbol old new does, tt) };
 }
 
-/// An implementor of [`StepsUndo`]. Its steps are decodes of symbols from states of coders. Its inverse steps are
-/// encodes.
+/// An implementor of [`StepsUndo`]. Its steps are decodes from a coder's states, and its inverse steps are encodes.
 pub struct Decoding<Symbol> {
     symbols: PhantomData<Symbol>,
 }

@@ -27,11 +27,17 @@ pub fn one_coder()
 
 /// Encoding the symbols decoded from words restores the words.
 ///
-/// Import the words, decode any number of symbols, each under its own table, and export the remainders. Optionally, put
-/// a list of words, called `below`, under these remainders. For example, `below` can be the compressed words that the
-/// decodes left. Import the result as remainders, encode the same symbols from the last to the first under the same
-/// tables, and export. The exported words, followed by the compressed words that the decodes left, are the original
-/// words. After the encodes, the remainders are exactly the list `below`.
+/// A caller takes these steps:
+///
+/// 1. Import the words.
+/// 2. Decode any number of symbols, each under its own table.
+/// 3. Export the remainders, and put any list of words, `below`, under them.
+/// 4. Import these words as remainders.
+/// 5. Encode the same symbols from the last to the first, under the same tables.
+/// 6. Export the compressed words.
+///
+/// The words of step 6, followed by the compressed words that the decodes left, are the original words. After step 5,
+/// the remainders are exactly the list `below`.
 pub fn words_come_back<Symbol>()
     ensures encoded { (w s P : ℕ) (below : List ℕ) (items : List (Item Symbol)) (x y : ChainState) →
         IsSized w s P → AreModelsAt P items → AreWords w below → IsWhole w s P x → TakesOffAll w s items x y →

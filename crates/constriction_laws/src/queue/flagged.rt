@@ -45,7 +45,7 @@ pub fn flagged_symbols_come_back()
     symbols_come_back_whatever_follows::<usize>()
 }
 
-/// Decodes `amt` symbols from a switch, with the model `first` up to and including the flag, and then with `second`.
+/// Decodes `amt` symbols from `switch`, with the model `first` up to and including the flag, and then with `second`.
 ///
 /// Calls `next_symbol`.
 ///

@@ -67,8 +67,7 @@ pub fn decodes_undo_encodes<Symbol>()
     lists_undo::<Encoding<Symbol>>()
 }
 
-/// Words decode to a nonempty list of symbols exactly if, read as a number, they lie in the encoder's interval after it
-/// has encoded that list.
+/// Words decode to a nonempty list of symbols exactly if they lie within the run to which encoding the list leads.
 ///
 /// The encoder and the decoder start from the initial interval.
 pub fn symbols_of_any_words<Symbol>()

@@ -1,7 +1,7 @@
-//! Positions of the range coder. Seeking to a position leads a decoder to the run at which it was recorded.
+//! Positions of the range coder. Seeking to a position leads a decoder to the run at which the position was recorded.
 //!
-//! A position is the number of words written and held, and the interval. It stays usable in all words that are exported
-//! later, whatever was encoded since. This holds even if a carry changed the held words.
+//! A position is the number of words written and held, and the interval. It stays usable in all words that the encoder
+//! exports later, whatever symbols it encodes in between. This holds even if a carry changes the held words.
 
 ghost use Rattle.std.specs.Prelude.{◌≡◌, ◌/◌, ◌^◌, ℕ, List, drop};
 ghost use Rattle.constriction_base.specs.Models.{Item, models, AreModels};
@@ -29,8 +29,8 @@ pub fn position_leads_there()
 
 /// Decoding from a position returns the symbols encoded since then, in the order of encoding.
 ///
-/// The decoder may read any words that the encoder exports later, until the encoder is cleared. The clause `anywhere`
-/// says that only the interval of the position matters, not the words written before it.
+/// The decoder may read any words that the encoder exports later, until the encoder is cleared. By the clause
+/// `anywhere`, only the interval of the position matters, not the words written before it.
 pub fn symbols_after_a_position<Symbol>()
     ensures decoded { (w s : ℕ) (before since : List (Item Symbol)) (middle last : Run) → IsSizes w s →
         AreModels w before → AreModels w since →

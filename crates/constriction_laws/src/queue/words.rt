@@ -18,7 +18,7 @@ pub fn sealed_words_are_read()
 
 /// A decoder reads a nonempty list of steps from words exactly if the words lie within the run after these steps.
 ///
-/// Encoder and decoder start from the initial interval. The head of [`lists`](crate::queue::lists) says when words lie
+/// The encoder and the decoder start from the initial interval. [`lists`](crate::queue::lists) explains when words lie
 /// within a run.
 pub fn words_within_are_read()
     ensures { (w s : ℕ) (words : List ℕ) (first : Step) (others : List Step) → IsSizes w s →

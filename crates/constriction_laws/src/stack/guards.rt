@@ -24,8 +24,8 @@ pub fn shown_words_are_exported()
 
 /// Removing the words that a guard appended restores the state.
 ///
-/// The appended words are those of the head. The clause `compressed` is about a guard that lends the exported words,
-/// and the clause `binary` about a guard that lends the binary form.
+/// The appended words are the words of the head. The clause `compressed` is about a guard that lends the exported
+/// words. The clause `binary` is about a guard that lends the binary form.
 pub fn shown_words_go()
     ensures compressed { (w : ℕ) (state shown : AnsState) →
         shown ≡ record { head = state.head; words = exported w state } →

@@ -1,7 +1,7 @@
 //! Coders over backends without a list of words, such as iterators.
 //!
-//! For these backends `is_list` doesn't hold. But suppose that a function lists the words of each state of the backend,
-//! and that reads return these words one by one. Then a decode that reads from the backend (a decode by reads) equals a
+//! For these backends `is_list` doesn't hold. Suppose that a function lists the words of each value of the backend, and
+//! that reads return these words one by one. Then a decode that reads from the backend (a decode by reads) equals a
 //! decode from the list.
 
 ghost use Rattle.std.specs.Prelude.{◌≡◌, ℕ, List, reverse};
@@ -18,9 +18,10 @@ use crate::stack::words::{imports_are_words, reads_are_words};
 use constriction_base::backends::{ReadWords, Stack};
 use constriction_words::BitArray;
 
-/// If `words` lists the words of an iterator, `words_left words` lists the words of a backend over that iterator.
+/// The words of a backend over an iterator are the words that the iterator will return.
 ///
-/// `words_left` returns the words that the iterator has left, or no words after the iterator has ended.
+/// The function `words` lists the words that an iterator will return. The function `words_left words` lists the words of
+/// a backend over that iterator: no words after the iterator has ended.
 pub fn items_are_words<Word, ReadError, Iter: Iterator<Item = Result<Word, ReadError>>>()
     ensures { (words : Iter → List Word) → TellsItems Iter.next_gives words →
         TellsWords (FusedRead Iter.next_gives) (words_left words) }

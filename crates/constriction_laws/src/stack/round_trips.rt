@@ -1,9 +1,9 @@
 //! Callers of the stack coder, generic in the sizes of words, heads and tables.
 //!
 //! Each function is one half of a round trip: it encodes symbols and returns words, or it takes words and decodes
-//! symbols. Its contract says what the calls that it names do together, in the definitions of the laws. A caller of
-//! both halves joins them by a law of [`lists`](crate::stack::lists) or [`words`](crate::stack::words), or by the
-//! clause `back` of the half that reads.
+//! symbols. Its docstring names the calls that it makes. Its contract describes their combined effect in the
+//! definitions of the laws. A caller of both halves joins them by a law of [`lists`](crate::stack::lists) or
+//! [`words`](crate::stack::words), or by the clause `back` of the half that reads.
 //!
 //! - [`binary`]: any words, in binary form.
 //! - [`lent_words`]: the words that a guard lends.

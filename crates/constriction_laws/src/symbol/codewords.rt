@@ -6,9 +6,9 @@ ghost use Rattle.std.specs.Prelude.{Bool, List, Some, reverse, ◌≡◌};
 use constriction_base::backends::{Queue, Stack};
 use constriction_symbol::codebooks::{BitOrder, Codebook};
 
-/// The suffix form of a codeword is the reverse of its prefix form.
+/// In every codebook, the suffix form of a codeword is the reverse of its prefix form.
 ///
-/// A stack writes the suffix form, a queue writes the prefix form. This holds for every codebook.
+/// A stack writes the suffix form. A queue writes the prefix form.
 pub fn suffix_turns_prefix<C: Codebook>()
     ensures { (codebook : C) (symbol : C.Symbol) (prefix suffix : List Bool) →
         formed (⟦<Queue as BitOrder>⟧.form) (C.codeword codebook symbol) ≡ Some prefix →

@@ -10,7 +10,8 @@ pub fn golomb_is_prefix_free()
 
 /// The suffix form of an Exp-Golomb codeword ends in zeros.
 ///
-/// The suffix form for `n` begins with the bits of `n + 1`, lowest first. If these are `b` bits, `b - 1` zeros follow.
+/// The suffix form for `n` begins with the bits of `n + 1`, lowest bit first. If `n + 1` has `b` bits, `b - 1` zeros
+/// follow.
 pub fn golomb_suffix_ends_in_zeros()
     ensures { (n : ℕ) → reverse (golomb n) ≡ reverse (binary (n + 1)) ++ replicate (length (binary (n + 1)) - 1) false }
 {}

@@ -4,7 +4,7 @@ ghost use Rattle.constriction_laws.specs.symbol.Cost.{AreCodewordsOf, AreLawful,
 ghost use Rattle.constriction_symbol.specs.Huffman.{Book, IsHuffman, Tree, huffman, merge};
 ghost use Rattle.std.specs.Prelude.{Bool, List, None, Option, Some, [], ◌++◌, ◌∷◌, ◌<◌, ◌≡◌, ◌≤◌, length, ℕ};
 
-/// Merging a nonempty list of weights gives exactly one tree.
+/// Merging turns a nonempty list of weights into exactly one tree.
 pub fn one_tree()
     ensures { (weights : List ℕ) → 0 < length weights → (tree : Tree) × (merge weights ≡ tree ∷ []) }
 {}
@@ -24,8 +24,8 @@ pub fn huffman_knows_its_symbols()
 
 /// The codewords of a Huffman tree cost at most as much as any prefix-free codewords for the same weights.
 ///
-/// The clause `codewords` compares with any prefix-free list of codewords, the clause `codebook` with the codewords of
-/// a prefix-free codebook. The clause `tree` is about any tree for which `IsHuffman` holds.
+/// The clause `codewords` compares them with any prefix-free list of codewords. The clause `codebook` compares them
+/// with the codewords of any prefix-free codebook. The clause `tree` is about any tree for which `IsHuffman` holds.
 pub fn least_cost()
     ensures codewords { (weights : List ℕ) (codewords others : List (List Bool)) →
         length codewords ≡ length weights → AreCodewordsOf (huffman weights) codewords →

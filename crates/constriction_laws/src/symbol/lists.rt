@@ -15,8 +15,8 @@ use constriction_symbol::reading::ReadBitStream;
 
 /// Decoding a stream whose bits begin with the codewords of symbols returns these symbols.
 ///
-/// The law requires the stream's `is_list`. All symbols have the same codebook, and the codebook may return another
-/// symbol that means the same (`is_same`). Each decode returns one symbol and reads exactly its codeword.
+/// The law requires that the stream's `is_list` holds. All symbols have the same codebook. For a symbol, the codebook
+/// may return another symbol that means the same (`is_same`). Each decode reads exactly one codeword.
 pub fn symbols_come_back<S: Semantics, R: ReadBitStream<S>, C: DecoderCodebook>()
     requires { R.is_list }
     ensures { (codebook : C) (symbols again : List C.Symbol) (code rest : List Bool) (old new : R) →
@@ -27,9 +27,9 @@ pub fn symbols_come_back<S: Semantics, R: ReadBitStream<S>, C: DecoderCodebook>(
 
 /// Decoding codewords, each with its own codebook, returns their symbols.
 ///
-/// The law requires the stream's `is_list`. The unread bits begin with the codewords of `symbols`, one codebook for
-/// each symbol. The decodes use the same codebooks in order, and read exactly these codewords. A codebook may return
-/// another symbol that means the same (`is_same`).
+/// The law requires that the stream's `is_list` holds. The unread bits begin with the codewords of `symbols`, one
+/// codebook for each symbol. The decodes use the same codebooks in order, and read exactly these codewords. For a
+/// symbol, a codebook may return another symbol that means the same (`is_same`).
 pub fn mixed_symbols_come_back<S: Semantics, R: ReadBitStream<S>, C: DecoderCodebook>()
     requires { R.is_list }
     ensures { (codebooks : List C) (symbols again : List C.Symbol) (code rest : List Bool) (old new : R) →
@@ -41,7 +41,8 @@ pub fn mixed_symbols_come_back<S: Semantics, R: ReadBitStream<S>, C: DecoderCode
 
 /// If decoding `amt` symbols stops with a codebook's error, the bits don't begin with the codewords of `amt` symbols.
 ///
-/// The law requires the stream's `is_list`. `bits` may be all unread bits of the stream, or only the first ones.
+/// The law requires that the stream's `is_list` holds. `bits` may be all unread bits of the stream, or only the first
+/// bits.
 pub fn refused_where_none_begin<S: Semantics, R: ReadBitStream<S>, C: DecoderCodebook>()
     requires { R.is_list }
     ensures { (codebook : C) (amt : ℕ) (bits tail : List Bool) (old new : R) (e : SymbolCodeError C.InvalidCodeword) →

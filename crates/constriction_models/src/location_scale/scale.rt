@@ -1,4 +1,4 @@
-//! `Scale`: a scale whose reciprocal is stored.
+//! `Scale`: a scale, stored with its reciprocal.
 
 ghost use Rattle.std.specs.Prelude.{◌≡◌, ◌/◌, ◌↔◌, IfSome, IsNone};
 ghost use Rattle.constriction_models.specs.Interpolation.{scaled};
@@ -8,10 +8,11 @@ use crate::location_scale::{LocationScale, StandardDistribution};
 use std::alloc::AllocError;
 use std::marker::PhantomData;
 
-/// A scale of a family of distributions, a multiple of `2^-16`, whose reciprocal is computed once.
+/// A scale of a family of distributions, stored with its reciprocal.
 ///
-/// `Scale::new` divides, and `Scale::at` doesn't. A program whose scales repeat or come from a table can keep values of
-/// this type. It then makes a distribution for each symbol without a division.
+/// The scale is a multiple of `2^-16`. `Scale::new` divides, and `Scale::at` doesn't. If a program's scales repeat or
+/// come from a table, it can keep values of this type. It then creates the distribution of each symbol without a
+/// division.
 ///
 /// # Examples
 ///
@@ -25,7 +26,7 @@ use std::marker::PhantomData;
 #[derive(Drop, Copy)]
 pub struct Scale<D: StandardDistribution> {
     scale: u32,
-    /// `2^36` times the number of 65536ths of the distance between neighbouring places of the table in one unit.
+    /// `2^63 / (D::WIDTH * scale)`, rounded down, as in [`LocationScale`].
     rate: u64,
     standard: PhantomData<D>,
     ghost rated: { rate ≡ 9223372036854775808 / D.WIDTH / scale },
@@ -68,9 +69,9 @@ impl<D: StandardDistribution> Scale<D> {
         self.scale
     }
 
-    /// Returns the distribution with a location and this scale.
+    /// Returns the distribution with `location` and this scale.
     ///
-    /// The location is given in multiples of `2^-16`. The type has an example.
+    /// `location` is given in multiples of `2^-16`. The type has an example.
     #[inline]
     pub fn at(self, location: i64) -> LocationScale<D>
         ensures { ⟦<LocationScale<D> as CumulativeDistribution>⟧.below result

@@ -1,4 +1,4 @@
-//! `IndexedDistribution`: the symbols of a quantizer by their index in the range.
+//! `IndexedDistribution`: a quantized distribution with symbols of type `usize`, counted from 0.
 
 ghost use Rattle.std.specs.Prelude.{◌≡◌};
 ghost use Rattle.constriction_models.specs.Quantized.{indexed};
@@ -11,9 +11,10 @@ use constriction_base::model::{DecoderModel, EncoderModel, EntropyModel};
 use constriction_words::{BitArray, WordOf};
 use std::marker::PhantomData;
 
-/// A distribution cut halfway between symbols, as a model of indices: 0 is the first symbol of the range, 1 the next.
+/// A distribution cut halfway between symbols, as a model of the symbols `0`, `1`, ..
 ///
-/// It is for callers whose symbols have to be of type `usize`, as in weight tables and in
+/// Symbol `k` of the model stands for the symbol `first + k`, where `first` is the first symbol of the range. The type
+/// is for callers who need symbols of type `usize`, as in weight tables and in
 /// [`crate::lookup::ContiguousLookupDecoderModel`].
 ///
 /// # Examples
@@ -36,9 +37,9 @@ pub struct IndexedDistribution<
 impl<Probability: WordOf<u32>, const PRECISION: usize> LeakyQuantizer<Probability, PRECISION> {
     ghost use Rattle.constriction_models.specs.Quantizers.{first_symbol, symbol_count};
 
-    /// Returns the model of a distribution, cut halfway between symbols, with indices as symbols.
+    /// Cuts `distribution` halfway between the symbols of the range, and returns a model with symbols from 0 on.
     ///
-    /// The first symbol of the range has the index 0.
+    /// Symbol `k` of the model stands for the symbol `first + k`, where `first` is the first symbol of the range.
     pub fn quantize_indexed<D: CumulativeDistribution>(
         &self,
         distribution: D,

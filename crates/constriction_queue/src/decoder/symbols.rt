@@ -21,7 +21,7 @@ use constriction_stream::decoding::Decode;
 use constriction_words::{BitArray, WordOf};
 use thiserror::Error;
 
-/// The error of a decoding step that the decoder itself refuses.
+/// The error of a decode that the decoder itself refuses.
 #[derive(Debug, Clone, Copy, PartialEq, Eq, Error)]
 pub enum DecoderFrontendError {
     /// The words don't encode a symbol of any model with this precision.
@@ -121,10 +121,11 @@ impl<
 
     /// Returns whether all encoded symbols may have been decoded.
     ///
-    /// It returns `true` exactly if both conditions hold:
+    /// The call returns `true` exactly if both conditions hold:
     ///
     /// - The backend's `maybe_exhausted` returns `true`.
-    /// - No symbol was decoded, or the point lies close above the interval's lower end, as after a seal.
+    /// - The length of the interval is `2^State::BITS - 1`, as it is if no symbol was decoded, or the distance of the
+    ///   point from the interval's lower end is below `2^(State::BITS - Word::BITS + 1) - 1`, as it is after a seal.
     #[inline]
     fn maybe_exhausted(&self) -> bool
         ensures value { IsTrue result ↔ MayBeExhausted Word.BITS State.BITS Backend.seems_exhausted self.now }

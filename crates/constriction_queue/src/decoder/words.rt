@@ -1,4 +1,4 @@
-//! Making a decoder from words or from its parts, and splitting it into its parts.
+//! Creating a decoder from words or from its parts, and splitting it into its parts.
 
 ghost use Rattle.std.specs.Prelude.{◌≡◌, ◌↔◌, ◌+◌, ◌-◌, ◌%◌, ◌<◌, ◌^◌, map, IfOk, IfErr, IsOk, IsTrue};
 ghost use Rattle.constriction_base.specs.Steps.{IsSizes};
@@ -19,7 +19,7 @@ impl<Word: WordOf<State>, State: BitArray, Backend: ReadWords<Word, Queue>> Rang
     State,
     Backend,
 > {
-    /// Makes a decoder over a backend, and reads as many words as a `State` has.
+    /// Creates a decoder over a backend, and reads as many words as a `State` has.
     ///
     /// If the backend has fewer words, the decoder stops at the first read that finds no word. It uses zero words for
     /// the missing words.
@@ -55,7 +55,7 @@ impl<Word: WordOf<State>, State: BitArray, Backend: ReadWords<Word, Queue>> Rang
         }
     }
 
-    /// Makes a decoder from words, for example the words that [`crate::RangeEncoder::into_compressed`] returns.
+    /// Creates a decoder from words, for example the words that [`crate::RangeEncoder::into_compressed`] returns.
     ///
     /// # Errors
     ///
@@ -84,7 +84,7 @@ impl<Word: WordOf<State>, State: BitArray, Backend: ReadWords<Word, Queue>> Rang
         Self::with_backend(compressed.into_read_words())
     }
 
-    /// Makes a decoder that borrows words.
+    /// Creates a decoder that borrows words.
     ///
     /// # Errors
     ///
@@ -128,7 +128,7 @@ impl<Word: WordOf<State>, State: BitArray, Backend: Holds<Word, Queue>> RangeDec
     State,
     Backend,
 > {
-    /// Makes a decoder from a backend with the remaining words, an interval, and a point.
+    /// Creates a decoder from a backend with the remaining words, an interval, and a point.
     ///
     /// The point is the number formed by the last words read. It consists of as many words as a `State` has.
     ///
@@ -184,7 +184,7 @@ impl<Word: WordOf<State>, State: BitArray, Backend: Holds<Word, Queue>> RangeDec
         (bulk, state, distance.wrapping_plus(state.lower()))
     }
 
-    /// Returns the backend, which holds the remaining words, without the words of the point.
+    /// Returns the backend. It holds the words that the decoder has not read yet.
     #[inline]
     pub fn bulk(&self) -> &Backend
         ensures backend { result.now ≡ self.now.bulk }

@@ -206,10 +206,10 @@ impl<Word: WordOf<State>, State: BitArray, Backend: Holds<Word, Stack> + Words<W
     /// seal. These are the words of `into_compressed` if the backend lends its words in the order in which they were
     /// written, as vectors and slices do. The trait [`crate::as_written::LendsAsWritten`] guarantees this order.
     pub fn iter_compressed(&self) -> RangeCompressedIter<'_, Word>
-        // The words that the backend lends, and then what the sealed words have behind those written.
+        // The words that the backend lends, and then the sealed words without the words written.
         ensures lent { result ≡ map Word.number (Backend.lent self.now.bulk)
             ++ drop (length self.now.words) (sealed_by Word.BITS State.BITS self.now) }
-        // The backend lends its words in the order in which they were written, as all of `LendsAsWritten` do.
+        // The backend lends its words in the order in which they were written, as every `LendsAsWritten` does.
         ensures words { Backend.words self.now.bulk ≡ reverse (Backend.lent self.now.bulk) →
             result ≡ sealed_by Word.BITS State.BITS self.now }
     {

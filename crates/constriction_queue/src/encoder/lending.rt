@@ -1,7 +1,7 @@
 //! Lending an encoder's compressed words to a function.
 //!
 //! The function gets words instead of a decoder, because the language has no bound for a closure that takes a decoder
-//! over a borrowed slice. The function can make a decoder from the words.
+//! over a borrowed slice. The function can create a decoder from the words.
 
 ghost use Rattle.std.specs.Prelude.{◌≡◌, ◌+◌, ◌<◌, List, length, map, IfOk, OnErr};
 ghost use Rattle.std.specs.Fn.{FnOnceReturnsAt, FnOnceTakesAt};
@@ -14,16 +14,16 @@ use constriction_words::{BitArray, WordOf};
 use std::alloc::{AllocError, Allocator};
 
 impl<Word: WordOf<State>, State: BitArray, A: Allocator> RangeEncoder<Word, State, Vec<Word, A>> {
-    /// Calls a function on the words that [`RangeEncoder::into_compressed`] would return, and returns its result.
+    /// Calls `f` on the words that [`RangeEncoder::into_compressed`] would return, and returns the result of `f`.
     ///
-    /// The encoder is unchanged after the call. In the function, [`RangeDecoder::from_compressed`] makes a decoder from
-    /// the words.
+    /// The encoder is unchanged after the call. `f` can create a decoder from the words with
+    /// [`RangeDecoder::from_compressed`].
     ///
     /// [`RangeDecoder::from_compressed`]: crate::RangeDecoder::from_compressed
     ///
     /// # Errors
     ///
-    /// Returns `AllocError` if the vector has to grow and there is no memory. The function isn't called, and the
+    /// Returns `AllocError` if the vector has to grow and there is no memory. The call doesn't call `f`, and the
     /// encoder is unchanged.
     ///
     /// # Examples

@@ -100,7 +100,8 @@ impl<Word: WordOf<State>, State: BitArray, A: Allocator> RangeEncoder<Word, Stat
     /// Returns a decoder of the words that [`RangeEncoder::into_compressed`] would return, through a guard.
     ///
     /// Dropping the decoder restores the encoder, and an error leaves the encoder unchanged. The contract of this call
-    /// states neither; tests check both. The contract of [`RangeEncoder::with_compressed`] states both for that call.
+    /// states neither fact; tests check both. The contract of [`RangeEncoder::with_compressed`] states both for that
+    /// call.
     ///
     /// # Errors
     ///

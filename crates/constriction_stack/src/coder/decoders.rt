@@ -116,7 +116,7 @@ impl<'a, Word: WordOf<State> + 'a, State: BitArray> AnsCoder<
     State,
     Cursor<Word, &'a [Word]>,
 > {
-    /// Makes a coder that borrows words in the form that [`AnsCoder::into_compressed`] returns.
+    /// Creates a coder that borrows words in the form that [`AnsCoder::into_compressed`] returns.
     ///
     /// If there are no words, the coder is empty.
     ///
@@ -147,7 +147,7 @@ impl<'a, Word: WordOf<State> + 'a, State: BitArray> AnsCoder<
         }
     }
 
-    /// Makes a coder that borrows words in the form that [`AnsCoder::into_binary`] returns.
+    /// Creates a coder that borrows words in the form that [`AnsCoder::into_binary`] returns.
     ///
     /// Every list of words has this form.
     ///
@@ -176,7 +176,7 @@ impl<Word: WordOf<State>, State: BitArray, Buf: Words<Word> + Drop> AnsCoder<
     State,
     Reverse<Cursor<Word, Buf>>,
 > {
-    /// Makes a coder from compressed words, in the reverse of the order of [`AnsCoder::into_compressed`].
+    /// Creates a coder from compressed words in the reverse order of [`AnsCoder::into_compressed`].
     ///
     /// If there are no words, the coder is empty.
     ///
@@ -209,9 +209,9 @@ impl<Word: WordOf<State>, State: BitArray, Buf: Words<Word> + Drop> AnsCoder<
         }
     }
 
-    /// Makes a coder from words in the form of [`AnsCoder::into_binary`], in reverse order.
+    /// Creates a coder from words in the reverse order of [`AnsCoder::into_binary`].
     ///
-    /// Every list of words has this form.
+    /// Every list of words is allowed.
     ///
     /// # Examples
     ///
@@ -240,7 +240,7 @@ impl<
     ReadError: Drop,
     Iter: Iterator<Item = Result<Word, ReadError>>,
 > AnsCoder<Word, State, FallibleIteratorReadWords<Iter>> {
-    /// Makes a coder from an iterator over compressed words, in the reverse of [`AnsCoder::into_compressed`]'s order.
+    /// Creates a coder from an iterator over words in the reverse order of [`AnsCoder::into_compressed`].
     ///
     /// The call takes words into the head until the head is full. Decoding takes the other words when it needs them.
     /// The caller proves that the iterator's `next` may be called.
@@ -276,10 +276,10 @@ impl<
         }
     }
 
-    /// Makes a coder from an iterator over words in the form of [`AnsCoder::into_binary`], in reverse order.
+    /// Creates a coder from an iterator over words in the reverse order of [`AnsCoder::into_binary`].
     ///
-    /// Every list of words has this form. The call takes words into the head until the head is full. Decoding takes
-    /// the other words when it needs them. The caller proves that the iterator's `next` may be called.
+    /// Every list of words is allowed. The call takes words into the head until the head is full. Decoding takes the
+    /// other words when it needs them. The caller proves that the iterator's `next` may be called.
     ///
     /// # Errors
     ///

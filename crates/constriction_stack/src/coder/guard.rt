@@ -2,7 +2,7 @@
 //!
 //! Contracts name the borrowed coder by `lender` and the number of written words by `written`, both of
 //! `specs/Guarded.antt`. The guard has no `Model`, because a `Model` couldn't pass on the ghost name of the coder. The
-//! contract of `backend` says that the backend holds the coder's words, so a caller who decodes lent words needs no
+//! contract of `backend` states that the backend holds the coder's words, so a caller who decodes lent words needs no
 //! other contract.
 
 ghost use Rattle.constriction_base.specs.Readings.{NeverRefused};
@@ -29,9 +29,8 @@ use std::fmt;
 /// [`AnsCoder::get_compressed`] returns a guard with `SEALED` 0, and has an example. [`AnsCoder::get_binary`] returns a
 /// guard with `SEALED` 1.
 ///
-/// Dropping a guard only reads back as many words as the guard wrote, so the drop allocates no memory. The drop stops at
-/// the first read that fails.
-/// If a guard is forgotten instead of dropped, the words that it wrote stay on the backend, below the head.
+/// The drop reads back as many words as the guard wrote. It allocates no memory, and stops at the first read that
+/// fails. If a guard is forgotten instead of dropped, the words that it wrote stay on the backend, below the head.
 pub struct CoderGuard<'a, Word: WordOf<State>, State: BitArray, Backend, const SEALED: usize>
 where
     Backend: WriteWords<Word> + ReadWords<Word, Stack>,
@@ -198,8 +197,8 @@ where
     ///
     /// # Errors
     ///
-    /// - `Frontend(())`: returned exactly if the head is 0, or if its bit length minus one isn't a multiple of the bits
-    ///   of a word. The coder is unchanged.
+    /// - `Frontend(())`: returned exactly if the head is 0, or if its bit length minus 1 isn't a multiple of
+    ///   `Word::BITS`. The coder is unchanged.
     /// - `Backend(error)`: the backend has no room for all words of the head, or refuses to write a word. The coder
     ///   then removes the words that it wrote, unless a read fails.
     pub fn get_binary(
@@ -227,7 +226,7 @@ where
     }
 }
 
-/// Writes the lowest words of a head onto a backend, lowest first, and removes them again if a write fails.
+/// Writes the lowest `count` words of `head` onto `bulk`, lowest first. If a write fails, removes them again.
 fn show_words<Word: WordOf<State>, State: BitArray, Backend>(
     bulk: &mut Backend,
     head: State,

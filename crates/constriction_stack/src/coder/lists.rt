@@ -57,7 +57,7 @@ impl<Word: WordOf<State>, State: BitArray, Backend: WriteWords<Word>> AnsCoder<
     /// The call goes from the last item to the first, and stops at an item that fails. Exactly the symbols of the items
     /// after this item in the list are encoded.
     ///
-    /// - `InvalidEntropyModel(error)`: the item is `Err(error)`. It doesn't change the coder.
+    /// - `InvalidEntropyModel(error)`: the item is `Err(error)`.
     /// - `CodingError(error)`: the coder refuses the item's symbol.
     pub fn try_encode_symbols_reverse<S, M, E, I, const PRECISION: usize>(
         &mut self,

@@ -1,7 +1,7 @@
 //! Importing and exporting a coder's words in two forms, and counting them.
 //!
 //! In the compressed form, the head's words have no leading zeros. In the binary form, an implicit leading 1 marks the
-//! top of the head. Therefore every list of words is the export of a coder.
+//! top of the head. Therefore every list of words is the export of a coder in binary form.
 
 ghost use Rattle.constriction_base.specs.Readings.{BeginsHigh};
 ghost use Rattle.constriction_base.specs.Steps.{IsSizes};
@@ -25,7 +25,7 @@ use thiserror::Error;
 
 /// The error for compressed words that end with a zero word.
 ///
-/// No coder exports such words: the last word is the highest word of the head, without leading zeros.
+/// No coder in a normalized state exports these words: its last word is the highest word of the head, which isn't zero.
 #[derive(Debug, Clone, Copy, PartialEq, Eq, Error)]
 #[error("Tried to decode from compressed data that ends with a zero word, which is invalid for an ANS coder.")]
 pub struct CompressedDataEndsWithZeroWord;
@@ -35,7 +35,7 @@ impl<Word: WordOf<State>, State: BitArray, Backend: ReadWords<Word, Stack>> AnsC
     State,
     Backend,
 > {
-    /// Makes a coder from words in the form that [`AnsCoder::into_compressed`] returns.
+    /// Creates a coder from words in the form that [`AnsCoder::into_compressed`] returns.
     ///
     /// The call reads words into the head until the head is full or no word is left. If `State` has twice the bits of
     /// `Word`, two words fill the head. If there are no words, the coder is empty.
@@ -137,7 +137,7 @@ impl<Word: WordOf<State>, State: BitArray, Backend: ReadWords<Word, Stack>> AnsC
     State,
     Backend,
 > {
-    /// Makes a coder from arbitrary words.
+    /// Creates a coder from arbitrary words.
     ///
     /// [`AnsCoder::into_binary`] turns the coder back into these words, including zero words at the top.
     ///
@@ -195,8 +195,7 @@ impl<Word: WordOf<State>, State: BitArray, Backend: WriteWords<Word>> AnsCoder<
     ///
     /// Every error consumes the coder.
     ///
-    /// - `None`: returned exactly if the head is 0, or if its bit length minus one isn't a multiple of the bits of a
-    ///   word.
+    /// - `None`: returned exactly if the head is 0, or if its bit length minus 1 isn't a multiple of `Word::BITS`.
     /// - `Some(error)`: the backend has no room for all words of the head, or refuses to write a word.
     pub fn into_binary(self) -> Result<Backend, Option<Backend::WriteError>>
     where
@@ -273,7 +272,7 @@ impl<Word: WordOf<State>, State: BitArray, Backend: BoundedReadWords<Word, Stack
     }
 }
 
-/// An iterator over a coder's words in the order of [`AnsCoder::into_compressed`], top word last.
+/// An iterator over a coder's words in the order of [`AnsCoder::into_compressed`], with the top word last.
 ///
 /// [`AnsCoder::iter_compressed`] returns it. Contracts describe the iterator by the numbers of the words that are left.
 ///
@@ -331,11 +330,11 @@ impl<Word: WordOf<State>, State: BitArray, Backend: Holds<Word, Stack> + Words<W
     State,
     Backend,
 > {
-    /// Returns an iterator over the words that [`AnsCoder::into_compressed`] would return.
+    /// Returns an iterator over the backend's words, followed by the words of the head.
     ///
-    /// The coder is unchanged. The words that the backend lends come first, then the words of the head, lowest first,
-    /// without leading zero words. These are the words of `into_compressed` if the backend lends its words in the order
-    /// in which they were written, as vectors and slices do.
+    /// The coder is unchanged. The words of the head come lowest first, without leading zero words. If the backend
+    /// lends its words in the order in which they were written, as vectors and slices do, these are the words that
+    /// [`AnsCoder::into_compressed`] would return.
     pub fn iter_compressed(&self) -> AnsCompressedIter<'_, Word, State>
         ensures words { result ≡ map Word.number (Backend.lent self.now.backend)
             ++ reverse (digits_of (2 ^ Word.BITS) self.now.state.head) }

@@ -56,7 +56,7 @@ pub trait EncodeReverse<const PRECISION: usize>: Encode<PRECISION> {
         Ok(())
     }
 
-    /// Encodes symbols from the last to the first, each under its own model, where an item may be an error instead.
+    /// Encodes symbols from the last to the first, from items that are either a symbol with its own model or an error.
     ///
     /// Where `counts_symbols` holds, the caller proves that `symbols_left` is at least the number of items.
     ///
@@ -65,7 +65,7 @@ pub trait EncodeReverse<const PRECISION: usize>: Encode<PRECISION> {
     /// The call goes from the last item to the first, and stops at an item that fails. Exactly the symbols of the items
     /// after this item in the list are encoded.
     ///
-    /// - `InvalidEntropyModel(error)`: the item is `Err(error)`. It doesn't change the coder.
+    /// - `InvalidEntropyModel(error)`: the item is `Err(error)`.
     /// - `CodingError(error)`: the coder refuses the item's symbol.
     final fn try_encode_symbols_reverse<S, M, E, I>(
         &mut self,

@@ -13,7 +13,7 @@ use constriction_words::WordOf;
 
 /// An iterator that decodes a given number of symbols, all under one model.
 ///
-/// It is returned by [`Decode::decode_iid_symbols`](crate::decoding::Decode::decode_iid_symbols).
+/// [`Decode::decode_iid_symbols`](crate::decoding::Decode::decode_iid_symbols) returns it.
 ///
 /// # Examples
 ///

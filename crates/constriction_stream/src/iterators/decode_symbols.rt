@@ -9,9 +9,9 @@ use constriction_base::errors::CoderError;
 use constriction_base::model::{DecoderModel, EntropyModel};
 use constriction_words::WordOf;
 
-/// An iterator that decodes one symbol for each of the models.
+/// An iterator that decodes one symbol for each model.
 ///
-/// It is returned by [`Decode::decode_symbols`](crate::decoding::Decode::decode_symbols).
+/// [`Decode::decode_symbols`](crate::decoding::Decode::decode_symbols) returns it.
 ///
 /// # Examples
 ///

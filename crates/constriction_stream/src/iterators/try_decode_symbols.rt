@@ -12,7 +12,7 @@ use constriction_words::WordOf;
 
 /// An iterator that decodes one symbol for each model, where an item may be an error instead of a model.
 ///
-/// It is returned by [`Decode::try_decode_symbols`](crate::decoding::Decode::try_decode_symbols).
+/// [`Decode::try_decode_symbols`](crate::decoding::Decode::try_decode_symbols) returns it.
 ///
 /// # Examples
 ///
@@ -25,7 +25,7 @@ use constriction_words::WordOf;
 pub struct TryDecodeSymbols<'a, Decoder, Models, const PRECISION: usize> {
     /// The decoder, positioned after the symbols returned so far.
     pub decoder: &'a mut Decoder,
-    /// The items that are left. Each is a model, or an error instead of a model.
+    /// The items that are left. Each item is a model, or an error instead of a model.
     pub models: Models,
 }
 

@@ -22,8 +22,8 @@ impl<
     ///
     /// # Errors
     ///
-    /// The backend's error if there are bits outside the backend, and the backend refuses the word of these bits. The
-    /// coder is consumed.
+    /// Returns the backend's error if there are bits outside the backend, and the backend refuses the word of these
+    /// bits. The coder is consumed.
     pub fn into_decoder(self) -> Result<QueueDecoder<Word, B::IntoReadWords>, B::WriteError>
     where
         B: Drop,
@@ -43,11 +43,11 @@ impl<
 
     /// Turns the queue into an iterator over its bits, from first to last.
     ///
-    /// The iterator then returns the zeros that complete the last word.
+    /// After the bits, the iterator returns the zeros that complete the last word.
     ///
     /// # Errors
     ///
-    /// The errors of [`QueueEncoder::into_decoder`].
+    /// Returns the errors of [`QueueEncoder::into_decoder`].
     pub fn into_overshooting_iter(
         self,
     ) -> Result<QueueDecoder<Word, B::IntoReadWords>, B::WriteError>

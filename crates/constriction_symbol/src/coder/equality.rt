@@ -16,7 +16,7 @@ impl<Word: BitArray, S: Semantics, B: Holds<Word, Stack> + PartialEq> PartialEq
     ghost laws = { and_per (on_per (λ c. c.last) (lists_per (partial_equiv_from_equiv bool_eq_equiv)))
         (on_per (λ c. c.backend) B.laws) };
 
-    /// Returns whether the bits outside the backends are equal, and the backends are equal.
+    /// Returns whether the coders have equal backends and equal bits outside their backends.
     fn eq(&self, other: &Self) -> bool {
         self.last == other.last && self.backend == other.backend
     }

@@ -1,6 +1,6 @@
 //! Guards that lend a coder's compressed words.
 //!
-//! A guard appends the words that an export would add to the vector. Its drop removes these words.
+//! A guard appends to the coder's vector the words that an export would add. Its drop removes these words.
 
 ghost use Rattle.constriction_symbol.specs.Bits.{IsQueueWords, IsStackWords};
 ghost use Rattle.constriction_symbol.specs.Guards.{LacksEnd, LacksRest, SameBits, bits_without};
@@ -18,16 +18,16 @@ use std::fmt;
 /// A guard that lends all compressed words of a coder until the guard is dropped.
 ///
 /// The guard appends to the coder's vector the words that an export would add. The drop removes these words, and
-/// allocates nothing. A forgotten guard leaves them in the vector.
+/// allocates nothing. A guard that is never dropped leaves these words in the vector.
 pub struct CoderGuard<'a, Word: BitArray, S: Semantics, A: Allocator = Global> {
     inner: &'a mut SymbolCoder<Word, S, Vec<Word, A>>,
     count: usize,
 }
 
-/// The guard of a stack of bits. [`StackCoder::get_compressed`] makes it, and has an example.
+/// The guard of a stack of bits. [`StackCoder::get_compressed`] returns it, and has an example.
 pub type StackCoderGuard<'a, Word, A = Global> = CoderGuard<'a, Word, Stack, A>;
 
-/// The guard of a queue of bits. [`QueueEncoder::get_compressed`] makes it.
+/// The guard of a queue of bits. [`QueueEncoder::get_compressed`] returns it.
 pub type QueueEncoderGuard<'a, Word, A = Global> = CoderGuard<'a, Word, Queue, A>;
 
 impl<'a, Word: BitArray, S: Semantics, A: Allocator> CoderGuard<'a, Word, S, A> {
@@ -58,15 +58,16 @@ impl<Word: BitArray, S: Semantics, A: Allocator> Drop for CoderGuard<'_, Word, S
 
 impl<Word: BitArray + fmt::Debug, S: Semantics, A: Allocator> fmt::Debug
     for CoderGuard<'_, Word, S, A> {
-    /// Formats the list of the words.
+    /// Formats the list of words.
     fn fmt<W: fmt::Write>(&self, f: &mut fmt::Formatter<W>) -> fmt::Result {
         f.debug_list().entries(self.words().iter()).finish()
     }
 }
 
 impl<Word: BitArray, A: Allocator> StackCoder<Word, Vec<Word, A>> {
-    /// Writes the words that end the bits, keeps the bits outside the vector, and returns how many words it wrote: two
-    /// if the last word is full, else one.
+    /// Writes the words that end the bits, and returns the number of words written.
+    ///
+    /// Writes two words if the word outside the vector is full, else one. The bits outside the vector are unchanged.
     fn put_end(&mut self) -> Result<usize, AllocError>
         ensures shows { OnOk result (IsStackWords Word.BITS self.old.bits (map Word.number self.new.backend.items)) }
         ensures back { IfOk result (λ count. bits_without Word.BITS Word.number count self.new ≡ self.old.bits) }
@@ -102,8 +103,9 @@ impl<Word: BitArray, A: Allocator> StackCoder<Word, Vec<Word, A>> {
 }
 
 impl<Word: BitArray, A: Allocator> QueueEncoder<Word, Vec<Word, A>> {
-    /// Writes the word of the bits outside the vector, keeps these bits, and returns how many words it wrote: none if
-    /// there are no such bits, else one.
+    /// Writes the word of the bits outside the vector, and returns the number of words written.
+    ///
+    /// Writes nothing if there are no bits outside the vector, else one word. These bits are unchanged.
     fn put_rest(&mut self) -> Result<usize, AllocError>
         ensures shows { OnOk result (IsQueueWords Word.BITS self.old.bits (map Word.number self.new.backend.items)) }
         ensures back { IfOk result (λ count. bits_without Word.BITS Word.number count self.new ≡ self.old.bits) }
@@ -133,8 +135,8 @@ impl<Word: BitArray, A: Allocator> StackCoder<Word, Vec<Word, A>> {
     ///
     /// # Errors
     ///
-    /// `AllocError` if there is no memory for the words that end the bits: two words if the last word is full, else
-    /// one. The bits are unchanged.
+    /// Returns `AllocError` if there is no memory for the words that end the bits: two words if the word outside the
+    /// vector is full, else one. The bits are unchanged.
     ///
     /// # Examples
     ///
@@ -174,8 +176,8 @@ impl<Word: BitArray, A: Allocator> QueueEncoder<Word, Vec<Word, A>> {
     ///
     /// # Errors
     ///
-    /// `AllocError` if there are bits outside the vector, and no memory for the word of these bits. The bits are
-    /// unchanged.
+    /// Returns `AllocError` if there are bits outside the vector, and no memory for the word of these bits. The bits
+    /// are unchanged.
     pub fn get_compressed(&mut self) -> Result<QueueEncoderGuard<'_, Word, A>, AllocError>
         ensures same_reference { IfOk result (λ g. (lender g).ghost_name ≡ self.entry.ghost_name) }
         ensures shows { IfOk result (λ g.

@@ -17,11 +17,11 @@ use std::marker::PhantomData;
 impl<Word: BitArray, B: WriteWords<Word>> StackCoder<Word, B> {
     /// Returns the words of the stack: its bits, a 1 that ends the bits, and zeros up to a whole word.
     ///
-    /// For a stack without bits this is the single word 1.
+    /// A stack without bits has the single word 1.
     ///
     /// # Errors
     ///
-    /// The backend's error if the backend refuses the last word, or a full word before it. The coder is consumed.
+    /// Returns the backend's error if the backend refuses a word. The coder is consumed.
     pub fn into_compressed(self) -> Result<B, B::WriteError>
     where
         B: Drop,
@@ -46,7 +46,7 @@ impl<Word: BitArray, B: WriteWords<Word>> StackCoder<Word, B> {
 }
 
 impl<Word: BitArray, B: ReadWords<Word, Stack>> StackCoder<Word, B> {
-    /// Makes a stack from the words that [`StackCoder::into_compressed`] returns.
+    /// Creates a stack from the words that [`StackCoder::into_compressed`] returns.
     ///
     /// The highest set bit of the last word marks the end of the bits. If there are no words, the stack has no bits.
     ///
@@ -104,8 +104,8 @@ impl<Word: BitArray, B: WriteWords<Word>> QueueEncoder<Word, B> {
     ///
     /// # Errors
     ///
-    /// The backend's error if there are bits outside the backend, and the backend refuses the word of these bits. The
-    /// coder is consumed.
+    /// Returns the backend's error if there are bits outside the backend, and the backend refuses the word of these
+    /// bits. The coder is consumed.
     pub fn into_compressed(self) -> Result<B, B::WriteError>
     where
         B: Drop,
@@ -131,9 +131,9 @@ impl<Word: BitArray, B: WriteWords<Word>> QueueEncoder<Word, B> {
 }
 
 impl<Word: BitArray, B: Holds<Word, Stack>> QueueEncoder<Word, B> {
-    /// Makes a queue of all bits of a backend's words.
+    /// Creates a queue of all bits of a backend's words.
     ///
-    /// It treats no bit as padding. The zeros that completed the last word of an export become bits of the queue.
+    /// The call treats no bit as padding. The zeros that complete the last word of an export become bits of the queue.
     pub fn from_compressed(compressed: B) -> Self
         ensures bits { result.bits ≡ bits_of_words Word.BITS (map Word.number (reverse (B.words compressed))) }
         ensures last { result.last ≡ [] }

@@ -12,7 +12,7 @@ use crate::turning::same_number;
 use constriction_words::BitArray;
 use std::alloc::{AllocError, Global};
 
-/// Returns the number of a codeword with one more bit, or 0 if the number has no room for it.
+/// Returns the number `above` with `bit` appended, or 0 if `above` is 0 or has no room for another bit.
 fn codeword_below(above: usize, bit: usize) -> usize
     requires { bit < 2 }
     ensures { OneBitMore above bit result }
@@ -23,9 +23,10 @@ fn codeword_below(above: usize, bit: usize) -> usize
     2 * above + bit
 }
 
-/// Returns the number of each node's codeword, or 0 if the codeword has too many bits.
+/// Returns the number of each node's codeword, given the numbers that `parents_of` returns.
 ///
-/// The number is a leading 1 followed by the codeword, first bit highest.
+/// The number is a leading 1 followed by the codeword, first bit highest. It is 0 if the codeword has `usize::BITS`
+/// bits or more.
 pub fn codewords_of(alloc: Global, nodes: &[usize]) -> Result<Vec<usize>, AllocError>
     requires rising { GoesUp (length nodes.now) nodes.now }
     ensures { IfOk result (λ codewords. HasCodewords nodes.now codewords.items) }
@@ -42,9 +43,9 @@ pub fn codewords_of(alloc: Global, nodes: &[usize]) -> Result<Vec<usize>, AllocE
     Ok(codewords)
 }
 
-/// Returns the bits below the highest 1, first bit highest, and their count.
+/// Returns the bits of `number` below its highest 1, and the count of these bits.
 ///
-/// Returns `None` if there is no bit below the highest 1, or if the count is at least `Word::BITS`.
+/// Returns `None` if `number` is below 2, or if the count is at least `Word::BITS`.
 #[inline]
 pub fn below_one<Word: BitArray>(number: usize) -> Option<(Word, u32)>
     ensures some { OnSome result (1 < number) }

@@ -9,7 +9,12 @@ use constriction_stream::encoding::Lent;
 use constriction_words::BitArray;
 use std::alloc::{AllocError, Global};
 
-/// Collects weights up to the first error.
+/// Collects the weights of an iterator of `Result`s, up to the first error.
+///
+/// # Errors
+///
+/// - `Iterator(error)` if an item is `Err(error)`.
+/// - `Memory` if there is no memory for a weight.
 pub fn collect_given<P: BitArray, E, I>(
     alloc: Global,
     probabilities: I,
@@ -36,7 +41,11 @@ where
     Ok(weights)
 }
 
-/// Collects lent weights.
+/// Collects the weights that the items of `probabilities` lend.
+///
+/// # Errors
+///
+/// Returns `AllocError` if there is no memory for a weight.
 pub fn collect_lent<P: BitArray, L, I>(
     alloc: Global,
     probabilities: I,

@@ -25,8 +25,8 @@ use std::marker::Model;
 
 /// A Huffman tree for decoding, with a codeword for each of the symbols `0`, `1`, ..
 ///
-/// No prefix-free codebook costs less for the same weights. Contracts see the tree itself, with symbols as its leaves.
-/// The codeword of a symbol is the path from the root to its leaf.
+/// No prefix-free codebook costs less for the same weights. Contracts describe a `DecoderHuffmanTree` by a tree whose
+/// leaves are the symbols. The codeword of a symbol is the path from the root to the symbol's leaf.
 ///
 /// # Examples
 ///
@@ -37,12 +37,12 @@ use std::marker::Model;
 /// ```
 #[derive(Debug, Drop)]
 pub struct DecoderHuffmanTree {
-    /// The children of each inner node, the root last. A child is a symbol, or the number of symbols plus a place in
-    /// this list.
+    /// The two children of each inner node, the root last. A child is a symbol, or the number of symbols plus the index
+    /// of an inner node in this list.
     nodes: Vec<[usize; 2]>,
-    /// The decoding table: entry `1xyz` (binary) says where the bits `x`, `y`, `z` lead.
+    /// The decoding table: entry `1xyz` (binary) is the [`Place`] of the bits `x`, `y`, `z`.
     places: Vec<Place>,
-    /// How many bits the table looks up.
+    /// The number of bits that the table looks up.
     most: u32,
 }
 
@@ -68,14 +68,14 @@ impl Clone for DecoderHuffmanTree {
 
     ghost is_infallible = { λ _. ⊥ };
 
-    /// Returns the same tree.
+    /// Returns a copy of the tree.
     ///
     /// The clone isn't derived, because a derived clone would have to prove the tree's invariant from the clones of its
     /// fields alone.
     ///
     /// # Errors
     ///
-    /// `AllocError` if there is no memory for the tree.
+    /// Returns `AllocError` if there is no memory for the tree.
     fn clone(&self) -> Result<Self, AllocError> {
         let nodes = self.nodes.clone()?;
         let places = self.places.clone()?;
@@ -87,7 +87,7 @@ impl Clone for DecoderHuffmanTree {
     }
 }
 
-/// Makes the tree of these weights.
+/// Builds the tree of `weights`.
 fn tree_of<P: BitArray, E>(
     alloc: Global,
     weights: &[P],
@@ -105,13 +105,14 @@ fn tree_of<P: BitArray, E>(
 }
 
 impl DecoderHuffmanTree {
-    /// Makes a tree with one symbol for each weight, in memory of `alloc`.
+    /// Builds a tree with one symbol for each weight, in memory from `alloc`.
     ///
     /// The items of `probabilities` lend the weights ([`Lent`]). They may be references to weights.
     ///
     /// At first each symbol is a tree of its own. Each merge joins the two trees of least weight, until one tree is
     /// left. Of two trees with equal weights, the tree with the lower index is the lesser. The index of a symbol's tree
-    /// is the symbol, and each joined tree gets the next index. The lesser of the two joined trees gets bit 0.
+    /// is the symbol. The tree that a merge creates gets the next index. Of the two trees that a merge joins, the
+    /// lesser gets bit 0.
     ///
     /// # Errors
     ///
@@ -150,7 +151,7 @@ impl DecoderHuffmanTree {
         }
     }
 
-    /// Makes a tree from an iterator of `Result`s of weights.
+    /// Builds a tree from an iterator of `Result`s of weights.
     ///
     /// # Errors
     ///
@@ -217,7 +218,7 @@ impl DecoderCodebook for DecoderHuffmanTree {
 
     ghost invalid_law = { λ t bits e never. absurd never };
 
-    /// Reads the bits of a codeword, and returns its symbol. It needs no memory.
+    /// Reads the bits of a codeword, and returns its symbol. The call needs no memory.
     ///
     /// # Errors
     ///
@@ -249,7 +250,7 @@ impl DecoderCodebook for DecoderHuffmanTree {
     }
 }
 
-/// Reads bits from the root of a tree to a symbol, one bit for each inner node.
+/// Walks from the root of a tree to a symbol, and returns the symbol. The walk reads one bit at each inner node.
 #[inline]
 fn walk<V, E, I: Iterator<Item = Result<bool, E>>>(
     nodes: &[[usize; 2]],
@@ -275,7 +276,7 @@ fn walk<V, E, I: Iterator<Item = Result<bool, E>>>(
     Ok(index)
 }
 
-/// Follows the highest bits of a word from a place to a symbol, and returns it with the length of its codeword.
+/// Follows the highest bits of `bits` from `place` to a symbol. Returns the symbol and its codeword's length.
 ///
 /// Returns `None` if the codeword has `count` bits or more.
 #[inline]

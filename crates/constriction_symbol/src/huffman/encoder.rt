@@ -24,8 +24,8 @@ use std::marker::Model;
 
 /// A Huffman tree for encoding, with a codeword for each of the symbols `0`, `1`, ..
 ///
-/// No prefix-free codebook costs less for the same weights. Contracts see the tree itself, with symbols as its leaves.
-/// The codeword of a symbol is the path from the root to its leaf.
+/// No prefix-free codebook costs less for the same weights. Contracts describe an `EncoderHuffmanTree` by a tree whose
+/// leaves are the symbols. The codeword of a symbol is the path from the root to the symbol's leaf.
 ///
 /// # Examples
 ///
@@ -36,10 +36,10 @@ use std::marker::Model;
 /// ```
 #[derive(Debug, Clone, Drop)]
 pub struct EncoderHuffmanTree {
-    /// For each node (the symbols first, the root last) twice its parent, plus 1 if it is the child at bit 1; 0 for the
-    /// root.
+    /// Twice the index of each node's parent, plus 1 if the node is the child at bit 1. The root has the number 0.
+    /// Symbols come first, the root last.
     nodes: Vec<usize>,
-    /// For each node its codeword below a 1; 0 if the codeword has as many bits as the number.
+    /// The codeword of each node behind a leading 1, or 0 if the codeword has `usize::BITS` bits or more.
     codewords: Vec<usize>,
     /// The allocator for the prefix form of long codewords.
     alloc: Global,
@@ -60,7 +60,7 @@ impl Model for EncoderHuffmanTree {
         × HasCodewords t.nodes.items t.codewords.items };
 }
 
-/// Makes the tree of these weights.
+/// Builds the tree of `weights`.
 fn tree_of<P: BitArray, E>(
     alloc: Global,
     weights: &[P],
@@ -87,13 +87,14 @@ fn tree_of<P: BitArray, E>(
 }
 
 impl EncoderHuffmanTree {
-    /// Makes a tree with one symbol for each weight, in memory of `alloc`.
+    /// Builds a tree with one symbol for each weight, in memory from `alloc`.
     ///
     /// The items of `probabilities` lend the weights ([`Lent`]). They may be references to weights.
     ///
     /// At first each symbol is a tree of its own. Each merge joins the two trees of least weight, until one tree is
     /// left. Of two trees with equal weights, the tree with the lower index is the lesser. The index of a symbol's tree
-    /// is the symbol, and each joined tree gets the next index. The lesser of the two joined trees gets bit 0.
+    /// is the symbol. The tree that a merge creates gets the next index. Of the two trees that a merge joins, the
+    /// lesser gets bit 0.
     ///
     /// # Errors
     ///
@@ -132,7 +133,7 @@ impl EncoderHuffmanTree {
         }
     }
 
-    /// Makes a tree from an iterator of `Result`s of weights.
+    /// Builds a tree from an iterator of `Result`s of weights.
     ///
     /// # Errors
     ///
@@ -189,7 +190,9 @@ impl Codebook for EncoderHuffmanTree {
 }
 
 impl SuffixCodebook for EncoderHuffmanTree {
-    /// Emits the codeword from the last bit to the first, climbing from the symbol to the root. It needs no memory.
+    /// Emits the codeword from the last bit to the first, climbing from the symbol to the root.
+    ///
+    /// The call needs no memory.
     #[inline]
     fn emit_suffix<E, F: FnMut(bool) -> Result<(), E>>(
         &self,
@@ -210,8 +213,8 @@ impl EncoderCodebook for EncoderHuffmanTree {
 
     /// Emits the codeword from the first bit to the last.
     ///
-    /// The climb from the symbol to the root finds the bits from the last to the first, so they are reversed. Reversing
-    /// more than `2 * usize::BITS` bits needs memory.
+    /// The climb from the symbol to the root finds the bits from the last to the first, so the call reverses them.
+    /// Reversing more than `2 * usize::BITS` bits needs memory.
     #[inline]
     fn encode_symbol_prefix<E: From<AllocError>, F: FnMut(bool) -> Result<(), E>>(
         &self,
@@ -221,7 +224,7 @@ impl EncoderCodebook for EncoderHuffmanTree {
         reversed_codeword(self.alloc, self, symbol, emit)
     }
 
-    /// Emits the codeword from the last bit to the first. It needs no memory.
+    /// Emits the codeword from the last bit to the first. The call needs no memory.
     #[inline]
     fn encode_symbol_suffix<E: From<AllocError>, F: FnMut(bool) -> Result<(), E>>(
         &self,
@@ -231,7 +234,9 @@ impl EncoderCodebook for EncoderHuffmanTree {
         self.emit_suffix(symbol, emit)
     }
 
-    /// Returns the codeword of a symbol if it has at least one bit, and fewer bits than `Word`.
+    /// Returns the whole codeword of the symbol in one word, and the codeword's length in bits.
+    ///
+    /// Returns `None` if there is no codeword, or if its length is 0, at least `Word::BITS`, or at least `usize::BITS`.
     #[inline]
     fn codeword_at_once<Word: BitArray>(&self, symbol: &usize) -> Option<(Word, u32)> {
         if *symbol > self.nodes.len() / 2 {

@@ -1,4 +1,4 @@
-//! The reason why weights make no Huffman tree.
+//! The reason why building a Huffman tree fails.
 
 ghost use Rattle.constriction_symbol.specs.declared.huffman.error.HuffmanError.TheVariants as errors;
 ghost use Rattle.std.specs.Prelude.{◌≡◌};
@@ -7,10 +7,10 @@ use std::alloc::AllocError;
 use std::fmt::Display;
 use thiserror::Error;
 
-/// The reason why weights make no Huffman tree.
+/// The reason why building a Huffman tree fails.
 ///
-/// Collecting the weights comes first, and may end with `Iterator` or `Memory`. `Empty`, `TooManySymbols` and
-/// `WeightOverflow` are then checked in this order. Last comes `Memory` for the tree.
+/// The constructors check in this order: `Iterator` or `Memory` while they collect the weights, `Empty`,
+/// `TooManySymbols`, `WeightOverflow`, and `Memory` for the tree.
 ///
 /// # Examples
 ///

@@ -1,4 +1,4 @@
-//! The table of a decoding tree: where the first bits of a codeword lead from the root.
+//! The table of first bits of a decoding tree: the nodes that the first bits of codewords lead to from the root.
 //!
 //! The index of an entry is a leading 1 followed by the bits. Entry `n` follows from entry `n / 2` and one more bit, so
 //! one loop fills the table. The table looks up one bit more than the longest codeword would have if all weights were
@@ -11,17 +11,17 @@ ghost use Rattle.std.specs.Prelude.{Bool, IfOk, List, [], length, ◌+◌, ◌++
 use constriction_words::BitArray;
 use std::alloc::{AllocError, Global};
 
-/// The largest number of bits that the table looks up. Such a table takes 16 KiB.
+/// The largest number of bits that the table looks up. A table of 9 bits takes 16 KiB.
 const MOST: u32 = 9;
 
-/// Where a list of bits leads: to a symbol after its first `taken` bits, or to an inner node after all of them.
+/// The node that a list of bits leads to: a symbol after the first `taken` bits, or an inner node after all bits.
 #[derive(Debug, Clone, Copy)]
 pub struct Place {
     pub index: usize,
     pub taken: u32,
 }
 
-/// Returns how many bits the table of a tree with `nodes` inner nodes looks up.
+/// Returns the number of bits that the table of a tree with `nodes` inner nodes looks up.
 ///
 /// This is one more than the longest codeword would have if all weights were equal, and at most `MOST`.
 fn most_of(nodes: usize) -> u32
@@ -32,7 +32,7 @@ fn most_of(nodes: usize) -> u32
     if count < MOST { count } else { MOST }
 }
 
-/// Returns where one more bit leads.
+/// Returns the place after one more bit. If `place` is a symbol, this is `place` itself.
 fn place_below(nodes: &[[usize; 2]], place: Place, bit: usize) -> Place
     requires tree { HoldsTree nodes.now (tree_of_pairs nodes.now) }
     requires place { (bits : List Bool) × (length bits < 32) × IsPlace nodes.now bits place }
@@ -50,9 +50,9 @@ fn place_below(nodes: &[[usize; 2]], place: Place, bit: usize) -> Place
     }
 }
 
-/// Makes the decoding table: entry `1xyz` (binary) says where the bits `x`, `y`, `z` lead.
+/// Returns the decoding table, and the number of bits that it looks up.
 ///
-/// Also returns how many bits the table looks up.
+/// Entry `1xyz` (binary) is the [`Place`] of the bits `x`, `y`, `z`.
 pub fn places_of(alloc: Global, nodes: &[[usize; 2]]) -> Result<(Vec<Place>, u32), AllocError>
     requires tree { HoldsTree nodes.now (tree_of_pairs nodes.now) }
     ensures some { IfOk result (λ table. 0 < table.1) }
@@ -75,7 +75,7 @@ pub fn places_of(alloc: Global, nodes: &[[usize; 2]]) -> Result<(Vec<Place>, u32
     Ok((places, most))
 }
 
-/// Returns the lesser of two counts.
+/// Returns the lesser of `most` and `all`.
 #[inline]
 fn lesser(most: u32, all: u32) -> u32
     ensures most { result ≤ most }

@@ -1,8 +1,8 @@
-//! Huffman's algorithm: joining the two least weights until one is left.
+//! Huffman's algorithm: joining the two trees of least weight until one tree is left.
 //!
 //! A leaf is the tree of one symbol, and a union is a tree that a merge joined. The leaves are sorted, and no union
 //! weighs less than an earlier union. So the least tree is the first leaf or the first union that is left. If both have
-//! the same weight, it is the leaf, because leaves have the lower indices.
+//! the same weight, the leaf is the lesser, because leaves have lower indices than unions.
 //!
 //! Weights are collected before the merge, because the merge requires that their sum fits. Collecting lent weights may
 //! fail with `Memory` at each weight.
@@ -20,7 +20,7 @@ use constriction_words::BitArray;
 use std::alloc::{AllocError, Global};
 use std::collections::VecDeque;
 
-/// Returns whether the sum of the weights fits their type. A Huffman tree requires it.
+/// Returns whether the sum of the weights fits their type, as a Huffman tree requires.
 pub fn total_fits<P: BitArray>(weights: &[P]) -> bool
     ensures { IsTrue result ↔ (sum_by P.number weights.now < 2 ^ P.BITS) }
 {
@@ -34,7 +34,7 @@ pub fn total_fits<P: BitArray>(weights: &[P]) -> bool
     true
 }
 
-/// Returns the weights with their indices, sorted.
+/// Returns the weights with their indices, sorted by weight and then by index.
 fn sorted_leaves<P: BitArray>(
     alloc: Global,
     weights: &[P],
@@ -54,7 +54,9 @@ fn sorted_leaves<P: BitArray>(
     Ok(VecDeque::from_vec(leaves))
 }
 
-/// Removes the least tree of both queues. If a leaf and a union weigh the same, it is the leaf.
+/// Removes the least tree of both queues and returns it, or returns `None` if both queues are empty.
+///
+/// If a leaf and a union have the same weight, the leaf is the lesser.
 fn take_least<P: BitArray>(
     leaves: &mut VecDeque<Weighed<P>>,
     unions: &mut VecDeque<Weighed<P>>,
@@ -83,7 +85,7 @@ fn take_least<P: BitArray>(
     }
 }
 
-/// Returns the pairs of indices that the merge joins, in order, until one tree is left.
+/// Returns the indices of the two trees that each merge joins, in order, until one tree is left.
 fn merge_all<P: BitArray>(alloc: Global, weights: &[P]) -> Result<Vec<[usize; 2]>, AllocError>
     requires some { 0 < length weights.now }
     requires total { sum_by P.number weights.now < 2 ^ P.BITS }
@@ -108,12 +110,15 @@ fn merge_all<P: BitArray>(alloc: Global, weights: &[P]) -> Result<Vec<[usize; 2]
     Ok(pairs)
 }
 
-/// Returns the pairs of indices that the merge of at most `most` weights joins, in order.
+/// Returns the indices of the two trees that each merge joins, in order, for at most `most` weights.
 ///
 /// # Errors
 ///
-/// - `Empty` if there is no weight, `TooManySymbols` if there are more than `most` weights, and `WeightOverflow` if
-///   the sum of the weights doesn't fit their type. They are checked in this order.
+/// Checked in this order:
+///
+/// - `Empty` if there is no weight.
+/// - `TooManySymbols` if there are more than `most` weights.
+/// - `WeightOverflow` if the sum of the weights doesn't fit their type.
 /// - `Memory` if there is no memory.
 pub fn merged_pairs<P: BitArray, E>(
     alloc: Global,

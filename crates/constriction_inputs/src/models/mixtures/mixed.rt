@@ -96,7 +96,7 @@ impl<D: CumulativeDistribution, P: WordOf<u32>, const PRECISION: usize> DecoderM
     }
 }
 
-/// Returns a component of weight 1, for a mixture that no symbol has filled yet.
+/// Returns a component of weight 1, which a mixture holds until the first `turn_to`.
 pub(super) fn first_component(family: Family) -> Component<FamilyDistribution>
     ensures { result.weight ≡ 1 }
 {
@@ -106,9 +106,9 @@ pub(super) fn first_component(family: Family) -> Component<FamilyDistribution>
     }
 }
 
-/// Replaces components by those of the row at a place, where rows of `width` stand one behind another.
+/// Replaces `components` by the components of row `place`.
 ///
-/// This takes no memory.
+/// The three lists have rows of `width` numbers, one row after another. The call needs no memory.
 #[inline]
 pub(super) fn fill_from_row(
     components: &mut Vec<Component<FamilyDistribution>>,
@@ -144,7 +144,7 @@ pub(super) fn fill_from_row(
     );
 }
 
-/// Replaces components by those of these weights, locations and scales. This takes no memory.
+/// Replaces `components` by components with these weights, locations and scales. The call needs no memory.
 #[inline]
 fn fill(
     components: &mut Vec<Component<FamilyDistribution>>,

@@ -1,9 +1,9 @@
-//! Whether weights can be mixed.
+//! Checks the sums of the weights of mixtures.
 
 ghost use Rattle.std.specs.Prelude.{◌≡◌, ◌↔◌, ◌*◌, length, IsTrue};
 ghost use Rattle.constriction_inputs.specs.Mixtures.{AreMixable, IsMixable};
 
-/// Returns whether weights add up to more than 0, and to `2^32` at most.
+/// Returns whether `weights` add up to at least 1 and at most `2^32`.
 fn is_mixable(weights: &[u32]) -> bool
     ensures { IsTrue result ↔ IsMixable weights.now }
 {
@@ -17,7 +17,7 @@ fn is_mixable(weights: &[u32]) -> bool
     total != 0
 }
 
-/// Returns whether the weights of each of `count` rows can be mixed.
+/// Returns whether each of `count` rows of `width` weights adds up to at least 1 and at most `2^32`.
 pub(super) fn are_mixable(weights: &[u32], width: usize, count: usize) -> bool
     requires { length weights.now ≡ width * count }
     ensures { IsTrue result ↔ AreMixable width count weights.now }

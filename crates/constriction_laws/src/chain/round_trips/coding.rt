@@ -1,4 +1,4 @@
-//! List calls of the chain coder, with contracts in the terms of the laws: the states to which they lead.
+//! List calls of the chain coder. Their contracts describe the states that they reach, in the definitions of the laws.
 
 ghost use Rattle.std.specs.Prelude.{◌≡◌, length, reverse, IfErr, IfOk, OnOk};
 ghost use Rattle.constriction_base.specs.Models.{pairs_of};
@@ -21,7 +21,7 @@ use std::alloc::Global;
 ///
 /// # Errors
 ///
-/// - `OutOfData(count)`: after `count` symbols a word is needed, and no compressed word is left.
+/// - `OutOfData(count)`: after `count` symbols the coder needs a compressed word, and none is left.
 /// - `Refused`: a read or a write failed, or there was no memory.
 pub fn decode_pairs<
     Word: WordOf<State>,
@@ -65,7 +65,7 @@ where
 /// # Errors
 ///
 /// - `Frontend(ImpossibleSymbol)`: a model has no entry for its symbol.
-/// - `Frontend(OutOfRemainders)`: a word of the remainders is needed, and none is left.
+/// - `Frontend(OutOfRemainders)`: the coder needs a word of the remainders, and none is left.
 /// - `Backend(error)`: a backend refused a word.
 pub fn encode_pairs_reverse<
     Word: WordOf<State>,

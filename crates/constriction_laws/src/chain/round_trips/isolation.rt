@@ -1,6 +1,6 @@
 //! Isolation through the calls: other models for some symbols don't change the other symbols.
 //!
-//! The law [`symbols_are_isolated`] says the same of decodes with changes of the precision between them.
+//! The law [`symbols_are_isolated`] also covers decodes with changes of the precision between them.
 
 ghost use Rattle.std.specs.Prelude.{◌≡◌, ◌⊎◌, length, IfErr, IfOk};
 ghost use Rattle.constriction_base.specs.Models.{pairs_of};
@@ -23,9 +23,9 @@ use std::alloc::Global;
 /// Decodes from two coders over the same words, each with its own list of models.
 ///
 /// Calls `decode_symbols` on `coder` with `models`, and on `same` with `others`. Suppose that both coders have the same
-/// compressed head and compressed words. Then equal tables at an index give equal symbols at that index, whatever the
-/// other tables are. The two lists may have models of different types. Returns the symbols of `coder`, then those of
-/// `same`.
+/// compressed head and compressed words. If the `k`-th models of both lists have equal tables, the `k`-th symbols are
+/// equal, whatever the other tables are. The two lists may have models of different types. Returns the symbols of
+/// `coder`, and then the symbols of `same`.
 ///
 /// # Errors
 ///

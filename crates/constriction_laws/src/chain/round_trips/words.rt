@@ -26,7 +26,7 @@ use std::alloc::Global;
 ///
 /// # Errors
 ///
-/// - `OutOfData(count)`: after `count` symbols a word is needed, and no compressed word is left.
+/// - `OutOfData(count)`: after `count` symbols the coder needs a compressed word, and none is left.
 /// - `Refused`: there was no memory.
 pub fn take_pairs<
     Word: WordOf<State>,

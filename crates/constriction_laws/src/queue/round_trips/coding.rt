@@ -1,4 +1,4 @@
-//! List calls of the range coder, with contracts in the terms of the laws: the runs to which they lead.
+//! List calls of the range coder. Their contracts describe the runs to which they lead, in the definitions of the laws.
 
 ghost use Rattle.std.specs.Prelude.{◌≡◌, ◌↔◌, ◌+◌, ◌<◌, ◌≤◌, ℕ, List, length, IfOk, IfErr, IsTrue};
 ghost use Rattle.constriction_base.specs.Models.{pairs_of};
@@ -22,12 +22,12 @@ use std::alloc::Global;
 
 /// Encodes symbols in order, each with its own model.
 ///
-/// The run of the encoder is then narrowed by each symbol in order.
+/// Each symbol in order narrows the run of the encoder.
 ///
 /// # Errors
 ///
 /// - `ImpossibleSymbol`: a model has no entry for its symbol. The symbols before it are encoded.
-/// - `TooManySymbols`: the encoder can't count that many more symbols. No symbol is encoded.
+/// - `TooManySymbols`: the encoder can't count this many further symbols. No symbol is encoded.
 /// - `Refused`: the backend refused a word. The symbols before it are encoded.
 pub fn encode_pairs<
     Word: WordOf<State>,
@@ -63,8 +63,8 @@ where
 
 /// Decodes one symbol for each model.
 ///
-/// The run of the decoder is then narrowed by each symbol in order. If the words encode that many symbols with these
-/// models, the call returns these symbols in order.
+/// Each symbol in order narrows the run of the decoder. If the words encode one symbol with each model, the call
+/// returns these symbols in order.
 ///
 /// # Errors
 ///
@@ -104,7 +104,7 @@ where
     }
 }
 
-/// Returns whether the words may have ended, as the decoder's `maybe_exhausted` does.
+/// Returns whether the words may have ended at the decoder's position. Calls `maybe_exhausted`.
 ///
 /// Sealed words may end after the last symbol of their run.
 pub fn has_ended<

@@ -1,4 +1,4 @@
-//! List calls of the stack coder, with contracts in the terms of the laws: the states to which they lead.
+//! List calls of the stack coder. Their contracts describe the states that they reach, in the definitions of the laws.
 
 ghost use Rattle.std.specs.Prelude.{◌≡◌, List, length, reverse, IfOk, IfErr, OnOk};
 ghost use Rattle.constriction_laws.specs.Outcomes.{HasImpossibleItem, OnlyRefused, UnlessImpossible};
