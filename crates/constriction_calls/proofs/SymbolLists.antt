@@ -10,7 +10,6 @@ use Rattle.constriction_symbol.specs.Codewords.{ReadsSymbol}
 use Rattle.constriction_symbol.specs.declared.codebooks.SymbolCodeError.{SymbolCodeError}
 use Rattle.constriction_symbol.specs.declared.codebooks.SymbolCodeError.TheVariants.{OutOfCompressedData, InvalidCodeword}
 use Rattle.constriction_symbol.proofs.ReadBack.{gives_front}
-use Rattle.constriction_symbol.specs.Lists.{AreCodewords}
 use Rattle.constriction_inputs.specs.declared.refusal.Refusal.{Refusal}
 use Rattle.constriction_calls.specs.SymbolCalls.{AreTakenOff, AsStack, GiveNone, AllHaveCodewords, IsToldAs, ReadsNone}
 use Rattle.constriction_symbol.proofs.CodewordLists.{codewords_push}

@@ -1,5 +1,5 @@
 -- Bits of words below a bit and from it on, and bits that are taken one by one.
-use Rattle.std.proofs.Common.{◌≡◌, ◌<◌, ◌≤◌, ◌+◌, ◌-◌, ◌*◌, ◌/◌, ◌%◌, ℕ, Bool, List, [], ◌∷◌, ◌++◌, Option, Some, None, Ok, false, replicate, length, map, take, drop, ap, ap₂, sym, subst, arith, ◌∙◌, append_assoc, length-append}
+use Rattle.std.proofs.Common.{◌≡◌, ◌<◌, ◌≤◌, ◌+◌, ◌-◌, ◌*◌, ◌/◌, ◌%◌, ℕ, Bool, List, ◌∷◌, ◌++◌, Option, Some, None, Ok, false, replicate, length, map, take, drop, ap, ap₂, sym, subst, arith, ◌∙◌, append_assoc, length-append}
 use Rattle.std.proofs.lemmas.List.{drop-drop, drop-take, length-map, length-take-le, map-append, take-append-drop, take-take, length-take}
 use Rattle.std.proofs.lemmas.Grind.{flat_map-append}
 use Rattle.std.proofs.Math.Nat.{div-add-mod, div-le_of_le-mul, mul_comm}

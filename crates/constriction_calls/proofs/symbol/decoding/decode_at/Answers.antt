@@ -1,11 +1,11 @@
-use Rattle.std.proofs.Common.{◌∙◌, ◌+◌, ◌-◌, ◌*◌, ◌^◌, Bool, List, ap, arith, drop, inr, length, length-append, map, refl, subst, sym}
+use Rattle.std.proofs.Common.{◌∙◌, ◌-◌, ◌*◌, Bool, List, ap, arith, inr, length, length-append, map, subst, sym}
 use Rattle.std.proofs.lemmas.List.{length-drop, length-map}
 use Rattle.std.proofs.lemmas.Result.{err_from_is_err_and}
 use Rattle.constriction_symbol.specs.Bits.{bits_of_words}
 use Rattle.constriction_symbol.proofs.Lengths.{length_words}
 use Rattle.constriction_inputs.proofs.Asking.{asked_ok}
 use Rattle.constriction_calls.specs.SymbolBits.{IsBit}
-use Rattle.constriction_calls.specs.SymbolCalls.{AreTakenOff, IsCutOff, IsWrong, ReadsNone, codeword_in}
+use Rattle.constriction_calls.specs.SymbolCalls.{IsCutOff, IsWrong, ReadsNone, codeword_in}
 use Rattle.constriction_calls.proofs.SymbolReads.{none_by, taken_by}
 use Rattle.constriction_calls.proofs.symbol.decoding.decode_at.Goals as goal
 

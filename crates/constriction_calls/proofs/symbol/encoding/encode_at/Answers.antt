@@ -1,4 +1,4 @@
-use Rattle.std.proofs.Common.{◌/◌, ◌+◌, ap, inr, length, map, refl}
+use Rattle.std.proofs.Common.{◌/◌, ◌+◌, ap, inr, length, map}
 use Rattle.std.proofs.lemmas.Result.{err_from_is_err_and}
 use Rattle.constriction_inputs.proofs.Asking.{room_of}
 use Rattle.constriction_calls.specs.SymbolBits.{LackRoomFrom}

@@ -1,4 +1,4 @@
-use Rattle.std.proofs.Common.{◌≡◌, ◌∙◌, ◌+◌, ◌*◌, ◌-◌, ◌/◌, ◌%◌, ap, ap₂, drop, length, map, rules, take}
+use Rattle.std.proofs.Common.{◌≡◌, ◌∙◌, ◌+◌, ◌*◌, ◌-◌, ◌/◌, ◌%◌, ap, ap₂, drop, length, map, take}
 use Rattle.std.proofs.lemmas.List.{take_rest}
 use Rattle.constriction_symbol.specs.Bits.{bits_of_words}
 use Rattle.constriction_calls.proofs.SymbolPlaces.{end_bit, words_from}
