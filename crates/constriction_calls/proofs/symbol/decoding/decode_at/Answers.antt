@@ -1,4 +1,4 @@
-use Rattle.std.proofs.Common.{◌∙◌, ◌-◌, ◌*◌, Bool, List, ap, arith, inr, length, length-append, map, subst, sym}
+use Rattle.std.proofs.Common.{◌∙◌, ◌*◌, Bool, List, ap, arith, inr, length, length-append, map, subst, sym}
 use Rattle.std.proofs.lemmas.List.{length-drop, length-map}
 use Rattle.std.proofs.lemmas.Result.{err_from_is_err_and}
 use Rattle.constriction_symbol.specs.Bits.{bits_of_words}
