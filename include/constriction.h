@@ -407,8 +407,8 @@ uint32_t constriction_chain_into_remainders_u32(const struct constriction_chain_
    a whole word. A stack has the codeword of the last symbol first, and each codeword reversed, then a 1, and zeros
    up to a whole word. So the first symbol is on top.
 
-   An encode writes from words[0] on. It writes the number of words to *len, and doesn't read it. A decode returns
-   the symbols in the order of the encoded list. The caller knows how many there are. */
+   An encode writes from words[0] on, or from a bit on (.._at). It writes the number of words to *len, and doesn't
+   read it. A decode returns the symbols in the order of the encoded list. The caller knows how many there are. */
 
 /* Encodes symbols with the Huffman tree of the weights, which have 32 bits each and a sum below 2^32. The two least
    weights are joined first. Of two equal ones the one with the lesser index comes first, and a union comes behind
@@ -444,6 +444,25 @@ uint32_t constriction_exp_golomb_decode_queue_u32(const uint32_t *words, size_t 
                                                   uint32_t *symbols, size_t symbol_count);
 uint32_t constriction_exp_golomb_decode_stack_u32(const uint32_t *words, size_t word_count,
                                                   uint32_t *symbols, size_t symbol_count);
+
+/* The same as a queue from bit *bit of the words on, so that lists can follow one another, each with its codebook.
+   Bit i is bit i % 32 of words[i / 32], counted from the lowest. The call sets *bit to the bit behind the last
+   codeword. The bits below the old *bit stay, and those behind the new one in its word become 0.
+   Errors: WRONG_LENGTH (*bit is past the buffer, or size_t doesn't count its bits), and those of the encodes above. */
+uint32_t constriction_huffman_encode_at_u32(const uint32_t *weights, size_t weight_count,
+                                            const size_t *symbols, size_t symbol_count,
+                                            uint32_t *words, size_t capacity, size_t *bit, size_t *needed);
+uint32_t constriction_exp_golomb_encode_at_u32(const uint32_t *symbols, size_t symbol_count,
+                                               uint32_t *words, size_t capacity, size_t *bit, size_t *needed);
+
+/* Decodes from bit *bit of a queue's words on, and sets *bit to the bit behind the last codeword. The bits from there
+   on don't matter: the next list may begin there.
+   Errors: WRONG_LENGTH (*bit is past the words, or size_t doesn't count their bits), and those of a queue's decodes. */
+uint32_t constriction_huffman_decode_at_u32(const uint32_t *weights, size_t weight_count,
+                                            const uint32_t *words, size_t word_count, size_t *bit,
+                                            size_t *symbols, size_t symbol_count);
+uint32_t constriction_exp_golomb_decode_at_u32(const uint32_t *words, size_t word_count, size_t *bit,
+                                               uint32_t *symbols, size_t symbol_count);
 
 /* ==== Words of 16 bits, states of 32, weights that add up to 2^12 ==================================================== */
 /* Written by the script `sizes` from the part above. */
@@ -714,8 +733,8 @@ uint32_t constriction_chain_into_remainders_u16(const struct constriction_chain_
    a whole word. A stack has the codeword of the last symbol first, and each codeword reversed, then a 1, and zeros
    up to a whole word. So the first symbol is on top.
 
-   An encode writes from words[0] on. It writes the number of words to *len, and doesn't read it. A decode returns
-   the symbols in the order of the encoded list. The caller knows how many there are. */
+   An encode writes from words[0] on, or from a bit on (.._at). It writes the number of words to *len, and doesn't
+   read it. A decode returns the symbols in the order of the encoded list. The caller knows how many there are. */
 
 /* Encodes symbols with the Huffman tree of the weights, which have 32 bits each and a sum below 2^32. The two least
    weights are joined first. Of two equal ones the one with the lesser index comes first, and a union comes behind
@@ -751,6 +770,25 @@ uint32_t constriction_exp_golomb_decode_queue_u16(const uint16_t *words, size_t 
                                                   uint16_t *symbols, size_t symbol_count);
 uint32_t constriction_exp_golomb_decode_stack_u16(const uint16_t *words, size_t word_count,
                                                   uint16_t *symbols, size_t symbol_count);
+
+/* The same as a queue from bit *bit of the words on, so that lists can follow one another, each with its codebook.
+   Bit i is bit i % 16 of words[i / 16], counted from the lowest. The call sets *bit to the bit behind the last
+   codeword. The bits below the old *bit stay, and those behind the new one in its word become 0.
+   Errors: WRONG_LENGTH (*bit is past the buffer, or size_t doesn't count its bits), and those of the encodes above. */
+uint32_t constriction_huffman_encode_at_u16(const uint32_t *weights, size_t weight_count,
+                                            const size_t *symbols, size_t symbol_count,
+                                            uint16_t *words, size_t capacity, size_t *bit, size_t *needed);
+uint32_t constriction_exp_golomb_encode_at_u16(const uint16_t *symbols, size_t symbol_count,
+                                               uint16_t *words, size_t capacity, size_t *bit, size_t *needed);
+
+/* Decodes from bit *bit of a queue's words on, and sets *bit to the bit behind the last codeword. The bits from there
+   on don't matter: the next list may begin there.
+   Errors: WRONG_LENGTH (*bit is past the words, or size_t doesn't count their bits), and those of a queue's decodes. */
+uint32_t constriction_huffman_decode_at_u16(const uint32_t *weights, size_t weight_count,
+                                            const uint16_t *words, size_t word_count, size_t *bit,
+                                            size_t *symbols, size_t symbol_count);
+uint32_t constriction_exp_golomb_decode_at_u16(const uint16_t *words, size_t word_count, size_t *bit,
+                                               uint16_t *symbols, size_t symbol_count);
 
 #ifdef __cplusplus
 }

@@ -115,6 +115,16 @@ static uint32_t golomb_stack(struct world *w) { return C(exp_golomb_encode_stack
 static uint32_t golomb_from_queue(struct world *w) { return C(exp_golomb_decode_queue)(w->words, w->len, w->numbers, in.count); }
 static uint32_t golomb_from_stack(struct world *w) { return C(exp_golomb_decode_stack)(w->words, w->len, w->numbers, in.count); }
 
+/* From a bit on, which is the world's other_len. After an encode len is the number of words up to the bit. */
+static uint32_t up_to_bit(struct world *w, uint32_t result) {
+    if (!result) w->len = (w->other_len + BITS - 1) / BITS;
+    return result;
+}
+static uint32_t huffman_at(struct world *w) { return up_to_bit(w, C(huffman_encode_at)(TREE, GIVEN, w->words, w->capacity, &w->other_len, &w->needed)); }
+static uint32_t golomb_at(struct world *w) { return up_to_bit(w, C(exp_golomb_encode_at)(in.numbers, in.count, w->words, w->capacity, &w->other_len, &w->needed)); }
+static uint32_t huffman_from_at(struct world *w) { return C(huffman_decode_at)(TREE, w->words, w->len, &w->other_len, TAKEN); }
+static uint32_t golomb_from_at(struct world *w) { return C(exp_golomb_decode_at)(w->words, w->len, &w->other_len, w->numbers, in.count); }
+
 /* ==== What holds of the calls of a coder ==== */
 
 static int same_symbols(const struct world *w) { return !memcmp(w->symbols, in.symbols, in.count * sizeof(size_t)); }
@@ -491,6 +501,8 @@ static void nulls(void) {
     CHECK("null: codewords", !C(exp_golomb_decode_queue)(NULL, 0, NULL, 0));
     CHECK("null: codewords", !C(huffman_encode_queue)(TREE, NULL, 0, NULL, 0, &len, &needed) && !C(huffman_decode_queue)(TREE, NULL, 0, NULL, 0));
     CHECK("null: codewords, no weights", C(huffman_decode_queue)(NULL, 0, NULL, 0, NULL, 0) == CONSTRICTION_WRONG_WEIGHTS);
+    CHECK("null: from a bit", !C(huffman_encode_at)(TREE, NULL, 0, NULL, 0, &len, &needed) && !C(huffman_decode_at)(TREE, NULL, 0, &len, NULL, 0));
+    CHECK("null: from a bit", !C(exp_golomb_encode_at)(NULL, 0, NULL, 0, &len, &needed) && !C(exp_golomb_decode_at)(NULL, 0, &len, NULL, 0) && !len);
 }
 
 static void texts(void) {
@@ -629,10 +641,48 @@ static void codewords(size_t count) {
     }
 }
 
+/* The first `count` bits of two lists of words are the same. */
+static int same_bits(const word *one, const word *other, size_t count) {
+    for (size_t i = 0; i < count; i++)
+        if ((one[i / BITS] ^ other[i / BITS]) >> i % BITS & 1) return 0;
+    return 1;
+}
+
+static void codewords_at(size_t count) {
+    struct world start = fresh(), w, end;
+    draw(count);
+    call *const encodes[] = {huffman_at, golomb_at}, *const decodes[] = {huffman_from_at, golomb_from_at};
+    for (size_t i = 0; i < 2; i++) {
+        start.len = 2, start.other_len = 2 * BITS;
+        every_length("from a bit: encode", encodes[i], &start, BEHIND);
+        refused_memory("from a bit: encode, memory", encodes[i], &start);
+        start.other_len += random_below(BITS);
+        w = start;
+        done("from a bit: encode", encodes[i], &w);
+        CHECK("from a bit: the bits below", same_bits(w.words, start.words, start.other_len));
+        CHECK("from a bit: zeros above", w.other_len % BITS == 0 || w.words[w.len - 1] >> w.other_len % BITS == 0);
+        end = w;
+        done("from a bit: another list", encodes[1 - i], &w);
+        CHECK("from a bit: the first list stays", same_bits(w.words, end.words, end.other_len));
+        w.other_len = start.other_len;
+        refused_memory("from a bit: decode, memory", decodes[i], &w);
+        done("from a bit: decode", decodes[i], &w);
+        CHECK("from a bit: where it stops", w.other_len == end.other_len);
+        done("from a bit: decode another list", decodes[1 - i], &w);
+        CHECK("from a bit: there and back", same_symbols(&w) && !memcmp(w.numbers, in.numbers, count * sizeof(word)));
+        w = start, w.other_len = BITS * w.capacity + 1;
+        refuses("from a bit: past the buffer", encodes[i], &w, CONSTRICTION_WRONG_LENGTH);
+        w.other_len = BITS * w.len + 1;
+        refuses("from a bit: past the words", decodes[i], &w, CONSTRICTION_WRONG_LENGTH);
+        w.other_len = BITS * w.len;
+        if (count) refuses("from a bit: no bits", decodes[i], &w, CONSTRICTION_OUT_OF_DATA);
+    }
+}
+
 int main(void) {
     for (int round = 0; round < 20; round++) {
         size_t count = round < 3 ? (size_t)round : 1 + random_below(COUNT);
-        ans(count), range(count), store(count), chain(count), codewords(count);
+        ans(count), range(count), store(count), chain(count), codewords(count), codewords_at(count);
     }
     great_held(), most_symbols(), nulls(), texts();
     for (size_t i = 1; i < RESULTS; i++) CHECK("each result was seen", seen[i] > 0);

@@ -178,6 +178,10 @@ static void refused_codewords(const struct world *start) {
     tries("exp_golomb_decode_queue", golomb_from_queue, &w);
     w = after("exp_golomb_encode_stack", golomb_stack, start);
     tries("exp_golomb_decode_stack", golomb_from_stack, &w);
+    w = after("huffman_encode_at", huffman_at, start), w.other_len = start->other_len;
+    tries("huffman_decode_at", huffman_from_at, &w);
+    w = after("exp_golomb_encode_at", golomb_at, start), w.other_len = start->other_len;
+    tries("exp_golomb_decode_at", golomb_from_at, &w);
 }
 
 static struct world chain_start(void) {

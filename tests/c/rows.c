@@ -228,8 +228,38 @@ static void bits(void) {
     CHECK("golomb_byte_limits: none", C(exp_golomb_decode_queue)(zeros, 0, numbers, 1) == CONSTRICTION_OUT_OF_DATA);
 }
 
+/* Three lists by two codebooks, one behind another, from bit 3 of words whose bits are 1 but for one. */
+static void from_a_bit(void) {
+    const uint32_t five[] = {2, 2, 4, 1, 1};
+    const size_t all[] = {0, 1, 2, 3, 4}, two_more[] = {4, 0}, many[] = {2, 2, 2, 2, 2, 2, 2, 2, 2, 2, 2, 2, 2, 2, 2, 2, 2};
+    const word line[] = {0, 5, 7}, follows[] = {(word)-1, (word)-1};
+    word numbers[3];
+    size_t bit = 3;
+    memset(words, 0xff, sizeof words);
+    words[0] = (word)(words[0] - 2);
+    CHECK("huffman at bit 3", !C(huffman_encode_at)(five, 5, all, 5, words, 3, &bit, &needed) && bit == 15);
+    len = 1;
+    CHECK("huffman at bit 3: words", are_bits("101 00 01 11 100 101"));
+    CHECK("golomb at bit 15", !C(exp_golomb_encode_at)(line, 3, words, 3, &bit, &needed) && bit == 28);
+    CHECK("huffman at bit 28", !C(huffman_encode_at)(five, 5, two_more, 2, words, 3, &bit, &needed) && bit == 33);
+    len = (33 + BITS - 1) / BITS;
+    CHECK("lists at bits: words", are_bits("101 00 01 11 100 101 1 00110 0001000 101 00"));
+    CHECK("lists at bits: no more", words[3] == (word)-1);
+    CHECK("lists at bits: no room", C(huffman_encode_at)(five, 5, many, 17, words, len, &bit, &needed) == CONSTRICTION_NO_SPACE);
+    CHECK("lists at bits: room needed", needed == (33 + 34 + BITS - 1) / BITS && bit == 33 && are_bits("101 00 01 11 100 101 1 00110 0001000 101 00"));
+    CHECK("lists at bits: past the words", C(exp_golomb_encode_at)(line, 3, words, 0, &bit, &needed) == CONSTRICTION_WRONG_LENGTH && bit == 33);
+    bit = 3;
+    CHECK("huffman from bit 3", !C(huffman_decode_at)(five, 5, words, len, &bit, symbols, 5) && are_symbols(all, 5) && bit == 15);
+    CHECK("golomb from bit 15", !C(exp_golomb_decode_at)(words, len, &bit, numbers, 3) && !memcmp(numbers, line, sizeof line) && bit == 28);
+    CHECK("huffman from bit 28", !C(huffman_decode_at)(five, 5, words, len, &bit, symbols, 2) && are_symbols(two_more, 2) && bit == 33);
+    CHECK("golomb from the end", C(exp_golomb_decode_at)(words, len, &bit, numbers, 1) == CONSTRICTION_OUT_OF_DATA && bit == 33);
+    bit = BITS - 1;
+    CHECK("golomb from a last bit", !C(exp_golomb_decode_at)(follows, 1, &bit, numbers, 1) && numbers[0] == 0 && bit == BITS);
+    CHECK("golomb behind the last bit", C(exp_golomb_decode_at)(follows, 1, &bit, numbers, 1) == CONSTRICTION_OUT_OF_DATA && bit == BITS);
+}
+
 int main(void) {
-    ans(), range(), chain(), bits();
+    ans(), range(), chain(), bits(), from_a_bit();
     for (size_t steps = 6; steps < 12; steps++) carries(steps, 0), carries(steps, 1);
     return finish();
 }

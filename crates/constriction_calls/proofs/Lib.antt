@@ -14,5 +14,6 @@ mod Stacked
 mod StoreAnswers
 mod StoreIndex
 mod SymbolLists
+mod SymbolPlaces
 mod SymbolReads
 mod SymbolTrees

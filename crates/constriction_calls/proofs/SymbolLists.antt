@@ -10,9 +10,8 @@ use Rattle.constriction_symbol.specs.Codewords.{ReadsSymbol}
 use Rattle.constriction_symbol.specs.declared.codebooks.SymbolCodeError.{SymbolCodeError}
 use Rattle.constriction_symbol.specs.declared.codebooks.SymbolCodeError.TheVariants.{OutOfCompressedData, InvalidCodeword}
 use Rattle.constriction_symbol.proofs.ReadBack.{gives_front}
-use Rattle.constriction_symbol.specs.Lists.{AreCodewords}
 use Rattle.constriction_inputs.specs.declared.refusal.Refusal.{Refusal}
-use Rattle.constriction_calls.specs.SymbolCalls.{AsStack, GiveNone, AllHaveCodewords, IsToldAs, ReadsNone}
+use Rattle.constriction_calls.specs.SymbolCalls.{AreTakenOff, AsStack, GiveNone, AllHaveCodewords, IsToldAs, ReadsNone}
 use Rattle.constriction_symbol.proofs.CodewordLists.{codewords_push}
 
 -- where each symbol has a codeword, a list has those of its symbols
@@ -23,15 +22,11 @@ all_have codeword (s ∷ symbols) all =
     let rest = all_have codeword symbols (λ k d inside. all (suc k) d (omega arith)) in
     (first.0 ++ rest.0, (first.0, rest.0, first.1, refl, rest.1))
 
--- bits are the codewords of symbols, and then others
-abbrev pub ReadSoFar : {S : Type 0} → (S → Option (List Bool)) → List S → List Bool → List Bool → Type 0
-ReadSoFar codeword symbols old new = (code : List Bool) × AreCodewords codeword symbols code × (old ≡ code ++ new)
-
 module _ {I S E : Type 0} (next : I → Option (Result Bool E) → I → Type 0) (unread : I → List Bool) (codeword : S → Option (List Bool)) (reads_on : List Bool → Type 0)
     (law : (old : I) (item : Option (Result Bool E)) (new : I) → next old item new → GivesBit (unread old) item (unread new))
-    (xs : List S) (begun : List Bool) (old new : I) (so_far : ReadSoFar codeword xs begun (unread old)) where
+    (xs : List S) (begun : List Bool) (old new : I) (so_far : AreTakenOff codeword xs begun (unread old)) where
   -- one symbol more was read
-  pub read_one : {V : Type 0} (is_invalid : List Bool → V → Type 0) (x : S) → ReadsSymbol {E = E} next codeword reads_on is_invalid old (Ok x) new → ReadSoFar codeword (xs ++ x ∷ []) begun (unread new)
+  pub read_one : {V : Type 0} (is_invalid : List Bool → V → Type 0) (x : S) → ReadsSymbol {E = E} next codeword reads_on is_invalid old (Ok x) new → AreTakenOff codeword (xs ++ x ∷ []) begun (unread new)
   read_one is_invalid x (bits, known, given) =
       let here = gives_front next unread law old bits new given in (
         so_far.0 ++ bits,

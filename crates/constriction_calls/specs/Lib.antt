@@ -4,4 +4,5 @@ pub mod ChainFits
 pub mod ChainWords
 pub mod RangeCalls
 pub mod StoreCalls
+pub mod SymbolBits
 pub mod SymbolCalls

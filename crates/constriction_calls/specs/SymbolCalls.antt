@@ -89,6 +89,10 @@ pub record PutsCodewords {S Word : Type 0} (symbol : S → ℕ) (number : Word �
 abbrev pub BeginBits : {S : Type 0} → (S → Option (List Bool)) → List S → List Bool → Type 0
 BeginBits codeword symbols bits = (code : List Bool) × (rest : List Bool) × AreCodewords codeword symbols code × (bits ≡ code ++ rest)
 
+-- The old bits are the symbols' codewords, concatenated, and then the new bits.
+abbrev pub AreTakenOff : {S : Type 0} → (S → Option (List Bool)) → List S → List Bool → List Bool → Type 0
+AreTakenOff codeword symbols old new = (code : List Bool) × AreCodewords codeword symbols code × (old ≡ code ++ new)
+
 -- Bits with the property stand behind the codewords of fewer symbols.
 abbrev pub AfterFewer : {S : Type 0} → (S → Option (List Bool)) → ℕ → (List Bool → Type 0) → List Bool → Type 0
 AfterFewer {S} codeword amt holds bits =

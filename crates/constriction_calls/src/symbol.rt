@@ -7,6 +7,7 @@
 //!
 //! A call that fails leaves the buffers unchanged. It returns the first of these errors that applies:
 //!
+//! - `WrongLength`: the bit to begin at is past the end of the words, or the words have 2^64 bits or more.
 //! - `WrongWeights`: the weights make no Huffman tree. There are no weights or too many, or their sum doesn't fit their
 //!   type.
 //! - `ImpossibleSymbol`: a symbol has no codeword.
@@ -14,8 +15,10 @@
 //! - `OutOfData`: the words end before all symbols are decoded.
 //! - `InvalidData`: the next bits begin with no codeword, or the last word of a stack is 0.
 //!
-//! If there is no memory, the call returns `NoMemory`, unless `WrongWeights` or `ImpossibleSymbol` applies.
+//! If there is no memory, the call returns `NoMemory`, unless `WrongLength`, `WrongWeights` or `ImpossibleSymbol`
+//! applies.
 
+mod counted;
 mod decoding;
 mod encoding;
 mod golomb;
@@ -29,8 +32,8 @@ ghost use Rattle.constriction_inputs.specs.declared.refusal.Refusal.TheVariants.
 
 use constriction_inputs::refusal::Refusal;
 use constriction_symbol::codebooks::{Codebook, DecoderCodebook, EncoderCodebook};
-pub use decoding::{decode_queue, decode_stack};
-pub use encoding::{encode_queue, encode_stack};
+pub use decoding::{decode_at, decode_queue, decode_stack};
+pub use encoding::{encode_at, encode_queue, encode_stack};
 use std::alloc::Global;
 pub use trees::Tree;
 

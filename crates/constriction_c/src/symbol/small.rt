@@ -4,11 +4,14 @@
 ghost use Rattle.std.specs.Prelude.{map};
 ghost use Rattle.constriction_c.specs.Small.{small_word};
 ghost use Rattle.constriction_c.specs.Codes.{Told, answer_by_code};
+ghost use Rattle.constriction_calls.specs.SymbolBits.{PutsAtBit, TakesAtBit};
 ghost use Rattle.constriction_calls.specs.SymbolCalls.{AsQueue, AsStack, OfNumbers, OfWeights, PutsCodewords};
 ghost use Rattle.constriction_calls.specs.SymbolCalls.{TakesCodewords};
 
 use crate::codes::{code_of, code_without_space};
-use constriction_calls::symbol::{Tree, decode_queue, decode_stack, encode_queue, encode_stack};
+use constriction_calls::symbol::{
+    Tree, decode_at, decode_queue, decode_stack, encode_at, encode_queue, encode_stack,
+};
 use constriction_symbol::exp_golomb::ExpGolomb;
 use constriction_words::BitArray;
 use std::alloc::Global;
@@ -149,4 +152,68 @@ pub extern "C" fn constriction_huffman_decode_stack_u16(
         (map small_word words.now) symbols.old symbols.new (answer_by_code result 0) }
 {
     code_without_space(decode_stack(alloc, &Tree { weights }, words, symbols))
+}
+
+/// Encodes numbers with Exp-Golomb codewords, from a bit of the words on.
+#[unsafe(no_mangle)]
+pub extern "C" fn constriction_exp_golomb_encode_at_u16(
+    alloc: Global,
+    symbols: &[u16],
+    words: &mut [u16],
+    bit: &mut usize,
+    needed: &mut usize,
+) -> u32
+    ensures { Told result needed.old needed.new (PutsAtBit small_word small_word 16 (OfNumbers 16) symbols.now
+        record { words = words.old; bit = bit.old } record { words = words.new; bit = bit.new }) }
+{
+    let answer = encode_at(alloc, &ExpGolomb::<u16>::new(), symbols, words, bit);
+    code_of(answer, needed)
+}
+
+/// Encodes symbols with the Huffman tree of the weights, from a bit of the words on.
+#[unsafe(no_mangle)]
+pub extern "C" fn constriction_huffman_encode_at_u16(
+    alloc: Global,
+    weights: &[u32],
+    symbols: &[usize],
+    words: &mut [u16],
+    bit: &mut usize,
+    needed: &mut usize,
+) -> u32
+    ensures { Told result needed.old needed.new (PutsAtBit (λ s. s) small_word 16
+        (OfWeights 32 (map ⟦<u32 as BitArray>⟧.number weights.now)) symbols.now record { words = words.old; bit = bit.old }
+        record { words = words.new; bit = bit.new }) }
+{
+    let answer = encode_at(alloc, &Tree { weights }, symbols, words, bit);
+    code_of(answer, needed)
+}
+
+/// Decodes numbers with Exp-Golomb codewords, from a bit of the words on.
+#[unsafe(no_mangle)]
+pub extern "C" fn constriction_exp_golomb_decode_at_u16(
+    alloc: Global,
+    words: &[u16],
+    bit: &mut usize,
+    symbols: &mut [u16],
+) -> u32
+    ensures { TakesAtBit small_word 16 (OfNumbers 16) (map small_word words.now) record { symbols = symbols.old; bit = bit.old }
+        record { symbols = symbols.new; bit = bit.new } (answer_by_code result 0) }
+{
+    code_without_space(decode_at(alloc, &ExpGolomb::<u16>::new(), words, bit, symbols))
+}
+
+/// Decodes symbols with the Huffman tree of the weights, from a bit of the words on.
+#[unsafe(no_mangle)]
+pub extern "C" fn constriction_huffman_decode_at_u16(
+    alloc: Global,
+    weights: &[u32],
+    words: &[u16],
+    bit: &mut usize,
+    symbols: &mut [usize],
+) -> u32
+    ensures { TakesAtBit (λ s. s) 16 (OfWeights 32 (map ⟦<u32 as BitArray>⟧.number weights.now)) (map small_word words.now)
+        record { symbols = symbols.old; bit = bit.old } record { symbols = symbols.new; bit = bit.new }
+        (answer_by_code result 0) }
+{
+    code_without_space(decode_at(alloc, &Tree { weights }, words, bit, symbols))
 }

@@ -1,10 +1,12 @@
 //! Decoding symbols from words.
 
 ghost use Rattle.std.specs.Prelude.{◌≡◌, IfErr, OnErr, OnOk, length, map};
-ghost use Rattle.constriction_calls.specs.SymbolCalls.{AsQueue, AsStack, BeginBits, IsToldAs, ReadsNone};
+ghost use Rattle.constriction_calls.specs.SymbolBits.{TakesAtBit};
+ghost use Rattle.constriction_calls.specs.SymbolCalls.{AreTakenOff, AsQueue, AsStack, IsToldAs, ReadsNone};
 ghost use Rattle.constriction_calls.specs.SymbolCalls.{TakesCodewords};
 
 use crate::symbol::Codes;
+use crate::symbol::counted::{CountedBits, is_bit};
 use constriction_base::backends::{Queue, Semantics, Stack};
 use constriction_base::cursor::Cursor;
 use constriction_base::errors::CoderError;
@@ -35,6 +37,35 @@ pub fn decode_queue<Word: BitArray, C: Codes>(
         Cursor::new_at_write_beginning(words),
     );
     read_symbols::<Queue, _, C::Decoder>(alloc, &mut decoder, &codebook, symbols)
+}
+
+/// Fills `symbols` with symbols decoded from a queue of bits, from bit `bit` of `words` on. `codes` has the codebook.
+///
+/// Sets `bit` to the bit after the last codeword. So a second call with `bit` decodes what follows, with any codebook.
+/// The bits after the last codeword don't matter.
+///
+/// # Errors
+///
+/// `WrongLength`, `WrongWeights`, `OutOfData`, `InvalidData` and `NoMemory`, as [`crate::symbol`] lists them.
+pub fn decode_at<Word: BitArray, C: Codes>(
+    alloc: Global,
+    codes: &C,
+    words: &[Word],
+    bit: &mut usize,
+    symbols: &mut [C::Symbol],
+) -> Result<(), Refusal>
+    ensures call { TakesAtBit C.number Word.BITS (C.book codes.now) (map Word.number words.now)
+        record { symbols = symbols.old; bit = bit.old } record { symbols = symbols.new; bit = bit.new } result }
+{
+    if !is_bit(words, *bit) {
+        return Err(Refusal::WrongLength);
+    }
+    let codebook = codes.decoder(alloc)?;
+    let mut bits = CountedBits::from(words, *bit);
+    let before = bits.left();
+    read_symbols::<Queue, _, C::Decoder>(alloc, &mut bits, &codebook, symbols)?;
+    *bit += before - bits.left();
+    Ok(())
 }
 
 /// Fills `symbols` with symbols decoded from the words of a stack of bits. `codes` has the codebook.
@@ -79,7 +110,8 @@ where
     C::InvalidCodeword: Drop,
     requires { R.is_list }
     ensures count { length symbols.new ≡ length symbols.old }
-    ensures ok { OnOk result (BeginBits (C.codeword codebook.now) symbols.new (R.unread stream.old)) }
+    ensures ok { OnOk result (AreTakenOff (C.codeword codebook.now)
+        symbols.new (R.unread stream.old) (R.unread stream.new)) }
     ensures err { IfErr result (ReadsNone (C.codeword codebook.now) (C.reads_on codebook.now) (λ bits.
         (e : C.InvalidCodeword) × C.is_invalid codebook.now bits e) (length symbols.old) (R.unread stream.old)) }
     ensures kept { OnErr result (symbols.new ≡ symbols.old) }

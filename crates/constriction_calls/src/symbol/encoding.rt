@@ -1,15 +1,23 @@
 //! Encoding symbols as words.
 
-ghost use Rattle.std.specs.Prelude.{◌≡◌, ◌-◌, ◌<◌, ◌^◌, IfErr, IfSome, OnErr, OnOk, OnSome, length, map};
+ghost use Rattle.std.specs.Prelude.{◌≡◌, ◌+◌, ◌-◌, ◌/◌, ◌<◌, ◌^◌, ◌++◌, Bool, List, length, map, take};
+ghost use Rattle.std.specs.Prelude.{IfErr, IfSome, OnErr, OnOk, OnSome};
+ghost use Rattle.constriction_symbol.specs.Bits.{IsQueueWords, bits_of_words};
+ghost use Rattle.constriction_symbol.specs.Lists.{AreCodewords};
 ghost use Rattle.constriction_inputs.specs.Buffers.{Appended};
+ghost use Rattle.constriction_calls.specs.SymbolBits.{AreWordsFrom, IsBit, PutsAtBit};
 ghost use Rattle.constriction_calls.specs.SymbolCalls.{AreSymbolWords, AsQueue, AsStack, MakesCode, PutsCodewords};
 ghost use Rattle.constriction_calls.specs.SymbolCalls.{codeword_in};
 ghost use Rattle.constriction_inputs.specs.declared.refusal.Refusal.TheVariants as refusals;
 
 use crate::symbol::Codes;
+use crate::symbol::counted::is_bit;
 use constriction_base::backends::Queue;
+use constriction_base::cursor::Cursor;
+use constriction_inputs::buffers::append;
 use constriction_inputs::refusal::Refusal;
 use constriction_symbol::coder::{QueueEncoder, StackCoder};
+use constriction_symbol::queue::QueueDecoder;
 use constriction_symbol::writing::WriteBitStream;
 use constriction_words::BitArray;
 use std::alloc::Global;
@@ -32,10 +40,41 @@ pub fn encode_queue<Word: BitArray, C: Codes>(
     ensures call { PutsCodewords C.number Word.number Word.BITS AsQueue (C.book codes.now)
         symbols.now record { words = words.old; len = len.old } record { words = words.new; len = len.new } result }
 {
-    match queue_words(alloc, codes, symbols) {
-        Some(all) => put_words(&all, words, len),
+    match queue_words(alloc, codes, QueueEncoder::new(alloc), symbols) {
+        Some((all, _)) => put_words(&all, words, len),
         None => Err(codes.refused(symbols)),
     }
+}
+
+/// Encodes symbols as a queue of bits, in order, from bit `bit` of `words` on. `codes` has the codebook.
+///
+/// The call leaves all bits below `bit` unchanged, and sets `bit` to the bit after the last codeword. The bits behind
+/// it in its word become 0. So a second call with `bit` appends symbols, with any codebook, and after each call the
+/// words up to that of `bit` are those of a queue.
+///
+/// # Errors
+///
+/// `WrongLength`, `WrongWeights`, `ImpossibleSymbol`, `NoSpace` and `NoMemory`, as [`crate::symbol`] lists them.
+pub fn encode_at<Word: BitArray, C: Codes>(
+    alloc: Global,
+    codes: &C,
+    symbols: &[C::Symbol],
+    words: &mut [Word],
+    bit: &mut usize,
+) -> Result<(), Refusal>
+    ensures call { PutsAtBit C.number Word.number Word.BITS (C.book codes.now) symbols.now
+        record { words = words.old; bit = bit.old } record { words = words.new; bit = bit.new } result }
+{
+    if !is_bit(words, *bit) {
+        return Err(Refusal::WrongLength);
+    }
+    let Some((added, end)) = words_from(alloc, codes, words, *bit, symbols) else {
+        return Err(codes.refused(symbols));
+    };
+    let mut len = *bit / Word::BITS as usize;
+    append(&added, words, &mut len)?;
+    *bit = end;
+    Ok(())
 }
 
 /// Encodes symbols from the last to the first as a stack of bits. Decoding returns them in the order of the list.
@@ -62,26 +101,84 @@ pub fn encode_stack<Word: BitArray, C: Codes>(
     }
 }
 
-/// Returns the words of the queue that [`encode_queue`] writes.
+/// Returns the words of a queue from the word of a bit on, and the bit after the last codeword.
+///
+/// The queue begins with the bits of `words` below `bit`. Returns `None` if the weights make no tree, if a symbol has no
+/// codeword, or if there is no memory.
+fn words_from<Word: BitArray, C: Codes>(
+    alloc: Global,
+    codes: &C,
+    words: &[Word],
+    bit: usize,
+    symbols: &[C::Symbol],
+) -> Option<(Vec<Word>, usize)>
+    requires { IsBit Word.BITS (length words.now) bit }
+    ensures tree { OnSome result (MakesCode (2 ^ 62 - 1) (C.book codes.now)) }
+    ensures words { IfSome result (λ made. (code : List Bool)
+        × AreCodewords (codeword_in C.number (C.book codes.now)) symbols.now code
+        × AreWordsFrom Word.BITS (map Word.number words.now) bit code
+        (map Word.number (take (bit / Word.BITS) words.now ++ made.0.items))
+        × (made.1 ≡ bit + length code)) }
+{
+    let width = Word::BITS as usize;
+    let first = bit / width;
+    let begun = queue_of_first(alloc, &words[first..], bit % width)?;
+    let (added, count) = queue_words(alloc, codes, begun, symbols)?;
+    let end = (first * width).checked_add(count)?;
+    Some((added, end))
+}
+
+/// Returns a queue of the first `count` bits of words, or `None` if there are fewer bits, or no memory.
+fn queue_of_first<Word: BitArray>(
+    alloc: Global,
+    words: &[Word],
+    count: usize,
+) -> Option<QueueEncoder<Word>>
+    ensures { IfSome result (λ queue.
+        queue.bits ≡ take count (bits_of_words Word.BITS (map Word.number words.now))) }
+{
+    let mut queue = QueueEncoder::new(alloc);
+    let mut bits = QueueDecoder::<Word, Cursor<Word, &[Word]>>::from_compressed(
+        Cursor::new_at_write_beginning(words),
+    );
+    for _done in 0..count {
+        let Ok(Some(bit)) = bits.read_bit() else {
+            return None;
+        };
+        let Ok(()) = queue.write_bit(bit) else {
+            return None;
+        };
+    }
+    Some(queue)
+}
+
+/// Returns the words of a queue that has bits already, and the number of its bits.
 ///
 /// Returns `None` if the weights make no tree, if a symbol has no codeword, or if there is no memory.
 fn queue_words<Word: BitArray, C: Codes>(
     alloc: Global,
     codes: &C,
+    begun: QueueEncoder<Word>,
     symbols: &[C::Symbol],
-) -> Option<Vec<Word>>
+) -> Option<(Vec<Word>, usize)>
     ensures tree { OnSome result (MakesCode (2 ^ 62 - 1) (C.book codes.now)) }
-    ensures words { IfSome result (λ words. AreSymbolWords AsQueue Word.BITS (codeword_in C.number (C.book codes.now))
-        symbols.now (map Word.number words.items)) }
+    ensures words { IfSome result (λ made. (code : List Bool)
+        × AreCodewords (codeword_in C.number (C.book codes.now)) symbols.now code
+        × IsQueueWords Word.BITS (begun.bits ++ code) (map Word.number made.0.items)
+        × (made.1 ≡ length (begun.bits ++ code))) }
 {
     let codebook = codes.encoder(alloc)?;
-    let mut encoder = QueueEncoder::<Word>::new(alloc);
+    let mut encoder = begun;
     let Ok(()) = WriteBitStream::<Queue>::encode_iid_symbols(&mut encoder, symbols, &codebook)
     else {
         return None;
     };
+    if !encoder.len_fits() {
+        return None;
+    }
+    let count = encoder.len();
     match encoder.into_compressed() {
-        Ok(words) => Some(words),
+        Ok(words) => Some((words, count)),
         Err(_) => None,
     }
 }

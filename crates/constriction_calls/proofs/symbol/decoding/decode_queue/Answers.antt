@@ -14,5 +14,5 @@ returns g c =
     record {
       call = filled g.C.Codes.number g.Word.BitArray.BITS AsQueue (g.C.Codes.book c.args.codes.now) words c.args.symbols.now (asked_ok made.ensures.asks).0
           (g.C.Decoder.Codebook.codeword made.codebook) made.ensures.codewords (g.C.Decoder.DecoderCodebook.reads_on made.codebook) made.ensures.cut (g.C.Decoder.DecoderCodebook.is_invalid made.codebook) made.ensures.wrong
-          c.from_compressed-decoder.result.bits given c.read_symbols.new.symbols c.read_symbols.result read.count read.ok read.err read.kept;
+          c.from_compressed-decoder.result.bits given c.read_symbols.new.stream.bits c.read_symbols.new.symbols c.read_symbols.result read.count read.ok read.err read.kept;
     }

@@ -38,5 +38,5 @@ returns g c =
     record {
       call = filled g.C.Codes.number w AsStack (g.C.Codes.book c.args.codes.now) (map number words) c.args.symbols.now (asked_ok made.ensures.asks).0
           (g.C.Decoder.Codebook.codeword made.codebook) made.ensures.codewords (g.C.Decoder.DecoderCodebook.reads_on made.codebook) made.ensures.cut (g.C.Decoder.DecoderCodebook.is_invalid made.codebook) made.ensures.wrong
-          (reverse bits) given c.read_symbols.new.symbols c.read_symbols.result read.count read.ok read.err read.kept;
+          (reverse bits) given (reverse c.read_symbols.new.stream.bits) c.read_symbols.new.symbols c.read_symbols.result read.count read.ok read.err read.kept;
     }
