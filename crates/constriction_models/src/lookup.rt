@@ -1,6 +1,6 @@
 //! `ContiguousLookupDecoderModel`: a model with a row for each quantile.
 //!
-//! A row holds the interval of a quantile's symbol. The symbols are in a second list, because the next step of a decoder
+//! A row holds the interval of a quantile's symbol. The symbols are in a second list, because a decoder's next step
 //! doesn't wait for them. If probabilities are `u16`, a row takes 4 bytes and a symbol 2 bytes. A processor scales an
 //! index by these sizes as it loads. At a precision of 12 bits, both lists fit the first-level cache.
 
