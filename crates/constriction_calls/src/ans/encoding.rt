@@ -11,9 +11,10 @@ ghost use Rattle.constriction_stack.specs.Symbols.{EncodesAll};
 
 use constriction_base::model::{EncoderModel, EntropyModel};
 use constriction_inputs::buffers::append;
-use constriction_inputs::intervals::rows_by_intervals;
+use constriction_inputs::intervals::{row_of_one, rows_by_intervals};
 use constriction_inputs::models::{ModelList, Models, Rows};
 use constriction_inputs::refusal::Refusal;
+use constriction_inputs::rows::Row;
 use constriction_stack::coder::AnsCoder;
 use constriction_stream::encoding::Encode;
 use constriction_words::{BitArray, WordOf};
@@ -96,6 +97,10 @@ pub fn encode_intervals_reverse<
 {
     if *len > words.len() {
         return Err(Refusal::WrongLength);
+    }
+    if let Some(row) = row_of_one::<P, PRECISION>(lefts, ps) {
+        let model = Row::<P, PRECISION>::of_total(&row);
+        return encode_reverse::<_, _, P, _, PRECISION>(alloc, head, words, len, &model, &[1]);
     }
     match rows_by_intervals::<P, PRECISION>(alloc, lefts, ps) {
         Ok((weights, ones)) => {

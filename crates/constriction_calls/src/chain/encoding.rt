@@ -18,18 +18,19 @@ use constriction_base::errors::CoderError;
 use constriction_base::model::{EncoderModel, EntropyModel};
 use constriction_chain::{ChainCoder, ChainCoderHeads, EncoderFrontendError};
 use constriction_inputs::buffers::append;
-use constriction_inputs::intervals::rows_by_intervals;
+use constriction_inputs::intervals::{row_of_one, rows_by_intervals};
 use constriction_inputs::models::{ModelList, Models, Rows};
 use constriction_inputs::refusal::Refusal;
+use constriction_inputs::rows::Row;
 use constriction_stream::encoding::Encode;
 use constriction_words::{BitArray, WordOf};
 use std::alloc::Global;
 
-/// A chain coder that reads borrowed remainders, and writes compressed words to a new vector.
-pub(crate) type Putting<'a, Word, State, const PRECISION: usize> = ChainCoder<
+/// A chain coder that reads borrowed remainders, and writes compressed words to borrowed room.
+type Putting<'a, Word, State, const PRECISION: usize> = ChainCoder<
     Word,
     State,
-    Vec<Word>,
+    Cursor<Word, &'a mut [Word]>,
     Cursor<Word, &'a [Word]>,
     PRECISION,
 >;
@@ -66,6 +67,53 @@ pub fn encode_reverse<
         (keeps heads.old compressed.old compressed_len.old remainders.now remainders_len.old)
         (keeps heads.new compressed.new compressed_len.new remainders.now remainders_len.new) result }
 {
+    let mut room = match vec![in alloc; Word::nothing(); symbols.len()] {
+        Ok(room) => room,
+        Err(_) => Vec::new(alloc),
+    };
+    encode_within(
+        alloc,
+        &mut room,
+        heads,
+        compressed,
+        compressed_len,
+        remainders,
+        remainders_len,
+        models,
+        symbols,
+    )
+}
+
+/// Encodes as [`encode_reverse`] does, with `room` for the words that the encodes write, one for each symbol at most.
+///
+/// # Errors
+///
+/// The errors of [`encode_reverse`]. `NoMemory` is also returned if `room` has too few places.
+#[inline]
+fn encode_within<
+    Word: WordOf<State>,
+    State: BitArray,
+    P: WordOf<Word>,
+    G: Models<P, PRECISION>,
+    const PRECISION: usize,
+>(
+    alloc: Global,
+    room: &mut [Word],
+    heads: &mut ChainHeads<Word, State>,
+    compressed: &mut [Word],
+    compressed_len: &mut usize,
+    remainders: &[Word],
+    remainders_len: &mut usize,
+    models: &G,
+    symbols: &[usize],
+) -> Result<(), Refusal>
+    requires sized { IsSized Word.BITS State.BITS PRECISION }
+    requires within { PRECISION ≤ P.BITS }
+    requires fits { CoderFits Word.row State.row }
+    ensures call { ChainPuts Word.number State.number Word.BITS State.BITS PRECISION (G.coded models.now symbols.now)
+        (keeps heads.old compressed.old compressed_len.old remainders.now remainders_len.old)
+        (keeps heads.new compressed.new compressed_len.new remainders.now remainders_len.new) result }
+{
     if *compressed_len > compressed.len() || *remainders_len > remainders.len() {
         return Err(Refusal::WrongLength);
     }
@@ -77,7 +125,7 @@ pub fn encode_reverse<
         return Err(Refusal::InvalidData);
     };
     let lent = Cursor::new_at_write_end(&remainders[..*remainders_len]);
-    let mut coder = ChainCoder::from_raw_parts(Vec::new(alloc), lent, both);
+    let mut coder = ChainCoder::from_raw_parts(Cursor::new_at_write_beginning(room), lent, both);
     match put_by(alloc, &mut coder, models, symbols) {
         Ok(()) => {}
         Err(refusal) => return Err(refusal),
@@ -121,6 +169,21 @@ pub fn encode_intervals_reverse<
 {
     if *compressed_len > compressed.len() || *remainders_len > remainders.len() {
         return Err(Refusal::WrongLength);
+    }
+    if let Some(row) = row_of_one::<P, PRECISION>(lefts, ps) {
+        let model = Row::<P, PRECISION>::of_total(&row);
+        let mut room = [Word::nothing()];
+        return encode_within::<Word, State, P, _, PRECISION>(
+            alloc,
+            &mut room,
+            heads,
+            compressed,
+            compressed_len,
+            remainders,
+            remainders_len,
+            &model,
+            &[1],
+        );
     }
     let (rows, ones) = match rows_by_intervals::<P, PRECISION>(alloc, lefts, ps) {
         Ok(made) => made,
@@ -264,7 +327,8 @@ fn end_putting<'a, Word: WordOf<State>, State: BitArray, const PRECISION: usize>
         × (compressed.new ≡ compressed.old) × (compressed_len.new ≡ compressed_len.old)) }
 {
     let (written, words, both) = coder.into_raw_parts();
-    match append(written.as_slice(), compressed, compressed_len) {
+    let (room, count) = written.into_buf_and_pos();
+    match append(&room[..count], compressed, compressed_len) {
         Ok(()) => {}
         Err(refusal) => return Err(refusal),
     }

@@ -11,9 +11,10 @@ ghost use Rattle.constriction_calls.specs.RangeCalls.{IsEncoderKept, RangePuts, 
 
 use crate::range::parts::{EncoderParts, encoder_for, parts_of};
 use constriction_inputs::buffers::append;
-use constriction_inputs::intervals::rows_by_intervals;
+use constriction_inputs::intervals::{row_of_one, rows_by_intervals};
 use constriction_inputs::models::{ModelList, Models, Rows};
 use constriction_inputs::refusal::Refusal;
+use constriction_inputs::rows::Row;
 use constriction_queue::RangeEncoder;
 use constriction_stream::encoding::Encode;
 use constriction_words::{BitArray, WordOf};
@@ -179,6 +180,10 @@ pub fn encode_intervals<
 {
     if *len > buffer.len() {
         return Err(Refusal::WrongLength);
+    }
+    if let Some(row) = row_of_one::<P, PRECISION>(lefts, ps) {
+        let model = Row::<P, PRECISION>::of_total(&row);
+        return encode::<Word, State, P, _, PRECISION>(alloc, encoder, buffer, len, &model, &[1]);
     }
     let can = encoder_for(alloc, *encoder, ps.len()).is_some();
     match rows_by_intervals::<P, PRECISION>(alloc, lefts, ps) {

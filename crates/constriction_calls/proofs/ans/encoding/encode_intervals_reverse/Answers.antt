@@ -1,11 +1,25 @@
-use Rattle.std.proofs.Common.{◌≡◌, ◌≤◌, ◌∙◌, ◌*◌, ℕ, List, arith, length, map, sym}
+use Rattle.std.proofs.Common.{◌≡◌, ◌≤◌, ◌∙◌, ◌*◌, ◌∷◌, [], ℕ, List, arith, length, map, sym}
 use Rattle.std.proofs.lemmas.List.{length-map}
 use Rattle.constriction_inputs.specs.Coded.{items}
 use Rattle.constriction_inputs.specs.Intervals.{as_intervals}
 use Rattle.constriction_inputs.specs.Rows.{AreTotals, by_rows}
+use Rattle.constriction_inputs.specs.Weights.{by_weights}
 use Rattle.constriction_calls.specs.AnsCalls.{coder_of}
 use Rattle.constriction_calls.proofs.AnsAnswers.{intervals_refused, puts_as}
 use Rattle.constriction_calls.proofs.ans.encoding.encode_intervals_reverse.Goals as goal
+
+pub returns-in-Some : goal.returns-in-Some
+returns-in-Some g c =
+    let p = g.P.BitArray.number in
+    let now = c.encode_reverse.new in
+    let made = c.in-Some.ensures in
+    let one = by_weights (map p c.of_total.result.weights.now) (1 ∷ []) in
+    let coded = as_intervals (map p c.args.lefts.now) (map p c.args.ps.now) in
+    let is : items g.row.PRECISION one ≡ items g.row.PRECISION coded = rw c.of_total.ensures made.items in
+    record {
+      call = puts_as g.Word.BitArray.number g.State.BitArray.number g.Word.BitArray.BITS g.State.BitArray.BITS g.row.PRECISION one coded
+          (coder_of c.args.head.now c.args.words.now c.args.len.now) (coder_of now.head now.words now.len) c.encode_reverse.result is (tt, tt, rw c.of_total.ensures made.total) made.fit c.encode_reverse.ensures.call;
+    }
 
 pub returns-in-Ok : goal.returns-in-Ok
 returns-in-Ok g c =

@@ -1,13 +1,29 @@
-use Rattle.std.proofs.Common.{rules, ◌≡◌, ◌∙◌, ◌*◌, ℕ, List, arith, inr, length, map, refl, sym}
+use Rattle.std.proofs.Common.{rules, ◌≡◌, ◌∙◌, ◌*◌, ◌∷◌, [], ℕ, List, arith, inr, length, map, refl, sym}
 use Rattle.std.proofs.lemmas.List.{length-map}
 use Rattle.constriction_calls.specs.ChainCalls.{keeps}
 use Rattle.constriction_inputs.specs.Coded.{items}
 use Rattle.constriction_inputs.specs.Intervals.{as_intervals}
 use Rattle.constriction_inputs.specs.Rows.{AreTotals, by_rows}
+use Rattle.constriction_inputs.specs.Weights.{by_weights}
 use Rattle.constriction_inputs.specs.declared.refusal.Refusal.TheVariants as refusals
 use Rattle.constriction_calls.proofs.ChainAnswers.{puts_as, puts_headless, puts_stopped}
 use Rattle.constriction_calls.proofs.Intervals.{intervals_fit, intervals_known}
 use Rattle.constriction_calls.proofs.chain.encoding.encode_intervals_reverse.Goals as goal
+
+pub returns-in-Some-row : goal.returns-in-Some-row
+returns-in-Some-row g c =
+    let p = g.P.BitArray.number in
+    let now = c.encode_within.new in
+    let made = c.in-Some-row.ensures in
+    let one = by_weights (map p c.of_total.result.weights.now) (1 ∷ []) in
+    let coded = as_intervals (map p c.args.lefts.now) (map p c.args.ps.now) in
+    let is : items g.row.PRECISION one ≡ items g.row.PRECISION coded = rw c.of_total.ensures made.items in
+    record {
+      call = puts_as g.Word.BitArray.number g.State.BitArray.number g.Word.BitArray.BITS g.State.BitArray.BITS g.row.PRECISION
+          (keeps c.args.heads.now c.args.compressed.now c.args.compressed_len.now c.args.remainders.now c.args.remainders_len.now)
+          one coded is (tt, tt, rw c.of_total.ensures made.total) made.fit
+          (keeps now.heads now.compressed now.compressed_len c.args.remainders.now now.remainders_len) c.encode_within.result c.encode_within.ensures.call;
+    }
 
 pub returns : goal.returns
 returns g c =
