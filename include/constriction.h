@@ -51,8 +51,8 @@
 
    ONE SYMBOL AT A TIME. To encode one symbol, pass its interval. To decode one, if you can search the sums of the
    weights yourself, compute the quantile from the state, find its symbol, and pass three weights: the sum of all
-   below it, its own, and the sum of all above it. The call then decodes symbol 1. Each of the two takes about 0.1
-   microseconds. The quantile is:
+   below it, its own, and the sum of all above it. The call then decodes symbol 1. The encode takes about 25
+   nanoseconds, and the decode 0.1 microseconds. The quantile is:
    - for the stack coder, head % 2^24 (2^12).
    - for the range coder, (point - lower) / (range >> 24) (range >> 12), in the type of the state, with a difference
      that wraps. If it is 2^24 (2^12) or more, no encoder wrote the words, and each decode returns INVALID_DATA.

@@ -84,11 +84,11 @@ pub fn encode_reverse<
     )
 }
 
-/// Encodes as [`encode_reverse`] does, with `room` for the words that the encodes write, one for each symbol at most.
+/// Encodes as [`encode_reverse`] does. `room` has a place for each symbol, because an encode writes at most one word.
 ///
 /// # Errors
 ///
-/// The errors of [`encode_reverse`]. `NoMemory` is also returned if `room` has too few places.
+/// The errors of [`encode_reverse`]. `NoMemory` is also returned if `room` has fewer places than there are symbols.
 #[inline]
 fn encode_within<
     Word: WordOf<State>,
@@ -125,8 +125,9 @@ fn encode_within<
         return Err(Refusal::InvalidData);
     };
     let lent = Cursor::new_at_write_end(&remainders[..*remainders_len]);
+    let is_room = symbols.len() <= room.len();
     let mut coder = ChainCoder::from_raw_parts(Cursor::new_at_write_beginning(room), lent, both);
-    match put_by(alloc, &mut coder, models, symbols) {
+    match put_by(alloc, is_room, &mut coder, models, symbols) {
         Ok(()) => {}
         Err(refusal) => return Err(refusal),
     }
@@ -218,6 +219,8 @@ pub fn encode_intervals_reverse<
 
 /// Encodes symbols from the last to the first, each under its own model, onto `coder`.
 ///
+/// If `is_room` is false, it encodes none and has no memory.
+///
 /// # Errors
 ///
 /// `ImpossibleSymbol` exactly if a model has no entry for its symbol. Otherwise `OutOfData` or `NoMemory`.
@@ -230,6 +233,7 @@ fn put_by<
     const PRECISION: usize,
 >(
     alloc: Global,
+    is_room: bool,
     coder: &mut Putting<'a, Word, State, PRECISION>,
     models: &G,
     symbols: &[usize],
@@ -242,12 +246,16 @@ fn put_by<
         (Else (λ e. (e ≡ refusals.NoMemory) ⊎ ((e ≡ refusals.OutOfData) × LacksRemainders Word.BITS State.BITS
         (reverse (items PRECISION (G.coded models.now symbols.now))) coder.old.state))) result }
 {
-    let refusal = match models.list(alloc, symbols, true) {
-        Some(mut list) => match put_symbols(coder, &mut list, symbols) {
-            Ok(()) => return Ok(()),
-            Err(refusal) => refusal,
-        },
-        None => Refusal::NoMemory,
+    let refusal = if is_room {
+        match models.list(alloc, symbols, true) {
+            Some(mut list) => match put_symbols(coder, &mut list, symbols) {
+                Ok(()) => return Ok(()),
+                Err(refusal) => refusal,
+            },
+            None => Refusal::NoMemory,
+        }
+    } else {
+        Refusal::NoMemory
     };
     if models.know(symbols) {
         Err(refusal)
