@@ -43,6 +43,7 @@ impl<'a, P: BitArray, const PRECISION: usize> Row<'a, P, PRECISION> {
         ensures ok { IfSome result
             (λ row. ⟦<Row<'a, P, PRECISION> as EntropyModel<PRECISION>>⟧.table row
             ≡ table_of (map P.number weights.now)) }
+        ensures weights { IfSome result (λ row. row.weights.now ≡ weights.now) }
         ensures variant { IsSome result ↔ IsTotal PRECISION (map P.number weights.now) }
     {
         if is_total::<P, PRECISION>(weights) {
