@@ -95,12 +95,37 @@ pub fn encode_intervals_reverse<
         (as_intervals (map P.number lefts.now) (map P.number ps.now))
         (coder_of head.old words.old len.old) (coder_of head.new words.new len.new) result }
 {
-    if *len > words.len() {
-        return Err(Refusal::WrongLength);
-    }
-    if let Some(row) = row_of_one::<P, PRECISION>(lefts, ps) {
+    if lefts.len() == 1
+        && size_of_val(lefts) <= 64
+        && let Some(row) = row_of_one::<P, PRECISION>(lefts, ps)
+    {
         let model = Row::<P, PRECISION>::of_total(&row);
         return encode_reverse::<_, _, P, _, PRECISION>(alloc, head, words, len, &model, &[1]);
+    }
+    intervals_by_rows::<_, _, P, PRECISION>(alloc, head, words, len, lefts, ps)
+}
+
+/// Encodes intervals as [`encode_intervals_reverse`] does, with a row of three weights for each interval.
+///
+/// # Errors
+///
+/// The errors of [`encode_intervals_reverse`].
+fn intervals_by_rows<Word: WordOf<State>, State: BitArray, P: WordOf<Word>, const PRECISION: usize>(
+    alloc: Global,
+    head: &mut State,
+    words: &mut [Word],
+    len: &mut usize,
+    lefts: &[P],
+    ps: &[P],
+) -> Result<(), Refusal>
+    requires sizes { IsSizes Word.BITS State.BITS }
+    requires precision { (1 ≤ PRECISION) × (PRECISION ≤ P.BITS) }
+    ensures call { AnsPuts Word.number State.number Word.BITS State.BITS PRECISION
+        (as_intervals (map P.number lefts.now) (map P.number ps.now))
+        (coder_of head.old words.old len.old) (coder_of head.new words.new len.new) result }
+{
+    if *len > words.len() {
+        return Err(Refusal::WrongLength);
     }
     match rows_by_intervals::<P, PRECISION>(alloc, lefts, ps) {
         Ok((weights, ones)) => {

@@ -168,10 +168,10 @@ pub fn encode_intervals_reverse<
         (keeps heads.old compressed.old compressed_len.old remainders.now remainders_len.old)
         (keeps heads.new compressed.new compressed_len.new remainders.now remainders_len.new) result }
 {
-    if *compressed_len > compressed.len() || *remainders_len > remainders.len() {
-        return Err(Refusal::WrongLength);
-    }
-    if let Some(row) = row_of_one::<P, PRECISION>(lefts, ps) {
+    if lefts.len() == 1
+        && size_of_val(lefts) <= 64
+        && let Some(row) = row_of_one::<P, PRECISION>(lefts, ps)
+    {
         let model = Row::<P, PRECISION>::of_total(&row);
         let mut room = [Word::nothing()];
         return encode_within::<Word, State, P, _, PRECISION>(
@@ -185,6 +185,44 @@ pub fn encode_intervals_reverse<
             &model,
             &[1],
         );
+    }
+    intervals_by_rows::<_, _, P, PRECISION>(
+        alloc,
+        heads,
+        compressed,
+        compressed_len,
+        remainders,
+        remainders_len,
+        lefts,
+        ps,
+    )
+}
+
+/// Encodes intervals as [`encode_intervals_reverse`] does, with a row of three weights for each interval.
+///
+/// # Errors
+///
+/// The errors of [`encode_intervals_reverse`].
+fn intervals_by_rows<Word: WordOf<State>, State: BitArray, P: WordOf<Word>, const PRECISION: usize>(
+    alloc: Global,
+    heads: &mut ChainHeads<Word, State>,
+    compressed: &mut [Word],
+    compressed_len: &mut usize,
+    remainders: &[Word],
+    remainders_len: &mut usize,
+    lefts: &[P],
+    ps: &[P],
+) -> Result<(), Refusal>
+    requires sized { IsSized Word.BITS State.BITS PRECISION }
+    requires within { PRECISION ≤ P.BITS }
+    requires fits { CoderFits Word.row State.row }
+    ensures call { ChainPuts Word.number State.number Word.BITS State.BITS PRECISION
+        (as_intervals (map P.number lefts.now) (map P.number ps.now))
+        (keeps heads.old compressed.old compressed_len.old remainders.now remainders_len.old)
+        (keeps heads.new compressed.new compressed_len.new remainders.now remainders_len.new) result }
+{
+    if *compressed_len > compressed.len() || *remainders_len > remainders.len() {
+        return Err(Refusal::WrongLength);
     }
     let (rows, ones) = match rows_by_intervals::<P, PRECISION>(alloc, lefts, ps) {
         Ok(made) => made,
