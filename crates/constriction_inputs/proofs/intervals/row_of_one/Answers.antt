@@ -1,4 +1,4 @@
-use Rattle.std.proofs.Common.{◌≡◌, ◌∷◌, [], true, List, length, arith, rules}
+use Rattle.std.proofs.Common.{◌≡◌, true, length, arith, rules}
 use Rattle.constriction_inputs.proofs.IntervalRows.{lone_fit, lone_item}
 use Rattle.constriction_inputs.proofs.intervals.row_of_one.Goals as goal
 
