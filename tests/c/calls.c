@@ -76,6 +76,11 @@ static uint32_t ans_encode_singles(struct world *w) {
     return result;
 }
 static uint32_t ans_decode(struct world *w) { return C(ans_decode)(&w->head, BUFFER, TABLE, TAKEN); }
+static uint32_t ans_decode_singles(struct world *w) {
+    uint32_t result = CONSTRICTION_DONE;
+    for (size_t i = 0; i < in.count && !result; i++) result = C(ans_decode)(&w->head, BUFFER, TABLE, w->symbols + i, 1);
+    return result;
+}
 static uint32_t ans_decode_each(struct world *w) { return C(ans_decode_each)(&w->head, BUFFER, ROWS, TAKEN); }
 static uint32_t ans_export(struct world *w) { return C(ans_into_compressed)(w->head, BUFFER, &w->needed); }
 static uint32_t ans_import(struct world *w) { return C(ans_from_compressed)(w->words, w->len, &w->len, &w->head); }
@@ -96,6 +101,12 @@ static uint32_t range_export(struct world *w) { return C(range_into_compressed)(
 static uint32_t range_followed(struct world *w) { return C(range_into_self_delimited)(&w->encoder, BUFFER, &w->needed); }
 static uint32_t range_import(struct world *w) { return C(range_from_compressed)(w->words, w->len, &w->decoder); }
 static uint32_t range_decode(struct world *w) { return C(range_decode)(&w->decoder, w->words, w->len, TABLE, TAKEN); }
+static uint32_t range_decode_singles(struct world *w) {
+    uint32_t result = CONSTRICTION_DONE;
+    for (size_t i = 0; i < in.count && !result; i++)
+        result = C(range_decode)(&w->decoder, w->words, w->len, TABLE, w->symbols + i, 1);
+    return result;
+}
 static uint32_t range_decode_each(struct world *w) { return C(range_decode_each)(&w->decoder, w->words, w->len, ROWS, TAKEN); }
 static uint32_t range_maybe(struct world *w) { return C(range_maybe_exhausted)(&w->decoder, w->words, w->len, &w->maybe); }
 
@@ -109,6 +120,12 @@ static uint32_t chain_import(struct world *w) { return C(chain_from_compressed)(
 static uint32_t chain_import_binary(struct world *w) { return C(chain_from_binary)(w->other, w->other_len, &w->other_len, &w->heads); }
 static uint32_t chain_import_remainders(struct world *w) { return C(chain_from_remainders)(w->other, w->other_len, &w->other_len, &w->heads); }
 static uint32_t chain_decode(struct world *w) { return C(chain_decode)(&w->heads, OTHER, BUFFER, TABLE, TAKEN, &w->needed); }
+static uint32_t chain_decode_singles(struct world *w) {
+    uint32_t result = CONSTRICTION_DONE;
+    for (size_t i = 0; i < in.count && !result; i++)
+        result = C(chain_decode)(&w->heads, OTHER, BUFFER, TABLE, w->symbols + i, 1, &w->needed);
+    return result;
+}
 static uint32_t chain_decode_each(struct world *w) { return C(chain_decode_each)(&w->heads, OTHER, BUFFER, ROWS, TAKEN, &w->needed); }
 static uint32_t chain_encode(struct world *w) { return C(chain_encode_reverse)(&w->heads, BUFFER, OTHER, TABLE, GIVEN, &w->needed); }
 static uint32_t chain_encode_each(struct world *w) { return C(chain_encode_each_reverse)(&w->heads, BUFFER, OTHER, ROWS, GIVEN, &w->needed); }
@@ -211,6 +228,7 @@ static void ans(size_t count) {
 
     done("ANS: encode", ans_encode, &w);
     refused_memory("ANS: decode, memory", ans_decode, &w);
+    same("ANS: decode, one a call", ans_decode, ans_decode_singles, &w);
     w.capacity = w.len;
     done("ANS: decode", ans_decode, &w);
     CHECK("ANS: there and back", same_symbols(&w) && w.head == start.head && w.len == start.len);
@@ -278,6 +296,7 @@ static void range(size_t count) {
         CHECK("range: not exhausted", w.maybe == 0);
     }
     refused_memory("range: decode, memory", range_decode, &w);
+    same("range: decode, one a call", range_decode, range_decode_singles, &w);
     done("range: decode", range_decode, &w);
     CHECK("range: there and back", same_symbols(&w));
     refused_memory("range: decode under rows, memory", range_decode_each, &w);
@@ -527,6 +546,7 @@ static void chain(size_t count) {
     start.other_len = ROOM, start.other[ROOM - 1] |= 1;
     done("chain: import", chain_import, &start);
     every_length("chain: decode", chain_decode, &start, BEHIND);
+    same("chain: decode, one a call", chain_decode, chain_decode_singles, &start);
     every_length("chain: decode under rows", chain_decode_each, &start, BEHIND);
     refused_memory("chain: decode, memory", chain_decode, &start);
     refused_memory("chain: decode under rows, memory", chain_decode_each, &start);
