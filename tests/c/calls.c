@@ -69,7 +69,18 @@ static uint32_t ans_encode(struct world *w) { return C(ans_encode_reverse)(&w->h
 static uint32_t ans_encode_each(struct world *w) { return C(ans_encode_each_reverse)(&w->head, BUFFER, ROWS, GIVEN, &w->needed); }
 static uint32_t ans_encode_pairs(struct world *w) { return C(ans_encode_intervals_reverse)(&w->head, BUFFER, PAIRS, &w->needed); }
 static uint32_t ans_encode_row_pairs(struct world *w) { return C(ans_encode_intervals_reverse)(&w->head, BUFFER, ROW_PAIRS, &w->needed); }
+static uint32_t ans_encode_singles(struct world *w) {
+    uint32_t result = CONSTRICTION_DONE;
+    for (size_t i = in.count; i-- > 0 && !result;)
+        result = C(ans_encode_intervals_reverse)(&w->head, BUFFER, in.lefts + i, 1, in.ps + i, 1, &w->needed);
+    return result;
+}
 static uint32_t ans_decode(struct world *w) { return C(ans_decode)(&w->head, BUFFER, TABLE, TAKEN); }
+static uint32_t ans_decode_singles(struct world *w) {
+    uint32_t result = CONSTRICTION_DONE;
+    for (size_t i = 0; i < in.count && !result; i++) result = C(ans_decode)(&w->head, BUFFER, TABLE, w->symbols + i, 1);
+    return result;
+}
 static uint32_t ans_decode_each(struct world *w) { return C(ans_decode_each)(&w->head, BUFFER, ROWS, TAKEN); }
 static uint32_t ans_export(struct world *w) { return C(ans_into_compressed)(w->head, BUFFER, &w->needed); }
 static uint32_t ans_import(struct world *w) { return C(ans_from_compressed)(w->words, w->len, &w->len, &w->head); }
@@ -80,10 +91,22 @@ static uint32_t range_encode(struct world *w) { return C(range_encode)(&w->encod
 static uint32_t range_encode_each(struct world *w) { return C(range_encode_each)(&w->encoder, BUFFER, ROWS, GIVEN, &w->needed); }
 static uint32_t range_encode_pairs(struct world *w) { return C(range_encode_intervals)(&w->encoder, BUFFER, PAIRS, &w->needed); }
 static uint32_t range_encode_row_pairs(struct world *w) { return C(range_encode_intervals)(&w->encoder, BUFFER, ROW_PAIRS, &w->needed); }
+static uint32_t range_encode_singles(struct world *w) {
+    uint32_t result = CONSTRICTION_DONE;
+    for (size_t i = 0; i < in.count && !result; i++)
+        result = C(range_encode_intervals)(&w->encoder, BUFFER, in.lefts + i, 1, in.ps + i, 1, &w->needed);
+    return result;
+}
 static uint32_t range_export(struct world *w) { return C(range_into_compressed)(&w->encoder, BUFFER, &w->needed); }
 static uint32_t range_followed(struct world *w) { return C(range_into_self_delimited)(&w->encoder, BUFFER, &w->needed); }
 static uint32_t range_import(struct world *w) { return C(range_from_compressed)(w->words, w->len, &w->decoder); }
 static uint32_t range_decode(struct world *w) { return C(range_decode)(&w->decoder, w->words, w->len, TABLE, TAKEN); }
+static uint32_t range_decode_singles(struct world *w) {
+    uint32_t result = CONSTRICTION_DONE;
+    for (size_t i = 0; i < in.count && !result; i++)
+        result = C(range_decode)(&w->decoder, w->words, w->len, TABLE, w->symbols + i, 1);
+    return result;
+}
 static uint32_t range_decode_each(struct world *w) { return C(range_decode_each)(&w->decoder, w->words, w->len, ROWS, TAKEN); }
 static uint32_t range_maybe(struct world *w) { return C(range_maybe_exhausted)(&w->decoder, w->words, w->len, &w->maybe); }
 
@@ -97,11 +120,23 @@ static uint32_t chain_import(struct world *w) { return C(chain_from_compressed)(
 static uint32_t chain_import_binary(struct world *w) { return C(chain_from_binary)(w->other, w->other_len, &w->other_len, &w->heads); }
 static uint32_t chain_import_remainders(struct world *w) { return C(chain_from_remainders)(w->other, w->other_len, &w->other_len, &w->heads); }
 static uint32_t chain_decode(struct world *w) { return C(chain_decode)(&w->heads, OTHER, BUFFER, TABLE, TAKEN, &w->needed); }
+static uint32_t chain_decode_singles(struct world *w) {
+    uint32_t result = CONSTRICTION_DONE;
+    for (size_t i = 0; i < in.count && !result; i++)
+        result = C(chain_decode)(&w->heads, OTHER, BUFFER, TABLE, w->symbols + i, 1, &w->needed);
+    return result;
+}
 static uint32_t chain_decode_each(struct world *w) { return C(chain_decode_each)(&w->heads, OTHER, BUFFER, ROWS, TAKEN, &w->needed); }
 static uint32_t chain_encode(struct world *w) { return C(chain_encode_reverse)(&w->heads, BUFFER, OTHER, TABLE, GIVEN, &w->needed); }
 static uint32_t chain_encode_each(struct world *w) { return C(chain_encode_each_reverse)(&w->heads, BUFFER, OTHER, ROWS, GIVEN, &w->needed); }
 static uint32_t chain_encode_pairs(struct world *w) { return C(chain_encode_intervals_reverse)(&w->heads, BUFFER, OTHER, PAIRS, &w->needed); }
 static uint32_t chain_encode_row_pairs(struct world *w) { return C(chain_encode_intervals_reverse)(&w->heads, BUFFER, OTHER, ROW_PAIRS, &w->needed); }
+static uint32_t chain_encode_singles(struct world *w) {
+    uint32_t result = CONSTRICTION_DONE;
+    for (size_t i = in.count; i-- > 0 && !result;)
+        result = C(chain_encode_intervals_reverse)(&w->heads, BUFFER, OTHER, in.lefts + i, 1, in.ps + i, 1, &w->needed);
+    return result;
+}
 static uint32_t chain_export(struct world *w) { return C(chain_into_compressed)(&w->heads, BUFFER, &w->needed); }
 static uint32_t chain_export_binary(struct world *w) { return C(chain_into_binary)(&w->heads, BUFFER, &w->needed); }
 static uint32_t chain_export_remainders(struct world *w) { return C(chain_into_remainders)(&w->heads, BUFFER, &w->needed); }
@@ -198,10 +233,12 @@ static void ans(size_t count) {
     refused_memory("ANS: encode by intervals, memory", ans_encode_pairs, &start);
     refused_memory("ANS: export, memory", ans_export, &start);
     same("ANS: intervals", ans_encode, ans_encode_pairs, &start);
+    same("ANS: intervals, one a call", ans_encode, ans_encode_singles, &start);
     same("ANS: intervals of rows", ans_encode_each, ans_encode_row_pairs, &start);
 
     done("ANS: encode", ans_encode, &w);
     refused_memory("ANS: decode, memory", ans_decode, &w);
+    same("ANS: decode, one a call", ans_decode, ans_decode_singles, &w);
     w.capacity = w.len;
     done("ANS: decode", ans_decode, &w);
     CHECK("ANS: there and back", same_symbols(&w) && w.head == start.head && w.len == start.len);
@@ -254,6 +291,7 @@ static void range(size_t count) {
     refused_memory("range: export that holds whatever follows, memory", range_followed, &start);
     same("range: both exports", range_export, range_followed, &start);
     same("range: intervals", range_encode, range_encode_pairs, &start);
+    same("range: intervals, one a call", range_encode, range_encode_singles, &start);
     same("range: intervals of rows", range_encode_each, range_encode_row_pairs, &start);
 
     w = fresh();
@@ -268,6 +306,7 @@ static void range(size_t count) {
         CHECK("range: not exhausted", w.maybe == 0);
     }
     refused_memory("range: decode, memory", range_decode, &w);
+    same("range: decode, one a call", range_decode, range_decode_singles, &w);
     done("range: decode", range_decode, &w);
     CHECK("range: there and back", same_symbols(&w));
     refused_memory("range: decode under rows, memory", range_decode_each, &w);
@@ -519,6 +558,7 @@ static void chain(size_t count) {
     start.other_len = ROOM, start.other[ROOM - 1] |= 1;
     done("chain: import", chain_import, &start);
     every_length("chain: decode", chain_decode, &start, BEHIND);
+    same("chain: decode, one a call", chain_decode, chain_decode_singles, &start);
     every_length("chain: decode under rows", chain_decode_each, &start, BEHIND);
     refused_memory("chain: decode, memory", chain_decode, &start);
     refused_memory("chain: decode under rows, memory", chain_decode_each, &start);
@@ -544,6 +584,7 @@ static void chain(size_t count) {
         }
         call *encode = each ? chain_encode_each : chain_encode;
         same("chain: intervals", encode, each ? chain_encode_row_pairs : chain_encode_pairs, &back);
+        if (!each) same("chain: intervals, one a call", encode, chain_encode_singles, &back);
         every_length("chain: encode", encode, &back, BEHIND);
         every_length("chain: encode by intervals", each ? chain_encode_row_pairs : chain_encode_pairs, &back, BEHIND);
         refused_memory("chain: encode, memory", encode, &back);

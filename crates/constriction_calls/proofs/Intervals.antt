@@ -1,5 +1,5 @@
 -- Intervals that a caller hands in: that their symbols are known, and what the refusals of their rows say.
-use Rattle.std.proofs.Common.{◌≡◌, ◌≢◌, ◌⊎◌, ◌↔◌, ◌∙◌, ◌+◌, ◌^◌, ℕ, List, [], ◌∷◌, Err, Result, length, map, arith, inl, inr, refl, sym}
+use Rattle.std.proofs.Common.{◌≡◌, ◌≢◌, ◌⊎◌, ◌↔◌, ◌∙◌, ◌+◌, ◌*◌, ◌^◌, ◌<◌, ◌≤◌, ℕ, List, [], ◌∷◌, Err, Result, length, map, arith, inl, inr, refl, sym}
 use Rattle.std.specs.Prelude.{IsErrOf}
 use Rattle.std.proofs.lemmas.Bool.{cases_eq, cases_lt}
 use Rattle.std.proofs.lemmas.List.{length-map}
@@ -52,3 +52,8 @@ module _ {T P : Type 0} (number : P → ℕ) (precision : ℕ) (lefts ps : List 
   intervals_refused others (inr (inr is)) next =
       let fit = intervals_fit is in
       rw is (fit_then precision (as_intervals (map number lefts) (map number ps)) fit (next fit.1))
+
+-- ---- a single interval
+-- three numbers of a type fit in memory, where one of them takes few bytes
+pub three_fit : (n bytes size : ℕ) → n ≡ 1 → bytes ≡ n * size → bytes ≤ 64 → 3 * size < 9223372036854775808
+three_fit n bytes size one is few = (let small = rw one at is in omega (arith, small, few))

@@ -1,20 +1,20 @@
 -- What calls of the range coder did, as their records say it.
-use Rattle.std.proofs.Common.{◌≡◌, ℕ, ◌+◌, ◌-◌, ◌/◌, ◌<◌, ◌≤◌, ◌^◌, ◌⊎◌, List, [], ◌++◌, length, map, take, refl, sym, ap, ◌∙◌, inl, inr, arith, Result, Ok, Err}
+use Rattle.std.proofs.Common.{◌≡◌, ℕ, ◌+◌, ◌-◌, ◌/◌, ◌<◌, ◌≤◌, ◌^◌, ◌⊎◌, List, [], ◌++◌, length, map, take, refl, sym, ap, subst, ◌∙◌, inl, inr, arith, Result, Ok, Err}
 use Rattle.std.specs.Prelude.{OnErr, OnOk, IfErr}
 use Rattle.std.proofs.lemmas.List.{length-append, length-map, length-take, map-append}
-use Rattle.constriction_base.specs.Models.{AreKnown}
+use Rattle.constriction_base.specs.Models.{AreKnown, Item}
 use Rattle.constriction_base.specs.Steps.{IsSizes}
 use Rattle.constriction_queue.specs.Range.{Run, narrowed_by, sealed}
 use Rattle.constriction_queue.specs.Symbols.{NarrowsAll}
 use Rattle.constriction_inputs.specs.Buffers.{Appended}
 use Rattle.constriction_inputs.specs.Coded.{AreFit, Coded, items}
-use Rattle.constriction_calls.specs.RangeCalls.{CanEncode, IsDecoderKept, IsEncoderKept, IsSealed, IsSelfSealed, LacksRoom, LeadsBy, LeadsNowhere, RangeKept, RangePuts, RangeSeals, RangeTakes, RoomFirst, count_needed, run_kept}
-use Rattle.constriction_inputs.specs.Refusals.{Room, Words}
+use Rattle.constriction_calls.specs.RangeCalls.{CanEncode, IsDecoderKept, IsEncodedBy, IsEncoderKept, IsSealed, IsSelfSealed, LacksRoom, LeadsBy, LeadsNowhere, RangeKept, RangePuts, RangeSeals, RangeTakes, RoomFirst, count_needed, run_kept}
+use Rattle.constriction_inputs.specs.Refusals.{Asks, Else, Room, Words}
 use Rattle.constriction_inputs.specs.declared.refusal.Refusal.{Refusal}
 use Rattle.constriction_inputs.specs.declared.refusal.Refusal.TheVariants as refusals
 use Rattle.constriction_calls.specs.declared.range.parts.DecoderParts.{DecoderParts}
 use Rattle.constriction_calls.specs.declared.range.parts.EncoderParts.{EncoderParts}
-use Rattle.constriction_inputs.proofs.Asking.{asked_ok, fit_then, room_of}
+use Rattle.constriction_inputs.proofs.Asking.{asked_ok, fit_behind, fit_then, room_of}
 use Rattle.constriction_calls.proofs.Known.{known_by}
 use Rattle.constriction_calls.proofs.RangeKept.{interval_kept, narrows_kept, sealed_kept, sealed_self}
 
@@ -60,6 +60,27 @@ module _ {Word State : Type 0} (number : Word → ℕ) (state : State → ℕ) (
             let lacks : LacksRoom number state w s (items precision (coded symbols)) old.encoder old.words old.len (old.len + length added) =
             record { less = less; new = now; words = take old.len old.words ++ added; narrowed = narrowed; is = is; count = omega (arith, count, length-take old.len old.words, within) } in
             puts_room known new kept e (room_of _ e (old.len + length added) why lacks)
+
+-- an encode of the same items, handed in otherwise
+module _ {Word State : Type 0} (number : Word → ℕ) (state : State → ℕ) (w s precision : ℕ) (coded other : List ℕ → Coded) (symbols others : List ℕ) (old new : RangeKept Word State) (answer : Result (Unit {0}) Refusal) where
+  abbrev behind : ℕ → List (Item ℕ) → Type 0
+  behind count xs = Asks refusals.InvalidData (CanEncode number state w s old.encoder count) (Asks refusals.ImpossibleSymbol (AreKnown xs)
+      (Asks (refusals.NoSpace (count_needed (old.len + old.encoder.held))) (old.len + old.encoder.held ≤ length old.words) (Else (Room (LacksRoom number state w s xs old.encoder old.words old.len))))) answer
+
+  pub puts_as : items precision (coded symbols) ≡ items precision (other others) → length symbols ≡ length others → AreFit precision (coded symbols) → AreFit precision (other others)
+      → RangePuts number state w s precision coded symbols old new answer → RangePuts number state w s precision other others old new answer
+  puts_as is same fit fit' call = record {
+    put = subst (λ (xs : List (Item ℕ)). OnOk answer (IsEncodedBy number state w s xs old.encoder old.words old.len new.encoder new.words new.len)) is call.put;
+    asked = elim call.asked [
+      | inl past ↦ inl past
+      | inr goes ↦ inr (
+        goes.0,
+        fit_then precision (other others) fit'
+            (subst (λ (n : ℕ). behind n (items precision (other others))) same (subst (λ (xs : List (Item ℕ)). behind (length symbols) xs) is (fit_behind precision (coded symbols) fit goes.1))),
+      )
+    ];
+    kept = call.kept;
+  }
 
 -- ---- seals
 module _ {Word State : Type 0} (number : Word → ℕ) (state : State → ℕ) (w s : ℕ) (old : RangeKept Word State) (within : old.len ≤ length old.words) (is : IsEncoderKept number state w s old.encoder) where

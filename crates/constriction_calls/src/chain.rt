@@ -24,7 +24,7 @@ mod decoding;
 mod encoding;
 mod words;
 
-pub use decoding::decode;
+pub use decoding::{decode, decode_by_weights};
 pub use encoding::{encode_intervals_reverse, encode_reverse};
 pub use words::{
     from_binary, from_compressed, from_remainders, into_binary, into_compressed, into_remainders,

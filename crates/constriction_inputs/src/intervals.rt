@@ -4,9 +4,13 @@
 //! quantiles above the interval.
 
 ghost use Rattle.std.specs.Prelude.{◌≡◌, ◌≢◌, ◌↔◌, ◌⊎◌, ◌*◌, ◌+◌, ◌^◌, ◌≤◌, length, map, IsTrue, IfOk, IfErr, OnOk};
-ghost use Rattle.std.specs.Prelude.{IsErrOf};
+ghost use Rattle.std.specs.Prelude.{IfSome, IsErrOf, OnSome, [], ◌∷◌};
+ghost use Rattle.constriction_base.specs.Models.{items_of};
+ghost use Rattle.constriction_inputs.specs.Coded.{AreFit};
 ghost use Rattle.constriction_inputs.specs.Intervals.{IsIntervalWithin, AreIntervals, interval_items, rows_between};
+ghost use Rattle.constriction_inputs.specs.Intervals.{as_intervals};
 ghost use Rattle.constriction_inputs.specs.Rows.{AreTotals, row_items};
+ghost use Rattle.constriction_inputs.specs.Weights.{IsTotal, weights_model};
 ghost use Rattle.constriction_inputs.specs.declared.refusal.Refusal.TheVariants as refusals;
 
 use crate::refusal::Refusal;
@@ -66,6 +70,29 @@ pub fn rows_by_intervals<P: BitArray, const PRECISION: usize>(
         return Err(Refusal::NoMemory);
     };
     Ok((rows, symbols))
+}
+
+/// Returns the row of three weights of a single interval.
+///
+/// Returns `None` if the lists don't have exactly one item each, or if these make no interval below `2 ^ PRECISION`.
+/// The call needs no memory. In the row's table symbol 1 has the interval.
+#[inline]
+pub fn row_of_one<P: BitArray, const PRECISION: usize>(lefts: &[P], ps: &[P]) -> Option<[P; 3]>
+    requires { (1 ≤ PRECISION) × (PRECISION ≤ P.BITS) }
+    ensures items { IfSome result (λ row. items_of (weights_model PRECISION (map P.number row)) (1 ∷ [])
+        ≡ interval_items PRECISION (map P.number lefts.now) (map P.number ps.now)) }
+    ensures total { IfSome result (λ row. IsTotal PRECISION (map P.number row)) }
+    ensures fit { OnSome result (AreFit PRECISION (as_intervals (map P.number lefts.now) (map P.number ps.now))) }
+{
+    if lefts.len() != 1 || ps.len() != 1 {
+        return None;
+    }
+    let (left, p) = (lefts[0], ps[0]);
+    if is_interval::<P, PRECISION>(left, p) {
+        Some([left, p, above::<P, PRECISION>(left, p)])
+    } else {
+        None
+    }
 }
 
 /// Returns whether the interval from `left` of length `p` isn't empty and ends at most at `2 ^ PRECISION`.

@@ -6,6 +6,7 @@
 //! - [`Mixtures`]: a row of distributions of one family for each symbol, and a weight for each distribution.
 
 mod families;
+mod lone;
 mod mixtures;
 mod rows;
 pub mod weights;

@@ -28,7 +28,7 @@ use std::alloc::{AllocError, Global};
 /// ```
 #[derive(Drop)]
 pub struct Row<'a, P: BitArray, const PRECISION: usize> {
-    weights: &'a [P],
+    pub weights: &'a [P],
     ghost positive: { 1 ≤ PRECISION },
     ghost fits: { PRECISION ≤ P.BITS },
     ghost total: { IsTotal PRECISION (map P.number weights.now) },
@@ -43,6 +43,7 @@ impl<'a, P: BitArray, const PRECISION: usize> Row<'a, P, PRECISION> {
         ensures ok { IfSome result
             (λ row. ⟦<Row<'a, P, PRECISION> as EntropyModel<PRECISION>>⟧.table row
             ≡ table_of (map P.number weights.now)) }
+        ensures weights { IfSome result (λ row. row.weights.now ≡ weights.now) }
         ensures variant { IsSome result ↔ IsTotal PRECISION (map P.number weights.now) }
     {
         if is_total::<P, PRECISION>(weights) {
@@ -50,6 +51,15 @@ impl<'a, P: BitArray, const PRECISION: usize> Row<'a, P, PRECISION> {
         } else {
             None
         }
+    }
+
+    /// Creates the model of these weights without adding them up. The caller proves that their sum is `2 ^ PRECISION`.
+    pub fn of_total(weights: &'a [P]) -> Self
+        requires sizes { (1 ≤ PRECISION) × (PRECISION ≤ P.BITS) }
+        requires total { IsTotal PRECISION (map P.number weights.now) }
+        ensures { result.weights.now ≡ weights.now }
+    {
+        Row { weights }
     }
 }
 

@@ -16,7 +16,7 @@ ghost use Rattle.constriction_stack.specs.Ans.{filled};
 ghost use Rattle.constriction_stack.specs.Binary.{binary_state};
 
 use crate::codes::{code_of, code_without_space};
-use constriction_calls::ans::decoding::decode;
+use constriction_calls::ans::decoding::{decode, decode_by_weights};
 use constriction_calls::ans::encoding::{encode_intervals_reverse, encode_reverse};
 use constriction_calls::ans::words::{from_binary, from_compressed, into_binary, into_compressed};
 use constriction_inputs::models::{Families, Mixtures, Rows, Weights};
@@ -141,7 +141,7 @@ pub extern "C" fn constriction_ans_encode_mixture_reverse_u16(
 
 /// Decodes symbols with one table of weights for all symbols.
 ///
-/// Calls [`decode`] and returns the code of its result ([`code_of`]).
+/// Calls [`decode_by_weights`] and returns the code of its result ([`code_of`]).
 #[unsafe(no_mangle)]
 pub extern "C" fn constriction_ans_decode_u16(
     alloc: Global,
@@ -154,8 +154,9 @@ pub extern "C" fn constriction_ans_decode_u16(
     ensures { SmallAnsTakes (by_weights (map small_word weights.now)) (coder_of head.old words.now len.old)
         (coder_of head.new words.now len.new) symbols.old symbols.new (answer_by_code result 0) }
 {
-    let table = Weights { weights };
-    code_without_space(decode::<_, _, u16, _, 12>(alloc, head, words, len, &table, symbols))
+    code_without_space(decode_by_weights::<_, _, u16, 12>(
+        alloc, head, words, len, weights, symbols,
+    ))
 }
 
 /// Decodes symbols with a row of `width` weights for each symbol.

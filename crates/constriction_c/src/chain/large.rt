@@ -13,8 +13,8 @@ ghost use Rattle.constriction_inputs.specs.Weights.{by_weights};
 
 use crate::codes::{code_of, code_without_space};
 use constriction_calls::chain::{
-    ChainHeads, decode, encode_intervals_reverse, encode_reverse, from_binary, from_compressed,
-    from_remainders, into_binary, into_compressed, into_remainders,
+    ChainHeads, decode, decode_by_weights, encode_intervals_reverse, encode_reverse, from_binary,
+    from_compressed, from_remainders, into_binary, into_compressed, into_remainders,
 };
 use constriction_inputs::models::{Families, Mixtures, Rows, Weights};
 use std::alloc::Global;
@@ -53,7 +53,7 @@ impl ChainHeadsU32 {
 
 /// Decodes symbols with one table of weights for all symbols.
 ///
-/// Calls [`decode`] and returns the code of its result ([`code_of`]).
+/// Calls [`decode_by_weights`] and returns the code of its result ([`code_of`]).
 #[unsafe(no_mangle)]
 pub extern "C" fn constriction_chain_decode_u32(
     alloc: Global,
@@ -70,10 +70,9 @@ pub extern "C" fn constriction_chain_decode_u32(
         (large_chain heads.old compressed.now count.old remainders.old rest.old)
         (large_chain heads.new compressed.now count.new remainders.new rest.new) symbols.old symbols.new) }
 {
-    let models = Weights { weights };
     let mut both = heads.parts();
-    let answer = decode::<_, _, u32, Weights<'_, u32>, 24>(
-        alloc, &mut both, compressed, count, remainders, rest, &models, symbols,
+    let answer = decode_by_weights::<_, _, u32, 24>(
+        alloc, &mut both, compressed, count, remainders, rest, weights, symbols,
     );
     *heads = ChainHeadsU32::of(both);
     code_of(answer, needed)

@@ -14,7 +14,7 @@ ghost use Rattle.constriction_calls.specs.RangeCalls.{IsNew, IsSealed, IsSelfSea
 ghost use Rattle.constriction_calls.specs.RangeCalls.{RangeSeals, RangeSeeks};
 
 use crate::codes::{code_of, code_without_space};
-use constriction_calls::range::decoding::decode;
+use constriction_calls::range::decoding::{decode, decode_by_weights};
 use constriction_calls::range::encoding::{encode, encode_intervals};
 use constriction_calls::range::parts::{DecoderParts, EncoderParts};
 use constriction_calls::range::positions::{from_compressed, maybe_exhausted, seek};
@@ -296,7 +296,7 @@ pub extern "C" fn constriction_range_from_compressed_u16(
 
 /// Decodes symbols in order, with one table of weights for all symbols.
 ///
-/// Calls [`decode`] and returns the code of its result ([`code_of`]).
+/// Calls [`decode_by_weights`] and returns the code of its result ([`code_of`]).
 #[unsafe(no_mangle)]
 pub extern "C" fn constriction_range_decode_u16(
     alloc: Global,
@@ -308,9 +308,8 @@ pub extern "C" fn constriction_range_decode_u16(
     ensures { SmallRangeTakes (by_weights (map small_word weights.now)) words.now (small_decoder decoder.old)
         (small_decoder decoder.new) symbols.old symbols.new (answer_by_code result 0) }
 {
-    let one = Weights { weights };
     let mut parts = decoder.parts();
-    let answer = decode::<_, _, u16, _, 12>(alloc, &mut parts, words, &one, symbols);
+    let answer = decode_by_weights::<_, _, u16, 12>(alloc, &mut parts, words, weights, symbols);
     *decoder = RangeDecoderU16::of(parts);
     code_without_space(answer)
 }

@@ -1,16 +1,18 @@
 //! Decoding symbols from a state that the caller keeps. The calls read words, and write none.
 
-ghost use Rattle.std.specs.Prelude.{◌≡◌, ◌≤◌, length};
+ghost use Rattle.std.specs.Prelude.{◌≡◌, ◌≤◌, length, map};
 ghost use Rattle.constriction_base.specs.Models.{pairs_of};
 ghost use Rattle.constriction_base.specs.Steps.{IsSizes};
 ghost use Rattle.constriction_calls.specs.AnsCalls.{AnsTakes, coder_of, state_kept};
+ghost use Rattle.constriction_inputs.specs.Weights.{by_weights};
 ghost use Rattle.constriction_stack.specs.Symbols.{Decodes, DecodesAll};
 
 use constriction_base::cursor::Cursor;
 use constriction_base::errors::CoderError;
 use constriction_base::model::{DecoderModel, EntropyModel};
-use constriction_inputs::models::{ModelList, Models};
+use constriction_inputs::models::{ModelList, Models, Weights};
 use constriction_inputs::refusal::Refusal;
+use constriction_inputs::rows::Row;
 use constriction_stack::coder::AnsCoder;
 use constriction_stream::decoding::Decode;
 use constriction_words::{BitArray, WordOf};
@@ -54,6 +56,42 @@ pub fn decode<
     *head = new_head;
     *len = new_len;
     Ok(())
+}
+
+/// Fills `symbols` with decoded symbols, with one table of weights for all symbols.
+///
+/// For one symbol the call searches the weights. For more symbols it makes a table of them first. The
+/// call changes `head` and `len` as [`decode`] does.
+///
+/// # Errors
+///
+/// `WrongLength`, `WrongWeights` and `NoMemory`, as [`crate::ans`] lists them.
+pub fn decode_by_weights<
+    Word: WordOf<State>,
+    State: BitArray,
+    P: WordOf<Word>,
+    const PRECISION: usize,
+>(
+    alloc: Global,
+    head: &mut State,
+    words: &[Word],
+    len: &mut usize,
+    weights: &[P],
+    symbols: &mut [usize],
+) -> Result<(), Refusal>
+    requires sizes { IsSizes Word.BITS State.BITS }
+    requires precision { (1 ≤ PRECISION) × (PRECISION ≤ P.BITS) }
+    ensures call { AnsTakes Word.number State.number Word.BITS State.BITS PRECISION
+        (by_weights (map P.number weights.now))
+        (coder_of head.old words.now len.old) (coder_of head.new words.now len.new) symbols.old symbols.new result }
+{
+    if symbols.len() <= 1
+        && let Some(row) = Row::<P, PRECISION>::new(weights)
+    {
+        return decode::<Word, State, P, _, PRECISION>(alloc, head, words, len, &row, symbols);
+    }
+    let table = Weights { weights };
+    decode::<Word, State, P, _, PRECISION>(alloc, head, words, len, &table, symbols)
 }
 
 /// Fills `symbols` with symbols decoded under a list of models. Returns the new head and the number of words left.

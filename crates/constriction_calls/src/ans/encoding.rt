@@ -11,9 +11,10 @@ ghost use Rattle.constriction_stack.specs.Symbols.{EncodesAll};
 
 use constriction_base::model::{EncoderModel, EntropyModel};
 use constriction_inputs::buffers::append;
-use constriction_inputs::intervals::rows_by_intervals;
+use constriction_inputs::intervals::{row_of_one, rows_by_intervals};
 use constriction_inputs::models::{ModelList, Models, Rows};
 use constriction_inputs::refusal::Refusal;
+use constriction_inputs::rows::Row;
 use constriction_stack::coder::AnsCoder;
 use constriction_stream::encoding::Encode;
 use constriction_words::{BitArray, WordOf};
@@ -81,6 +82,35 @@ pub fn encode_intervals_reverse<
     P: WordOf<Word>,
     const PRECISION: usize,
 >(
+    alloc: Global,
+    head: &mut State,
+    words: &mut [Word],
+    len: &mut usize,
+    lefts: &[P],
+    ps: &[P],
+) -> Result<(), Refusal>
+    requires sizes { IsSizes Word.BITS State.BITS }
+    requires precision { (1 ≤ PRECISION) × (PRECISION ≤ P.BITS) }
+    ensures call { AnsPuts Word.number State.number Word.BITS State.BITS PRECISION
+        (as_intervals (map P.number lefts.now) (map P.number ps.now))
+        (coder_of head.old words.old len.old) (coder_of head.new words.new len.new) result }
+{
+    if lefts.len() == 1
+        && size_of_val(lefts) <= 64
+        && let Some(row) = row_of_one::<P, PRECISION>(lefts, ps)
+    {
+        let model = Row::<P, PRECISION>::of_total(&row);
+        return encode_reverse::<_, _, P, _, PRECISION>(alloc, head, words, len, &model, &[1]);
+    }
+    intervals_by_rows::<_, _, P, PRECISION>(alloc, head, words, len, lefts, ps)
+}
+
+/// Encodes intervals as [`encode_intervals_reverse`] does, with a row of three weights for each interval.
+///
+/// # Errors
+///
+/// The errors of [`encode_intervals_reverse`].
+fn intervals_by_rows<Word: WordOf<State>, State: BitArray, P: WordOf<Word>, const PRECISION: usize>(
     alloc: Global,
     head: &mut State,
     words: &mut [Word],

@@ -8,6 +8,7 @@ ghost use Rattle.constriction_inputs.specs.Buffers.{Appended};
 ghost use Rattle.constriction_calls.specs.ChainCalls.{ChainTakes, LacksCompressed, keeps};
 ghost use Rattle.constriction_calls.specs.ChainFits.{CoderFits};
 ghost use Rattle.constriction_inputs.specs.Coded.{AreFit, items};
+ghost use Rattle.constriction_inputs.specs.Weights.{by_weights};
 ghost use Rattle.constriction_inputs.specs.declared.refusal.Refusal.TheVariants as refusals;
 
 use crate::chain::ChainHeads;
@@ -17,8 +18,9 @@ use constriction_base::errors::CoderError;
 use constriction_base::model::{DecoderModel, EntropyModel};
 use constriction_chain::{ChainCoder, ChainCoderHeads};
 use constriction_inputs::buffers::append;
-use constriction_inputs::models::{ModelList, Models};
+use constriction_inputs::models::{ModelList, Models, Weights};
 use constriction_inputs::refusal::Refusal;
+use constriction_inputs::rows::Row;
 use constriction_stream::decoding::Decode;
 use constriction_words::{BitArray, WordOf};
 use std::alloc::Global;
@@ -87,6 +89,65 @@ pub fn decode<
     }
     symbols.copy_from_slice(again.as_slice());
     Ok(())
+}
+
+/// Fills `symbols` with decoded symbols, with one table of weights for all symbols.
+///
+/// For one symbol the call searches the weights. For more symbols it makes a table of them first. The
+/// call changes the coder as [`decode`] does.
+///
+/// # Errors
+///
+/// The errors of [`decode`] except `WrongInterval`.
+pub fn decode_by_weights<
+    Word: WordOf<State>,
+    State: BitArray,
+    P: WordOf<Word>,
+    const PRECISION: usize,
+>(
+    alloc: Global,
+    heads: &mut ChainHeads<Word, State>,
+    compressed: &[Word],
+    compressed_len: &mut usize,
+    remainders: &mut [Word],
+    remainders_len: &mut usize,
+    weights: &[P],
+    symbols: &mut [usize],
+) -> Result<(), Refusal>
+    requires sized { IsSized Word.BITS State.BITS PRECISION }
+    requires within { PRECISION ≤ P.BITS }
+    requires fits { CoderFits Word.row State.row }
+    ensures call { ChainTakes Word.number State.number Word.BITS State.BITS PRECISION
+        (by_weights (map P.number weights.now))
+        (keeps heads.old compressed.now compressed_len.old remainders.old remainders_len.old)
+        (keeps heads.new compressed.now compressed_len.new remainders.new remainders_len.new)
+        symbols.old symbols.new result }
+{
+    if symbols.len() <= 1
+        && let Some(row) = Row::<P, PRECISION>::new(weights)
+    {
+        return decode::<Word, State, P, _, PRECISION>(
+            alloc,
+            heads,
+            compressed,
+            compressed_len,
+            remainders,
+            remainders_len,
+            &row,
+            symbols,
+        );
+    }
+    let table = Weights { weights };
+    decode::<Word, State, P, _, PRECISION>(
+        alloc,
+        heads,
+        compressed,
+        compressed_len,
+        remainders,
+        remainders_len,
+        &table,
+        symbols,
+    )
 }
 
 /// Decodes `places.len()` symbols, each under its own model.

@@ -18,18 +18,19 @@ use constriction_base::errors::CoderError;
 use constriction_base::model::{EncoderModel, EntropyModel};
 use constriction_chain::{ChainCoder, ChainCoderHeads, EncoderFrontendError};
 use constriction_inputs::buffers::append;
-use constriction_inputs::intervals::rows_by_intervals;
+use constriction_inputs::intervals::{row_of_one, rows_by_intervals};
 use constriction_inputs::models::{ModelList, Models, Rows};
 use constriction_inputs::refusal::Refusal;
+use constriction_inputs::rows::Row;
 use constriction_stream::encoding::Encode;
 use constriction_words::{BitArray, WordOf};
 use std::alloc::Global;
 
-/// A chain coder that reads borrowed remainders, and writes compressed words to a new vector.
-pub(crate) type Putting<'a, Word, State, const PRECISION: usize> = ChainCoder<
+/// A chain coder that reads borrowed remainders, and writes compressed words to borrowed room.
+type Putting<'a, Word, State, const PRECISION: usize> = ChainCoder<
     Word,
     State,
-    Vec<Word>,
+    Cursor<Word, &'a mut [Word]>,
     Cursor<Word, &'a [Word]>,
     PRECISION,
 >;
@@ -66,6 +67,53 @@ pub fn encode_reverse<
         (keeps heads.old compressed.old compressed_len.old remainders.now remainders_len.old)
         (keeps heads.new compressed.new compressed_len.new remainders.now remainders_len.new) result }
 {
+    let mut room = match vec![in alloc; Word::nothing(); symbols.len()] {
+        Ok(room) => room,
+        Err(_) => Vec::new(alloc),
+    };
+    encode_within(
+        alloc,
+        &mut room,
+        heads,
+        compressed,
+        compressed_len,
+        remainders,
+        remainders_len,
+        models,
+        symbols,
+    )
+}
+
+/// Encodes as [`encode_reverse`] does. `room` has a place for each symbol, because an encode writes at most one word.
+///
+/// # Errors
+///
+/// The errors of [`encode_reverse`]. `NoMemory` is also returned if `room` has fewer places than there are symbols.
+#[inline]
+fn encode_within<
+    Word: WordOf<State>,
+    State: BitArray,
+    P: WordOf<Word>,
+    G: Models<P, PRECISION>,
+    const PRECISION: usize,
+>(
+    alloc: Global,
+    room: &mut [Word],
+    heads: &mut ChainHeads<Word, State>,
+    compressed: &mut [Word],
+    compressed_len: &mut usize,
+    remainders: &[Word],
+    remainders_len: &mut usize,
+    models: &G,
+    symbols: &[usize],
+) -> Result<(), Refusal>
+    requires sized { IsSized Word.BITS State.BITS PRECISION }
+    requires within { PRECISION ≤ P.BITS }
+    requires fits { CoderFits Word.row State.row }
+    ensures call { ChainPuts Word.number State.number Word.BITS State.BITS PRECISION (G.coded models.now symbols.now)
+        (keeps heads.old compressed.old compressed_len.old remainders.now remainders_len.old)
+        (keeps heads.new compressed.new compressed_len.new remainders.now remainders_len.new) result }
+{
     if *compressed_len > compressed.len() || *remainders_len > remainders.len() {
         return Err(Refusal::WrongLength);
     }
@@ -77,8 +125,9 @@ pub fn encode_reverse<
         return Err(Refusal::InvalidData);
     };
     let lent = Cursor::new_at_write_end(&remainders[..*remainders_len]);
-    let mut coder = ChainCoder::from_raw_parts(Vec::new(alloc), lent, both);
-    match put_by(alloc, &mut coder, models, symbols) {
+    let is_room = symbols.len() <= room.len();
+    let mut coder = ChainCoder::from_raw_parts(Cursor::new_at_write_beginning(room), lent, both);
+    match put_by(alloc, is_room, &mut coder, models, symbols) {
         Ok(()) => {}
         Err(refusal) => return Err(refusal),
     }
@@ -102,6 +151,59 @@ pub fn encode_intervals_reverse<
     P: WordOf<Word>,
     const PRECISION: usize,
 >(
+    alloc: Global,
+    heads: &mut ChainHeads<Word, State>,
+    compressed: &mut [Word],
+    compressed_len: &mut usize,
+    remainders: &[Word],
+    remainders_len: &mut usize,
+    lefts: &[P],
+    ps: &[P],
+) -> Result<(), Refusal>
+    requires sized { IsSized Word.BITS State.BITS PRECISION }
+    requires within { PRECISION ≤ P.BITS }
+    requires fits { CoderFits Word.row State.row }
+    ensures call { ChainPuts Word.number State.number Word.BITS State.BITS PRECISION
+        (as_intervals (map P.number lefts.now) (map P.number ps.now))
+        (keeps heads.old compressed.old compressed_len.old remainders.now remainders_len.old)
+        (keeps heads.new compressed.new compressed_len.new remainders.now remainders_len.new) result }
+{
+    if lefts.len() == 1
+        && size_of_val(lefts) <= 64
+        && let Some(row) = row_of_one::<P, PRECISION>(lefts, ps)
+    {
+        let model = Row::<P, PRECISION>::of_total(&row);
+        let mut room = [Word::nothing()];
+        return encode_within::<Word, State, P, _, PRECISION>(
+            alloc,
+            &mut room,
+            heads,
+            compressed,
+            compressed_len,
+            remainders,
+            remainders_len,
+            &model,
+            &[1],
+        );
+    }
+    intervals_by_rows::<_, _, P, PRECISION>(
+        alloc,
+        heads,
+        compressed,
+        compressed_len,
+        remainders,
+        remainders_len,
+        lefts,
+        ps,
+    )
+}
+
+/// Encodes intervals as [`encode_intervals_reverse`] does, with a row of three weights for each interval.
+///
+/// # Errors
+///
+/// The errors of [`encode_intervals_reverse`].
+fn intervals_by_rows<Word: WordOf<State>, State: BitArray, P: WordOf<Word>, const PRECISION: usize>(
     alloc: Global,
     heads: &mut ChainHeads<Word, State>,
     compressed: &mut [Word],
@@ -155,6 +257,8 @@ pub fn encode_intervals_reverse<
 
 /// Encodes symbols from the last to the first, each under its own model, onto `coder`.
 ///
+/// If `is_room` is false, it encodes none and has no memory.
+///
 /// # Errors
 ///
 /// `ImpossibleSymbol` exactly if a model has no entry for its symbol. Otherwise `OutOfData` or `NoMemory`.
@@ -167,6 +271,7 @@ fn put_by<
     const PRECISION: usize,
 >(
     alloc: Global,
+    is_room: bool,
     coder: &mut Putting<'a, Word, State, PRECISION>,
     models: &G,
     symbols: &[usize],
@@ -179,12 +284,16 @@ fn put_by<
         (Else (λ e. (e ≡ refusals.NoMemory) ⊎ ((e ≡ refusals.OutOfData) × LacksRemainders Word.BITS State.BITS
         (reverse (items PRECISION (G.coded models.now symbols.now))) coder.old.state))) result }
 {
-    let refusal = match models.list(alloc, symbols, true) {
-        Some(mut list) => match put_symbols(coder, &mut list, symbols) {
-            Ok(()) => return Ok(()),
-            Err(refusal) => refusal,
-        },
-        None => Refusal::NoMemory,
+    let refusal = if is_room {
+        match models.list(alloc, symbols, true) {
+            Some(mut list) => match put_symbols(coder, &mut list, symbols) {
+                Ok(()) => return Ok(()),
+                Err(refusal) => refusal,
+            },
+            None => Refusal::NoMemory,
+        }
+    } else {
+        Refusal::NoMemory
     };
     if models.know(symbols) {
         Err(refusal)
@@ -264,7 +373,8 @@ fn end_putting<'a, Word: WordOf<State>, State: BitArray, const PRECISION: usize>
         × (compressed.new ≡ compressed.old) × (compressed_len.new ≡ compressed_len.old)) }
 {
     let (written, words, both) = coder.into_raw_parts();
-    match append(written.as_slice(), compressed, compressed_len) {
+    let (room, count) = written.into_buf_and_pos();
+    match append(&room[..count], compressed, compressed_len) {
         Ok(()) => {}
         Err(refusal) => return Err(refusal),
     }

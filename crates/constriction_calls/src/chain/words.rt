@@ -5,7 +5,6 @@ ghost use Rattle.constriction_calls.specs.ChainWords.{ChainBegins, ChainEnds, In
 
 use crate::chain::ChainHeads;
 use crate::chain::decoding::Taking;
-use crate::chain::encoding::Putting;
 use constriction_base::cursor::Cursor;
 use constriction_base::errors::CoderError;
 use constriction_chain::{ChainCoder, ChainCoderHeads};
@@ -13,6 +12,15 @@ use constriction_inputs::buffers::append;
 use constriction_inputs::refusal::Refusal;
 use constriction_words::{BitArray, WordOf};
 use std::alloc::Global;
+
+/// A chain coder that reads borrowed remainders, and writes compressed words to a new vector.
+type Putting<'a, Word, State, const PRECISION: usize> = ChainCoder<
+    Word,
+    State,
+    Vec<Word>,
+    Cursor<Word, &'a [Word]>,
+    PRECISION,
+>;
 
 /// A coder without words, which collects the words of its heads.
 type Bare<Word, State, const PRECISION: usize> = ChainCoder<

@@ -8,10 +8,12 @@ ghost use Rattle.constriction_queue.specs.Range.{Run};
 ghost use Rattle.constriction_queue.specs.Symbols.{FindsAll};
 ghost use Rattle.constriction_calls.specs.RangeCalls.{RangeTakes};
 ghost use Rattle.constriction_inputs.specs.Refusals.{Words};
+ghost use Rattle.constriction_inputs.specs.Weights.{by_weights};
 
 use crate::range::parts::{DecoderParts, Reading, decoder_of, decoder_parts};
-use constriction_inputs::models::{ModelList, Models};
+use constriction_inputs::models::{ModelList, Models, Weights};
 use constriction_inputs::refusal::Refusal;
+use constriction_inputs::rows::Row;
 use constriction_stream::decoding::Decode;
 use constriction_words::{BitArray, WordOf};
 use std::alloc::Global;
@@ -114,4 +116,38 @@ pub fn decode<
         }
         Err(refusal) => Err(refusal),
     }
+}
+
+/// Fills `symbols` with decoded symbols, in order, with one table of weights for all symbols.
+///
+/// For one symbol the call searches the weights. For more symbols it makes a table of them first. The
+/// call changes `decoder` as [`decode`] does.
+///
+/// # Errors
+///
+/// The errors of [`decode`] except `WrongInterval`.
+pub fn decode_by_weights<
+    Word: WordOf<State>,
+    State: BitArray,
+    P: WordOf<Word>,
+    const PRECISION: usize,
+>(
+    alloc: Global,
+    decoder: &mut DecoderParts<State>,
+    words: &[Word],
+    weights: &[P],
+    symbols: &mut [usize],
+) -> Result<(), Refusal>
+    requires sizes { IsSizes Word.BITS State.BITS }
+    requires precision { (1 ≤ PRECISION) × (PRECISION ≤ P.BITS) }
+    ensures call { RangeTakes State.number Word.BITS State.BITS PRECISION (by_weights (map P.number weights.now))
+        (map Word.number words.now) decoder.old decoder.new symbols.old symbols.new result }
+{
+    if symbols.len() <= 1
+        && let Some(row) = Row::<P, PRECISION>::new(weights)
+    {
+        return decode::<Word, State, P, _, PRECISION>(alloc, decoder, words, &row, symbols);
+    }
+    let table = Weights { weights };
+    decode::<Word, State, P, _, PRECISION>(alloc, decoder, words, &table, symbols)
 }

@@ -11,9 +11,10 @@ ghost use Rattle.constriction_calls.specs.RangeCalls.{IsEncoderKept, RangePuts, 
 
 use crate::range::parts::{EncoderParts, encoder_for, parts_of};
 use constriction_inputs::buffers::append;
-use constriction_inputs::intervals::rows_by_intervals;
+use constriction_inputs::intervals::{row_of_one, rows_by_intervals};
 use constriction_inputs::models::{ModelList, Models, Rows};
 use constriction_inputs::refusal::Refusal;
+use constriction_inputs::rows::Row;
 use constriction_queue::RangeEncoder;
 use constriction_stream::encoding::Encode;
 use constriction_words::{BitArray, WordOf};
@@ -164,6 +165,35 @@ pub fn encode_intervals<
     P: WordOf<Word>,
     const PRECISION: usize,
 >(
+    alloc: Global,
+    encoder: &mut EncoderParts<Word, State>,
+    buffer: &mut [Word],
+    len: &mut usize,
+    lefts: &[P],
+    ps: &[P],
+) -> Result<(), Refusal>
+    requires sizes { IsSizes Word.BITS State.BITS }
+    requires precision { (1 ≤ PRECISION) × (PRECISION ≤ P.BITS) }
+    ensures call { RangePuts Word.number State.number Word.BITS State.BITS PRECISION
+        (as_intervals (map P.number lefts.now)) (map P.number ps.now)
+        (kept_in encoder.old buffer.old len.old) (kept_in encoder.new buffer.new len.new) result }
+{
+    if lefts.len() == 1
+        && size_of_val(lefts) <= 64
+        && let Some(row) = row_of_one::<P, PRECISION>(lefts, ps)
+    {
+        let model = Row::<P, PRECISION>::of_total(&row);
+        return encode::<Word, State, P, _, PRECISION>(alloc, encoder, buffer, len, &model, &[1]);
+    }
+    intervals_by_rows::<_, _, P, PRECISION>(alloc, encoder, buffer, len, lefts, ps)
+}
+
+/// Encodes intervals as [`encode_intervals`] does, with a row of three weights for each interval.
+///
+/// # Errors
+///
+/// The errors of [`encode_intervals`].
+fn intervals_by_rows<Word: WordOf<State>, State: BitArray, P: WordOf<Word>, const PRECISION: usize>(
     alloc: Global,
     encoder: &mut EncoderParts<Word, State>,
     buffer: &mut [Word],

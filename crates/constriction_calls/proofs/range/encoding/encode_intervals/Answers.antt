@@ -1,62 +1,30 @@
-use Rattle.std.proofs.Common.{◌+◌, ◌≤◌, arith, length, map, refl, rules}
+use Rattle.std.proofs.Common.{◌≡◌, ◌∷◌, [], List, length, map, rules, ℕ, arith}
 use Rattle.std.proofs.lemmas.List.{length-map}
+use Rattle.constriction_inputs.specs.Coded.{items}
 use Rattle.constriction_inputs.specs.Intervals.{as_intervals}
-use Rattle.constriction_calls.specs.RangeCalls.{CanEncode, RangeKept}
-use Rattle.constriction_inputs.specs.declared.refusal.Refusal.TheVariants as refusals
-use Rattle.constriction_calls.proofs.RangeAnswers.{puts_full, puts_numbers, puts_room}
-use Rattle.constriction_calls.proofs.Intervals.{intervals_fit, intervals_known}
+use Rattle.constriction_inputs.specs.Weights.{by_weights}
+use Rattle.constriction_calls.specs.RangeCalls.{kept_in}
+use Rattle.constriction_calls.proofs.Intervals.{three_fit}
+use Rattle.constriction_calls.proofs.RangeAnswers.{puts_as}
 use Rattle.constriction_calls.proofs.range.encoding.encode_intervals.Goals as goal
 
-pub returns-then-not-can : goal.returns-then-not-can
-returns-then-not-can g c =
-    let number = g.Word.BitArray.number in
-    let state = g.State.BitArray.number in
-    let w = g.Word.BitArray.BITS in
-    let s = g.State.BitArray.BITS in
-    let P = g.row.PRECISION in
-    let lefts = map g.P.BitArray.number c.args.lefts.now in
-    let ps = map g.P.BitArray.number c.args.ps.now in
-    let old : RangeKept g.row.Word.Denot g.row.State.Denot = record { encoder = c.args.encoder.now; words = c.args.buffer.now; len = c.args.len.now } in
-    let within : c.args.len.now ≤ length c.args.buffer.now = omega (arith, c.if-len-buffer.false) in
-    let e = c.in-Err-NoMemory in
-    let fit = intervals_fit g.P.BitArray.number P c.args.lefts.now c.args.ps.now e.field-0 e.ensures.wrong_length e.ensures.wrong_interval e.field-0-is in
-    let none : CanEncode number state w s c.args.encoder.now (length c.args.ps.now) → ⊥ = search rules in
-    record { call = puts_numbers number state w s P (as_intervals lefts) ps old within fit (λ counted. none (rw (length-map c.args.ps.now g.P.BitArray.number) at counted)) }
+pub row_of_one-requires : goal.row_of_one-requires
+row_of_one-requires g c = (three_fit (length c.args.lefts.now) c.size_of_val.result _ (search rules) c.size_of_val.ensures (search rules), c.requires.precision)
 
-pub returns-then-encoder-buffer : goal.returns-then-encoder-buffer
-returns-then-encoder-buffer g c =
-    let number = g.Word.BitArray.number in
-    let state = g.State.BitArray.number in
-    let w = g.Word.BitArray.BITS in
-    let s = g.State.BitArray.BITS in
-    let P = g.row.PRECISION in
-    let lefts = map g.P.BitArray.number c.args.lefts.now in
-    let ps = map g.P.BitArray.number c.args.ps.now in
-    let old : RangeKept g.row.Word.Denot g.row.State.Denot = record { encoder = c.args.encoder.now; words = c.args.buffer.now; len = c.args.len.now } in
-    let within : c.args.len.now ≤ length c.args.buffer.now = omega (arith, c.if-len-buffer.false) in
-    let e = c.in-Err-NoMemory in
-    let fit = intervals_fit g.P.BitArray.number P c.args.lefts.now c.args.ps.now e.field-0 e.ensures.wrong_length e.ensures.wrong_interval e.field-0-is in
-    let can : CanEncode number state w s c.args.encoder.now (length c.args.ps.now) = search rules in
-    let full : c.args.len.now + c.args.encoder.now.held ≤ length c.args.buffer.now → ⊥ = λ room. omega (arith, room, within, c.if-encoder-buffer.true) in
-    record {
-      call = puts_full number state w s P (as_intervals lefts) ps old within fit (rw (length-map c.args.ps.now g.P.BitArray.number) can) (intervals_known P lefts ps fit.1) full c.saturating_add.result c.saturating_add.ensures;
-    }
+pub shared_whole_as_slice-of_total : goal.shared_whole_as_slice-of_total
+shared_whole_as_slice-of_total g c = three_fit (length c.args.lefts.now) c.size_of_val.result _ (search rules) c.size_of_val.ensures (search rules)
 
-pub returns-else-encoder-buffer : goal.returns-else-encoder-buffer
-returns-else-encoder-buffer g c =
-    let number = g.Word.BitArray.number in
-    let state = g.State.BitArray.number in
-    let w = g.Word.BitArray.BITS in
-    let s = g.State.BitArray.BITS in
-    let P = g.row.PRECISION in
-    let lefts = map g.P.BitArray.number c.args.lefts.now in
-    let ps = map g.P.BitArray.number c.args.ps.now in
-    let old : RangeKept g.row.Word.Denot g.row.State.Denot = record { encoder = c.args.encoder.now; words = c.args.buffer.now; len = c.args.len.now } in
-    let within : c.args.len.now ≤ length c.args.buffer.now = omega (arith, c.if-len-buffer.false) in
-    let e = c.in-Err-NoMemory in
-    let fit = intervals_fit g.P.BitArray.number P c.args.lefts.now c.args.ps.now e.field-0 e.ensures.wrong_length e.ensures.wrong_interval e.field-0-is in
-    let can : CanEncode number state w s c.args.encoder.now (length c.args.ps.now) = search rules in
-    let room : c.args.len.now + c.args.encoder.now.held ≤ length c.args.buffer.now = omega (arith, within, c.if-encoder-buffer.false) in
+pub returns : goal.returns
+returns g c =
+    let p = g.P.BitArray.number in
+    let now = c.encode.new in
+    let made = c.in-Some.ensures in
+    let one = by_weights (map p c.of_total-model.result.weights.now) in
+    let coded = as_intervals (map p c.args.lefts.now) in
+    let is : items g.row.PRECISION (one (1 ∷ [])) ≡ items g.row.PRECISION (coded (map p c.args.ps.now)) = rw c.of_total-model.ensures made.items in
+    let one' : length c.args.lefts.now ≡ 1 = search rules in
+    let same : 1 ≡ length (map p c.args.ps.now) = omega (arith, made.fit.0, length-map c.args.lefts.now p, one') in
     record {
-      call = puts_room number state w s P (as_intervals lefts) ps old within fit (rw (length-map c.args.ps.now g.P.BitArray.number) can) room (intervals_known P lefts ps fit.1) old refl refusals.NoMemory tt;
+      call = puts_as g.Word.BitArray.number g.State.BitArray.number g.Word.BitArray.BITS g.State.BitArray.BITS g.row.PRECISION one coded (1 ∷ []) (map p c.args.ps.now)
+          (kept_in c.args.encoder.now c.args.buffer.now c.args.len.now) (kept_in now.encoder now.buffer now.len) c.encode.result is same (tt, tt, rw c.of_total-model.ensures made.total) made.fit c.encode.ensures.call;
     }

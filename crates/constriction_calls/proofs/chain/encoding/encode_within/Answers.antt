@@ -7,7 +7,7 @@ use Rattle.constriction_inputs.specs.Coded.{Coded, items}
 use Rattle.constriction_inputs.proofs.Asking.{asked_ok, fit_ok}
 use Rattle.constriction_calls.proofs.ChainAnswers.{of_data, of_room, puts_ended, puts_stopped, stopped_by}
 use Rattle.constriction_calls.proofs.ChainFrame.{lacks_in, needs_room_in, put_in}
-use Rattle.constriction_calls.proofs.chain.encoding.encode_reverse.Goals as goal
+use Rattle.constriction_calls.proofs.chain.encoding.encode_within.Goals as goal
 
 pub returns-in-Err-put_by : goal.returns-in-Err-put_by
 returns-in-Err-put_by g c =
@@ -17,7 +17,7 @@ returns-in-Err-put_by g c =
     let within : AreInUse old = (omega (arith, c.if-compressed_len-compressed.false), omega (arith, c.if-remainders_len-remainders.false)) in
     let right = c.in-Some.ensures.variant.0 refl in
     let is : c.from_raw_parts-coder.result.state ≡ state (number c.args.heads.now.compressed) (g.State.BitArray.number c.args.heads.now.remainders) [] (stack_in number c.args.remainders.now c.args.remainders_len.now)
-    = ap (λ coder. coder.state) c.from_raw_parts-coder.ensures.value ∙ rw (c.in-Some.ensures.value, c.new_at_write_end-lent.ensures, c.new-2.ensures.items, take-length (take c.args.remainders_len.now c.args.remainders.now)) refl in
+    = ap (λ coder. coder.state) c.from_raw_parts-coder.ensures.value ∙ rw (c.in-Some.ensures.value, c.new_at_write_end-lent.ensures, c.new_at_write_beginning.ensures, take-length (take c.args.remainders_len.now c.args.remainders.now)) refl in
     record {
       call = puts_stopped number g.State.BitArray.number g.Word.BitArray.BITS g.State.BitArray.BITS g.row.PRECISION old within coded (fit_ok g.row.PRECISION coded c.in-Ok.ensures)
           (record { some = right.0; window = right.1 }) old refl c.in-Err-put_by.refusal
@@ -33,7 +33,7 @@ returns-in-Err-end_putting g c =
     let within : AreInUse old = (omega (arith, c.if-compressed_len-compressed.false), omega (arith, c.if-remainders_len-remainders.false)) in
     let right = c.in-Some.ensures.variant.0 refl in
     let is : c.from_raw_parts-coder.result.state ≡ state (number c.args.heads.now.compressed) (g.State.BitArray.number c.args.heads.now.remainders) [] (stack_in number c.args.remainders.now c.args.remainders_len.now)
-    = ap (λ coder. coder.state) c.from_raw_parts-coder.ensures.value ∙ rw (c.in-Some.ensures.value, c.new_at_write_end-lent.ensures, c.new-2.ensures.items, take-length (take c.args.remainders_len.now c.args.remainders.now)) refl in
+    = ap (λ coder. coder.state) c.from_raw_parts-coder.ensures.value ∙ rw (c.in-Some.ensures.value, c.new_at_write_end-lent.ensures, c.new_at_write_beginning.ensures, take-length (take c.args.remainders_len.now c.args.remainders.now)) refl in
     let now = c.end_putting.new in
     let kept = c.in-Err-end_putting.ensures.kept in
     record {
@@ -54,7 +54,7 @@ returns-in-Ok-end_putting g c =
     let within : AreInUse old = (omega (arith, c.if-compressed_len-compressed.false), omega (arith, c.if-remainders_len-remainders.false)) in
     let right = c.in-Some.ensures.variant.0 refl in
     let is : c.from_raw_parts-coder.result.state ≡ state (number c.args.heads.now.compressed) (g.State.BitArray.number c.args.heads.now.remainders) [] (stack_in number c.args.remainders.now c.args.remainders_len.now)
-    = ap (λ coder. coder.state) c.from_raw_parts-coder.ensures.value ∙ rw (c.in-Some.ensures.value, c.new_at_write_end-lent.ensures, c.new-2.ensures.items, take-length (take c.args.remainders_len.now c.args.remainders.now)) refl in
+    = ap (λ coder. coder.state) c.from_raw_parts-coder.ensures.value ∙ rw (c.in-Some.ensures.value, c.new_at_write_end-lent.ensures, c.new_at_write_beginning.ensures, take-length (take c.args.remainders_len.now c.args.remainders.now)) refl in
     let e = c.in-Ok-end_putting.ensures in
     let now = c.end_putting.new in
     record {

@@ -1,0 +1,42 @@
+//! A `Row` as the model of all symbols of a list.
+
+ghost use Rattle.std.specs.Prelude.{map};
+ghost use Rattle.constriction_inputs.specs.Weights.{by_weights};
+
+use crate::models::{Models, One, Weights};
+use crate::refusal::Refusal;
+use crate::rows::Row;
+use constriction_words::BitArray;
+use std::alloc::Global;
+
+impl<'a, P: BitArray, const PRECISION: usize> Models<P, PRECISION> for Row<'a, P, PRECISION> {
+    type List = One<Row<'a, P, PRECISION>>;
+
+    ghost coded = { λ row. by_weights (map P.number row.weights.now) };
+
+    #[inline]
+    fn check(&self, _symbols: &[usize]) -> Result<(), Refusal> {
+        Ok(())
+    }
+
+    fn know(&self, symbols: &[usize]) -> bool {
+        let given = Weights {
+            weights: self.weights,
+        };
+        Models::<P, PRECISION>::know(&given, symbols)
+    }
+
+    #[inline]
+    fn list(
+        &self,
+        _alloc: Global,
+        symbols: &[usize],
+        _divides: bool,
+    ) -> Option<One<Row<'a, P, PRECISION>>> {
+        Some(One {
+            model: Row::of_total(self.weights),
+            count: symbols.len(),
+            place: 0,
+        })
+    }
+}
