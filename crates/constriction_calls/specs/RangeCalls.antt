@@ -1,6 +1,6 @@
 -- The calls of the range coder: what each does with the numbers and the buffer that a caller keeps, and which error
 -- comes when.
-use Rattle.std.specs.Prelude.{◌≡◌, ◌↔◌, ℕ, zero, suc, ◌+◌, ◌-◌, ◌*◌, ◌%◌, ◌<◌, ◌≤◌, ◌^◌, ◌⊎◌, List, [], ◌++◌, Result, OnErr, OnOk, length, map, min, reverse, drop, take}
+use Rattle.std.specs.Prelude.{◌≡◌, ◌↔◌, ℕ, zero, suc, ◌+◌, ◌-◌, ◌%◌, ◌<◌, ◌≤◌, ◌^◌, List, [], ◌++◌, Result, OnErr, OnOk, length, map, min, reverse, drop, take}
 use Rattle.constriction_base.specs.Models.{Item, AreKnown}
 use Rattle.constriction_queue.specs.Decoder.{Decoder}
 use Rattle.constriction_queue.specs.Encoder.{run_of, words_held}

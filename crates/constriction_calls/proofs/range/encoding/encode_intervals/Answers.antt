@@ -1,4 +1,4 @@
-use Rattle.std.proofs.Common.{◌≡◌, ◌∷◌, [], List, length, map, rules, ℕ, arith}
+use Rattle.std.proofs.Common.{◌≡◌, ◌∷◌, [], length, map, rules, arith}
 use Rattle.std.proofs.lemmas.List.{length-map}
 use Rattle.constriction_inputs.specs.Coded.{items}
 use Rattle.constriction_inputs.specs.Intervals.{as_intervals}
