@@ -446,9 +446,9 @@ uint32_t constriction_exp_golomb_decode_queue_u32(const uint32_t *words, size_t 
 uint32_t constriction_exp_golomb_decode_stack_u32(const uint32_t *words, size_t word_count,
                                                   uint32_t *symbols, size_t symbol_count);
 
-/* The same as a queue from bit *bit of the words on, so that lists can follow one another, each with its codebook.
-   Bit i is bit i % 32 of words[i / 32], counted from the lowest. The call sets *bit to the bit behind the last
-   codeword. The bits below the old *bit stay, and those behind the new one in its word become 0.
+/* Encodes as a queue, from bit *bit of the words on. So lists can follow one another, each with its own codebook. Bit i
+   is bit i % 32 of words[i / 32], counted from the lowest. The call sets *bit to the bit after the last codeword. It
+   leaves all bits below the old *bit unchanged. The other bits of the last word become 0.
    Errors: WRONG_LENGTH (*bit is past the buffer, or size_t doesn't count its bits), and those of the encodes above. */
 uint32_t constriction_huffman_encode_at_u32(const uint32_t *weights, size_t weight_count,
                                             const size_t *symbols, size_t symbol_count,
@@ -456,8 +456,8 @@ uint32_t constriction_huffman_encode_at_u32(const uint32_t *weights, size_t weig
 uint32_t constriction_exp_golomb_encode_at_u32(const uint32_t *symbols, size_t symbol_count,
                                                uint32_t *words, size_t capacity, size_t *bit, size_t *needed);
 
-/* Decodes from bit *bit of a queue's words on, and sets *bit to the bit behind the last codeword. The bits from there
-   on don't matter: the next list may begin there.
+/* Decodes from bit *bit of a queue's words on, and sets *bit to the bit after the last codeword. The next list may
+   begin there: the symbols don't depend on the bits from there on.
    Errors: WRONG_LENGTH (*bit is past the words, or size_t doesn't count their bits), and those of a queue's decodes. */
 uint32_t constriction_huffman_decode_at_u32(const uint32_t *weights, size_t weight_count,
                                             const uint32_t *words, size_t word_count, size_t *bit,
@@ -772,9 +772,9 @@ uint32_t constriction_exp_golomb_decode_queue_u16(const uint16_t *words, size_t 
 uint32_t constriction_exp_golomb_decode_stack_u16(const uint16_t *words, size_t word_count,
                                                   uint16_t *symbols, size_t symbol_count);
 
-/* The same as a queue from bit *bit of the words on, so that lists can follow one another, each with its codebook.
-   Bit i is bit i % 16 of words[i / 16], counted from the lowest. The call sets *bit to the bit behind the last
-   codeword. The bits below the old *bit stay, and those behind the new one in its word become 0.
+/* Encodes as a queue, from bit *bit of the words on. So lists can follow one another, each with its own codebook. Bit i
+   is bit i % 16 of words[i / 16], counted from the lowest. The call sets *bit to the bit after the last codeword. It
+   leaves all bits below the old *bit unchanged. The other bits of the last word become 0.
    Errors: WRONG_LENGTH (*bit is past the buffer, or size_t doesn't count its bits), and those of the encodes above. */
 uint32_t constriction_huffman_encode_at_u16(const uint32_t *weights, size_t weight_count,
                                             const size_t *symbols, size_t symbol_count,
@@ -782,8 +782,8 @@ uint32_t constriction_huffman_encode_at_u16(const uint32_t *weights, size_t weig
 uint32_t constriction_exp_golomb_encode_at_u16(const uint16_t *symbols, size_t symbol_count,
                                                uint16_t *words, size_t capacity, size_t *bit, size_t *needed);
 
-/* Decodes from bit *bit of a queue's words on, and sets *bit to the bit behind the last codeword. The bits from there
-   on don't matter: the next list may begin there.
+/* Decodes from bit *bit of a queue's words on, and sets *bit to the bit after the last codeword. The next list may
+   begin there: the symbols don't depend on the bits from there on.
    Errors: WRONG_LENGTH (*bit is past the words, or size_t doesn't count their bits), and those of a queue's decodes. */
 uint32_t constriction_huffman_decode_at_u16(const uint32_t *weights, size_t weight_count,
                                             const uint16_t *words, size_t word_count, size_t *bit,

@@ -7,7 +7,7 @@
 //!
 //! A call that fails leaves the buffers unchanged. It returns the first of these errors that applies:
 //!
-//! - `WrongLength`: the bit to begin at is past the end of the words, or the words have 2^64 bits or more.
+//! - `WrongLength`: the call is to begin past the last bit of the words, or the words have 2^64 bits or more.
 //! - `WrongWeights`: the weights make no Huffman tree. There are no weights or too many, or their sum doesn't fit their
 //!   type.
 //! - `ImpossibleSymbol`: a symbol has no codeword.

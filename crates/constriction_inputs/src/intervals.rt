@@ -74,8 +74,8 @@ pub fn rows_by_intervals<P: BitArray, const PRECISION: usize>(
 
 /// Returns the row of three weights of a single interval.
 ///
-/// Returns `None` if the lists don't have exactly one item each, or if these make no interval below `2 ^ PRECISION`.
-/// The call needs no memory. In the row's table symbol 1 has the interval.
+/// Returns `None` if `lefts` or `ps` doesn't have exactly one item, or if these items make no interval below
+/// `2 ^ PRECISION`. In the row's table, symbol 1 has the interval. The call needs no memory.
 #[inline]
 pub fn row_of_one<P: BitArray, const PRECISION: usize>(lefts: &[P], ps: &[P]) -> Option<[P; 3]>
     requires { (1 ≤ PRECISION) × (PRECISION ≤ P.BITS) }

@@ -153,7 +153,9 @@ pub extern "C" fn constriction_huffman_decode_stack_u32(
     code_without_space(decode_stack(alloc, &Tree { weights }, words, symbols))
 }
 
-/// Encodes numbers with Exp-Golomb codewords, from a bit of the words on.
+/// Encodes numbers with Exp-Golomb codewords, from bit `bit` of `words` on.
+///
+/// Calls [`encode_at`] and returns the code of its result ([`code_of`]).
 #[unsafe(no_mangle)]
 pub extern "C" fn constriction_exp_golomb_encode_at_u32(
     alloc: Global,
@@ -169,7 +171,9 @@ pub extern "C" fn constriction_exp_golomb_encode_at_u32(
     code_of(answer, needed)
 }
 
-/// Encodes symbols with the Huffman tree of the weights, from a bit of the words on.
+/// Encodes symbols with the Huffman tree of the weights, from bit `bit` of `words` on.
+///
+/// Calls [`encode_at`] and returns the code of its result ([`code_of`]).
 #[unsafe(no_mangle)]
 pub extern "C" fn constriction_huffman_encode_at_u32(
     alloc: Global,
@@ -187,7 +191,9 @@ pub extern "C" fn constriction_huffman_encode_at_u32(
     code_of(answer, needed)
 }
 
-/// Decodes numbers with Exp-Golomb codewords, from a bit of the words on.
+/// Decodes numbers with Exp-Golomb codewords, from bit `bit` of `words` on.
+///
+/// Calls [`decode_at`] and returns the code of its result ([`code_of`]).
 #[unsafe(no_mangle)]
 pub extern "C" fn constriction_exp_golomb_decode_at_u32(
     alloc: Global,
@@ -201,7 +207,9 @@ pub extern "C" fn constriction_exp_golomb_decode_at_u32(
     code_without_space(decode_at(alloc, &ExpGolomb::<u32>::new(), words, bit, symbols))
 }
 
-/// Decodes symbols with the Huffman tree of the weights, from a bit of the words on.
+/// Decodes symbols with the Huffman tree of the weights, from bit `bit` of `words` on.
+///
+/// Calls [`decode_at`] and returns the code of its result ([`code_of`]).
 #[unsafe(no_mangle)]
 pub extern "C" fn constriction_huffman_decode_at_u32(
     alloc: Global,

@@ -60,8 +60,8 @@ pub fn decode<
 
 /// Fills `symbols` with decoded symbols, with one table of weights for all symbols.
 ///
-/// For one symbol the call searches the weights. For more symbols it makes a table of them first. The
-/// call changes `head` and `len` as [`decode`] does.
+/// For one symbol the call searches the weights. For more symbols it first builds a table. The call changes `head` and
+/// `len` as [`decode`] does.
 ///
 /// # Errors
 ///

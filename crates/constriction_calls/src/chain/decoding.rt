@@ -93,8 +93,8 @@ pub fn decode<
 
 /// Fills `symbols` with decoded symbols, with one table of weights for all symbols.
 ///
-/// For one symbol the call searches the weights. For more symbols it makes a table of them first. The
-/// call changes the coder as [`decode`] does.
+/// For one symbol the call searches the weights. For more symbols it first builds a table. The call changes the coder
+/// as [`decode`] does.
 ///
 /// # Errors
 ///

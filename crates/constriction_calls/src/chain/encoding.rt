@@ -26,7 +26,7 @@ use constriction_stream::encoding::Encode;
 use constriction_words::{BitArray, WordOf};
 use std::alloc::Global;
 
-/// A chain coder that reads borrowed remainders, and writes compressed words to borrowed room.
+/// A chain coder that reads borrowed remainders, and writes compressed words to a borrowed buffer.
 type Putting<'a, Word, State, const PRECISION: usize> = ChainCoder<
     Word,
     State,
@@ -84,11 +84,11 @@ pub fn encode_reverse<
     )
 }
 
-/// Encodes as [`encode_reverse`] does. `room` has a place for each symbol, because an encode writes at most one word.
+/// Encodes as [`encode_reverse`] does, with the buffer `room` for the new words, at most one for each symbol.
 ///
 /// # Errors
 ///
-/// The errors of [`encode_reverse`]. `NoMemory` is also returned if `room` has fewer places than there are symbols.
+/// The errors of [`encode_reverse`]. The call also returns `NoMemory` if `room` is shorter than `symbols`.
 #[inline]
 fn encode_within<
     Word: WordOf<State>,
@@ -257,7 +257,7 @@ fn intervals_by_rows<Word: WordOf<State>, State: BitArray, P: WordOf<Word>, cons
 
 /// Encodes symbols from the last to the first, each under its own model, onto `coder`.
 ///
-/// If `is_room` is false, it encodes none and has no memory.
+/// If `is_room` is false, the call encodes no symbol and returns an error.
 ///
 /// # Errors
 ///

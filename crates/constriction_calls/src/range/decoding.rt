@@ -120,8 +120,8 @@ pub fn decode<
 
 /// Fills `symbols` with decoded symbols, in order, with one table of weights for all symbols.
 ///
-/// For one symbol the call searches the weights. For more symbols it makes a table of them first. The
-/// call changes `decoder` as [`decode`] does.
+/// For one symbol the call searches the weights. For more symbols it first builds a table. The call changes `decoder`
+/// as [`decode`] does.
 ///
 /// # Errors
 ///

@@ -1,4 +1,4 @@
-//! [`CountedBits`]: the bits of words from a bit on, read one by one and counted.
+//! [`CountedBits`]: the bits of words from a given bit on, read one by one and counted.
 
 ghost use Rattle.std.specs.Prelude.{◌≡◌, ◌↔◌, IsTrue, drop, length, map};
 ghost use Rattle.constriction_base.specs.Iterators.{item_of_answer};
@@ -15,9 +15,9 @@ use constriction_words::BitArray;
 use std::convert::Infallible;
 use std::marker::Model;
 
-/// The bits of words from a bit on, with the number of bits that are left.
+/// The bits of words from a given bit on, with the number of bits that are left.
 ///
-/// Contracts see the bits that are left.
+/// Contracts describe a `CountedBits` by the bits that are left.
 #[derive(Drop)]
 pub struct CountedBits<'a, Word: BitArray> {
     bits: QueueDecoder<Word, Cursor<Word, &'a [Word]>>,
@@ -35,7 +35,7 @@ impl<'a, Word: BitArray> Model for CountedBits<'a, Word> {
 }
 
 impl<'a, Word: BitArray> CountedBits<'a, Word> {
-    /// Returns the bits of `words` from a bit on. The caller proves that the words have this bit, or end before it.
+    /// Returns the bits of `words` from bit `bit` on. The caller proves that `words` has at least `bit` bits.
     pub fn from(words: &'a [Word], bit: usize) -> Self
         requires { IsBit Word.BITS (length words.now) bit }
         ensures { result ≡ drop bit (bits_of_words Word.BITS (map Word.number words.now)) }
@@ -128,7 +128,7 @@ impl<'a, Word: BitArray> ReadBitStream<Queue> for CountedBits<'a, Word> {
     ghost list_law = { λ known old item new given. given };
 }
 
-/// Returns whether words have a bit, or end right before it. If they have 2^64 bits or more, the answer is `false`.
+/// Returns whether `words` has at least `bit` bits. Returns `false` if `words` has 2^64 bits or more.
 pub fn is_bit<Word: BitArray>(words: &[Word], bit: usize) -> bool
     ensures { IsTrue result ↔ IsBit Word.BITS (length words.now) bit }
 {

@@ -41,8 +41,8 @@ pub fn decode_queue<Word: BitArray, C: Codes>(
 
 /// Fills `symbols` with symbols decoded from a queue of bits, from bit `bit` of `words` on. `codes` has the codebook.
 ///
-/// Sets `bit` to the bit after the last codeword. So a second call with `bit` decodes what follows, with any codebook.
-/// The bits after the last codeword don't matter.
+/// The call sets `bit` to the bit after the last codeword. A second call with `bit` decodes the symbols that follow,
+/// with any codebook. The result doesn't depend on the bits after the last codeword.
 ///
 /// # Errors
 ///

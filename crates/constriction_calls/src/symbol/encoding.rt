@@ -48,9 +48,9 @@ pub fn encode_queue<Word: BitArray, C: Codes>(
 
 /// Encodes symbols as a queue of bits, in order, from bit `bit` of `words` on. `codes` has the codebook.
 ///
-/// The call leaves all bits below `bit` unchanged, and sets `bit` to the bit after the last codeword. The bits behind
-/// it in its word become 0. So a second call with `bit` appends symbols, with any codebook, and after each call the
-/// words up to that of `bit` are those of a queue.
+/// The call leaves all bits below `bit` unchanged, and sets `bit` to the bit after the last codeword. The other bits of
+/// the last word become 0, so the words written so far are the words of a queue. A second call with `bit` appends
+/// symbols, with any codebook.
 ///
 /// # Errors
 ///
@@ -101,10 +101,10 @@ pub fn encode_stack<Word: BitArray, C: Codes>(
     }
 }
 
-/// Returns the words of a queue from the word of a bit on, and the bit after the last codeword.
+/// Returns the words of a queue, from the word of bit `bit` on, and the bit after the last codeword.
 ///
-/// The queue begins with the bits of `words` below `bit`. Returns `None` if the weights make no tree, if a symbol has no
-/// codeword, or if there is no memory.
+/// The queue begins with the bits of `words` below `bit`. Returns `None` if the weights make no tree, if a symbol has
+/// no codeword, or if there is no memory.
 fn words_from<Word: BitArray, C: Codes>(
     alloc: Global,
     codes: &C,
@@ -128,7 +128,7 @@ fn words_from<Word: BitArray, C: Codes>(
     Some((added, end))
 }
 
-/// Returns a queue of the first `count` bits of words, or `None` if there are fewer bits, or no memory.
+/// Returns a queue of the first `count` bits of `words`, or `None` if there are fewer bits or no memory.
 fn queue_of_first<Word: BitArray>(
     alloc: Global,
     words: &[Word],
@@ -152,7 +152,7 @@ fn queue_of_first<Word: BitArray>(
     Some(queue)
 }
 
-/// Returns the words of a queue that has bits already, and the number of its bits.
+/// Encodes symbols onto the queue `begun`, and returns its words and its number of bits.
 ///
 /// Returns `None` if the weights make no tree, if a symbol has no codeword, or if there is no memory.
 fn queue_words<Word: BitArray, C: Codes>(

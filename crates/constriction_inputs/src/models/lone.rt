@@ -1,4 +1,4 @@
-//! A `Row` as the model of all symbols of a list.
+//! `Row` as a form of models: one row of weights for all symbols of a list.
 
 ghost use Rattle.std.specs.Prelude.{map};
 ghost use Rattle.constriction_inputs.specs.Weights.{by_weights};
