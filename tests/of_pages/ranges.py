@@ -136,8 +136,8 @@ def reading(page, runs, words):
 def following(page):
     """The seal that any words may follow, with states of 32 bits."""
     tables, symbols = [[27, 229], [19, 237], [128, 128]], [0, 0, 1]
-    shown = [f"{symbol} (`{listed(table)}`)" for symbol, table in zip(symbols, tables)]
-    page.has(f"With states of 32 bits `q` is `2^24`. Under the weights in brackets, symbol {shown[0]}, {shown[1]} and {shown[2]} leave")
+    weights = [f"`{listed(table)}`" for table in tables]
+    page.has(f"With states of 32 bits `q` is `2^24`. The symbols {symbols[0]}, {symbols[1]} and {symbols[2]}, under the weights {weights[0]}, {weights[1]} and {weights[2]}, leave")
     low, length, moves = steps(page, tables, symbols, 32)[-1]
     number, words = sealed(low, length, moves, 32)
     room, zeros = low + length - number * 2**24, zero_words(low, length, 32)

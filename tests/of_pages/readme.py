@@ -136,4 +136,4 @@ def test():
     speed(page)
     gate()
     rounding = f"{log2(1 + 2 ** -(64 - 32 - 24)):.4f}"
-    page.has(f"{rounding} bits a symbol for rounding (at 24 bits, words of 32 and states of 64)")
+    page.has(f"rounding adds at most {rounding} bits a symbol to the information content (24-bit precision, 32-bit words,")
