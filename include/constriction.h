@@ -47,13 +47,14 @@
    COST. A call by one table of weights takes about 13 nanoseconds for each weight, or 45 if it encodes with a stack
    or a chain coder, which needs the weights' reciprocals, and 0.1 microseconds for itself. So two symbols under 256
    weights take 3.4 microseconds, or 12. After that, each symbol takes 3 to 6 nanoseconds to encode, 6 to decode with
-   a stack coder, and 19 with a range coder. A decode of one symbol makes no table. It takes about 5 nanoseconds for
+   a stack coder, and 19 with a range coder. A decode of one symbol makes no table. It takes 1 to 3 nanoseconds for
    each weight. .._each takes 4 nanoseconds for each weight of each row.
 
    ONE SYMBOL AT A TIME. To encode one symbol, pass its interval. To decode one, if you can search the sums of the
    weights yourself, compute the quantile from the state, find its symbol, and pass three weights: the sum of all
-   below it, its own, and the sum of all above it. The call then decodes symbol 1. The encode takes 15 to
-   25 nanoseconds, and the decode 10 with a stack coder. The quantile is:
+   below it, its own, and the sum of all above it. The call then decodes symbol 1. The encode takes 28
+   nanoseconds with a stack coder, 39 with a range coder and 35 with a chain coder, and the decode 16 with a stack
+   coder. The quantile is:
    - for the stack coder, head % 2^24 (2^12).
    - for the range coder, (point - lower) / (range >> 24) (range >> 12), in the type of the state, with a difference
      that wraps. If it is 2^24 (2^12) or more, no encoder wrote the words, and each decode returns INVALID_DATA.
