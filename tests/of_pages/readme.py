@@ -33,11 +33,8 @@ def speed(page):
     for coder, name in (("Stack coder (ANS)", "ans"), ("Range coder", "range"), ("Chain coder", "chain")):
         encodes = of(f"{name}_encode_.*_table"), of(f"{name}_encode_.*_flat")
         page.row(coder, *encodes, of(f"{name}_decode_.*_table"), of(f"{name}_decode_.*_(bucket|lookup|flat)"))
-    # The Rust crate's writes of bits can be slow by their place in the program: docs/TIMES.md has the ratio to a fast one.
-    write = re.search(r"which makes both ratios ([\d.]+\d)", read("docs/TIMES.md"))
-    judge(write, "docs/TIMES.md: the writes of bits")
     page.row("Exp-Golomb", of("golomb_encode_.*"), of("golomb_decode_.*"))
-    page.row("Single bits", write and write[1], of("bits_read_.*"))
+    page.row("Single bits", of("bits_write_.*"), of("bits_read_.*"))
     page.row("Huffman coding", of("huffman_encode_.*"), of("huffman_decode_.*"))
     page.row("Building a Huffman tree", of("huffman_make_encoder_.*"), of("huffman_make_decoder_.*"))
 
