@@ -150,7 +150,7 @@ pub extern "C" fn constriction_bench_golomb_decode_stack(
     }
 }
 
-/// Encodes symbols in order to a queue of bits, with the Huffman tree of `weights`.
+/// Encodes symbols to a queue of bits, from first to last, with the Huffman tree of `weights`.
 ///
 /// Copies the words to `out`, as many as fit. Returns the total number of words, or 0 after a failure.
 #[unsafe(no_mangle)]

@@ -115,7 +115,9 @@ pub fn change_by(
     }
 }
 
-/// Runs a script with a coder at either precision. Returns the error of the first act with an unexpected answer.
+/// Runs a script with a coder that changes its precision.
+///
+/// Returns the error of the first act with an unexpected answer.
 pub fn follow_changes(
     alloc: Global,
     coder: &mut Either,

@@ -37,7 +37,7 @@ pub const WEIGHTS: &[u8] = &[16, 240];
 /// The weights of a table, and a script.
 pub type Part<'a, Probability> = (&'a [Probability], &'static str);
 
-/// Turns the first act that failed, if there is one, into the error of a test.
+/// Returns the error of a test for the first act that failed, if there is one.
 pub fn said(failed: Option<&'static str>) -> Result<(), Fail> {
     match failed {
         Some(act) => Err(Fail::from(act)),

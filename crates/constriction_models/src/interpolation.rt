@@ -62,7 +62,7 @@ fn place_of(places: &[u32], below: u64) -> u64
     low + (high - low) * (below % 4194304) / 4194304
 }
 
-/// Estimates the place at which a distribution reaches the value `below`, in units of `2^-32`.
+/// Estimates the place at which a distribution reaches `below` (in units of `2^-32`).
 ///
 /// `places` lists where the family's tabulated function reaches each of 1025 values. The table spans the width `wide`
 /// around `middle`. Places are in units of `2^-16`. The result is limited to the range from `-2^51` to `2^51`.

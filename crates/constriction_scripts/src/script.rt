@@ -7,7 +7,7 @@
 
 use std::alloc::{AllocError, Global};
 
-/// An act of a script.
+/// One step of a script: a call with its numbers, or a check of a number.
 #[derive(Drop)]
 pub struct Act<'a> {
     /// The act's text in the script, which a failing test reports.
@@ -16,7 +16,7 @@ pub struct Act<'a> {
     /// The answer that the act expects of the call (see [`crate::answers`]).
     pub answer: &'static str,
     pub numbers: &'a [u128],
-    /// The numbers as symbols.
+    /// `numbers`, as symbols.
     pub symbols: &'a [usize],
 }
 

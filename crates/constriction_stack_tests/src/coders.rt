@@ -21,7 +21,7 @@ pub type Small = AnsCoder<u8, u16>;
 /// A table with a precision of 8 bits.
 pub type Table = WeightTable<u8, 8>;
 
-/// Turns the first act that failed, if there is one, into the error of a test.
+/// Returns the error of a test for the first act that failed, if there is one.
 pub fn said(failed: Option<&'static str>) -> Result<(), Fail> {
     match failed {
         Some(act) => Err(Fail::from(act)),

@@ -34,7 +34,7 @@ pub fn one_list_of_flagged_symbols()
 
 /// Decoding self-delimiting words returns the encoded symbols with a flag among them, whatever words follow.
 ///
-/// The encoder starts from the initial interval. Symbols up to and including the flag have the model `first`, all later
+/// The encoder starts from the initial interval. Symbols up to and including the flag have the model `first`. All later
 /// symbols have the model `second`.
 pub fn flagged_symbols_come_back()
     ensures { (w s flag : ℕ) (first second : Model ℕ) (symbols words rest : List ℕ) (last : Run) → IsSizes w s →
