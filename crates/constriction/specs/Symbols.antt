@@ -1,2 +1,2 @@
--- Step calls with a symbol and a model's table.
+-- Encodes and decodes of one symbol, as the steps that a model's table gives.
 pub use Rattle.constriction_stream.specs.Symbols.{EncodesSymbol, EncodesPair, DecodesSymbol, DecodesByModel, as_backend, IsBackendError, ByBackend, HasRoom, GoesOn}

@@ -8,7 +8,7 @@ pub record IsHint (starts : List ℕ) (high place symbol : ℕ) : Type 0 where
   pub from : slice_index starts symbol ≤ place
   pub to : place ≤ end_of starts symbol high
 
--- The hints belong to the multiples of the width, from 0 on, and never fall.
+-- The hint at each index k is a hint for the place k * width, and the hints never fall.
 pub record AreHints (starts : List ℕ) (high width : ℕ) (hints : List ℕ) : Type 0 where
   pub each : (k : ℕ) → k < length hints → IsHint starts high (k * width) (slice_index hints k)
   pub rising : (k : ℕ) → k + 1 < length hints → slice_index hints k ≤ slice_index hints (k + 1)

@@ -1,17 +1,18 @@
 -- An iterator of Results of words, seen as reads of a backend.
 use Rattle.std.specs.Prelude.{◌≡◌, Bool, true, false, List, [], ◌∷◌, Option, None, Some, Result, Ok, Err, MatchBool, MatchOption}
 
--- The item of the iterator that a read with this answer stands for.
+-- The iterator's item that makes a read return this answer, or `None` if the iterator has ended.
 abbrev pub item_of_answer : {W E : Type 0} → Result (Option W) E → Option (Result W E)
 item_of_answer (Ok None) = None
 item_of_answer (Ok (Some w)) = Some (Ok w)
 item_of_answer (Err e) = Some (Err e)
 
--- One item of an iterator that ends for good; the state is the iterator and whether it has ended.
+-- A call of `next` on a fused iterator: after its first `None`, it returns only `None`. The state is the iterator and
+-- whether it has ended.
 abbrev pub FusedStep : {S A : Type 0} → (S → Option A → S → Type 0) → S × Bool → Option A → S × Bool → Type 0
 FusedStep steps old r new = MatchBool old.1 (r ≡ None) (steps old.0 r new.0) × MatchOption r (new.1 ≡ true) (λ _. new.1 ≡ false)
 
--- A read returns what the iterator gives next.
+-- A read returns the next item of the fused iterator, or `Ok(None)` if the iterator has ended.
 abbrev pub FusedRead : {S W E : Type 0} → (S → Option (Result W E) → S → Type 0) → S × Bool → Result (Option W) E → S × Bool → Type 0
 FusedRead steps old answer new = FusedStep steps old (item_of_answer answer) new
 

@@ -28,28 +28,28 @@ pub record Imports {W E B : Type 0} (number : W → ℕ) (reads : B → Result (
 
 -- ---- by a backend's rules for reads
 
--- A read obeys the backend's `reads`, and `Reads` on its words where the backend knows them.
+-- A read obeys the backend's `reads`. Where `is_list` holds, the read also obeys `Reads` on the backend's words.
 abbrev pub ReadsAs : {W B E S : Type 0} → holding.Ghosts B W S → reading.Ghosts B W S E → B → Result (Option W) E → B → Type 0
 ReadsAs holds reads old answer new = reads.reads old answer new × (holds.is_list → Reads (holds.words old) answer (holds.words new))
 
--- Reads return words that move in below a number one after another, and the result is n.
+-- Reads return words, and each word moves in below a number, as its new lowest word. This turns `from` into `n`.
 pub record MovesIn {W B E S : Type 0} (number : W → ℕ) (holds : holding.Ghosts B W S) (reads : reading.Ghosts B W S E) (w from : ℕ) (old : B) (n : ℕ) (new : B) : Type 0 where
   pub words : List W
   pub given : Gives reads.reads old words new
-  -- A backend that knows its words held these words first.
+  -- Where `is_list` holds, the reads take these words off the front of the backend's list.
   pub taken : holds.is_list → holds.words old ≡ words ++ holds.words new
   pub is : n ≡ number_from_digits_after (2 ^ w) from (map number words)
 
--- Words moved in below a number up to n, which is below the bound, and the next read gave this answer instead of a
--- word.
+-- Words move in below a number, which turns `from` into `n`. The number `n` is below the bound, and the next read
+-- returns `answer`.
 pub record StopsAt {W B E S : Type 0} (number : W → ℕ) (holds : holding.Ghosts B W S) (reads : reading.Ghosts B W S E) (w bound from : ℕ) (old : B) (n : ℕ) (answer : Result (Option W) E) (new : B) : Type 0 where
   pub last : B
   pub moved : MovesIn number holds reads w from old n last
   pub low : n < bound
   pub read : ReadsAs holds reads last answer new
 
--- Words move into a head while it is below the bound and a word is left. The answer is the new head with a flag, which
--- says whether it reached the bound or the words ended first; or it is the error of a refused read.
+-- Words move into a head while it is below the bound and a word is left. The answer is the new head with a flag: `true`
+-- if the head is at least the bound, `false` if the words end first. If a read is refused, the answer is its error.
 abbrev pub Fills : {W B E S H : Type 0} → (W → ℕ) → (H → ℕ) → holding.Ghosts B W S → reading.Ghosts B W S E → ℕ → ℕ → H → B → Result (H × Bool) E → B → Type 0
 Fills number head_number holds reads w bound head old answer new =
     MatchResult answer

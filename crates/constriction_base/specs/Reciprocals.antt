@@ -3,6 +3,6 @@ use Rattle.std.specs.Prelude.{◌≡◌, ℕ, ◌<◌, List, length, slice_index
 use Rattle.constriction_words.specs.declared.reciprocal.Reciprocal.{Reciprocal}
 use Rattle.constriction_words.specs.Reciprocals.{IsReciprocalOf}
 
--- Each reciprocal in the list is that of its weight, where the weight is above 0.
+-- The reciprocal at each index belongs to the weight at the same index, if this weight is above 0.
 abbrev pub AreReciprocals : List ℕ → List Reciprocal → Type 0
 AreReciprocals weights made = (k : ℕ) (r : Reciprocal) → k < length made → slice_index_or made k r ≡ r → 0 < slice_index weights k → IsReciprocalOf r (slice_index weights k)

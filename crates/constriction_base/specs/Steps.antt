@@ -1,5 +1,6 @@
 -- Steps of a coder (the interval of one symbol in a table), and the sizes of words and states.
--- A step is all that a coder learns of a symbol and its model; a lawful model has each step as an entry of its table.
+-- A step is all that a coder learns of a symbol and its model. Under a lawful model, each step is an entry of
+-- the table.
 use Rattle.std.specs.Prelude.{◌≡◌, ℕ, ◌+◌, ◌*◌, ◌%◌, ◌<◌, ◌≤◌, ◌^◌, List, [], ◌∷◌}
 use Rattle.std.specs.List.{AllByRecursion}
 
@@ -9,8 +10,8 @@ pub record Step : Type 0 where
   pub left : ℕ
   pub p : ℕ
 
--- A step of a table at words of w bits: the precision is from 1 to w bits, and the interval is not empty and lies
--- within the numbers of the precision.
+-- A step of a table at words of w bits. The precision is from 1 to w bits. The interval is not empty and lies within
+-- the numbers below 2 ^ precision.
 pub record IsStep (w : ℕ) (e : Step) : Type 0 where
   pub some_bits : 1 ≤ e.precision
   pub within_word : e.precision ≤ w

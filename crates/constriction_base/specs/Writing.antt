@@ -1,10 +1,10 @@
--- Writing the words that a call owes to a backend, and what the backend holds where a write is refused. In each list
--- of words the one that was written last, and is read next, comes first.
+-- Writing the words that a call owes to a backend, and what the backend holds where a write is refused. The owed words
+-- are those that the call has to write. In each list of words, the word that is written last and read next comes first.
 use Rattle.std.specs.Prelude.{◌≡◌, ◌⊎◌, ℕ, ◌+◌, ◌*◌, ◌^◌, ◌<◌, ◌≤◌, List, [], ◌∷◌, ◌++◌, Result, Ok, Err, length, map, OnOk, OnErr, IfErr, IsOk}
 use Rattle.constriction_base.specs.declared.backends.reading.Holds as holding
 use Rattle.constriction_base.specs.declared.backends.writing.WriteWords as writing
 
--- A proper beginning of the owed words lies on the old ones, and at least one is missing.
+-- The new words are the old ones with the owed words written so far in front. At least one owed word isn't written.
 pub record IsBegun (owed old new : List ℕ) : Type 0 where
   pub later : List ℕ
   pub written : List ℕ
@@ -28,65 +28,67 @@ pub record StopsAtWrite {W B E S : Type 0} (number : W → ℕ) (holds : holding
   pub last : B
   pub led : WrittenInTurn number writes written old last
   pub refused : writes.writes last word (Err e) new
-  -- The error is one of that write, and the words stay.
+  -- The backend's `write_fails` allows the error for that write, and the words stay.
   pub fails : writes.write_fails last e
   pub kept : holds.words last ≡ holds.words new
 
--- What a successful request for room for `count` words leaves.
+-- A successful request for room for `count` words keeps the words, doesn't lower the room, and adds no write errors.
+-- If `makes_room` holds, the room is then at least `count`.
 pub record IsPrepared {W B E S : Type 0} (holds : holding.Ghosts B W S) (writes : writing.Ghosts B W E) (count : ℕ) (old new : B) : Type 0 where
   pub words : holds.words new ≡ holds.words old
   pub room : writes.room old ≤ writes.room new
   pub made : writes.makes_room → count ≤ writes.room new
   pub fails : (e : E) → writes.write_fails new e → writes.write_fails old e
 
--- Where requests for room make none, the request for all owed words succeeds, and then a write is refused.
+-- Requests for room make no room on this backend. The request for all owed words succeeds, and then a write is refused.
 abbrev pub RefusesWrite : {W B E S : Type 0} → (W → ℕ) → holding.Ghosts B W S → writing.Ghosts B W E → List ℕ → B → E → B → Type 0
 RefusesWrite {B = B} number holds writes owed old e new =
     (writes.makes_room → ⊥) × ((ready : B) × IsPrepared holds writes (length owed) old ready × StopsAtWrite number holds writes owed ready e new)
 
--- The same where the backend is gone or has changed again: a beginning of the owed words lay on it.
+-- `RefusesWrite` for a caller that doesn't see the backend right after the refused write. That backend is `left`, with
+-- the owed words written so far in front of the old ones.
 abbrev pub RefusedWrite : {W B E S : Type 0} → (W → ℕ) → holding.Ghosts B W S → writing.Ghosts B W E → List ℕ → B → E → Type 0
 RefusedWrite {B = B} number holds writes owed old e =
     (left : B) × IsBegun owed (map number (holds.words old)) (map number (holds.words left)) × RefusesWrite number holds writes owed old e left
 
--- A call writes all owed words, or stops at a refused write behind a beginning of them.
+-- A call writes all owed words. If a write is refused, the call stops there, and the words written so far stay.
 pub record WritesAll {W B E S : Type 0} (number : W → ℕ) (holds : holding.Ghosts B W S) (writes : writing.Ghosts B W E) (owed : List ℕ) (old : B) (answer : Result (Unit {0}) E) (new : B) : Type 0 where
   -- All owed words lie on the old ones.
   pub words : OnOk answer (map number (holds.words new) ≡ owed ++ map number (holds.words old))
-  -- Each is written by its own write.
+  -- Each owed word is written by its own write.
   pub in_turn : OnOk answer (WrittenInTurn number writes owed old new)
-  -- The writes use no more room than there are words.
+  -- The room shrinks by at most the number of owed words.
   pub room_used : OnOk answer (writes.room old ≤ writes.room new + length owed)
-  -- After an error a beginning of them lies there, and there was no room for all.
+  -- After an error, the owed words written so far lie on the old ones. The old room is below the number of owed words.
   pub begun : OnErr answer (IsBegun owed (map number (holds.words old)) (map number (holds.words new)))
   pub short : OnErr answer (writes.room old < length owed)
-  -- The error is that of the write at which the call stops.
+  -- The error comes from the write at which the call stops.
   pub error : IfErr answer (λ e. StopsAtWrite number holds writes owed old e new)
 
 -- A call asks for room for all owed words and then writes them.
 pub record Appends {W B E S : Type 0} (number : W → ℕ) (holds : holding.Ghosts B W S) (writes : writing.Ghosts B W E) (owed : List ℕ) (old : B) (answer : Result (Unit {0}) E) (new : B) : Type 0 where
   pub words : OnOk answer (map number (holds.words new) ≡ owed ++ map number (holds.words old))
-  -- Each is written by its own write, behind one request for room.
+  -- Each owed word is written by its own write, after one request for room.
   pub in_turn : OnOk answer (0 < length owed → (ready : B) × IsPrepared holds writes (length owed) old ready × WrittenInTurn number writes owed ready new)
   pub room_used : OnOk answer (writes.room old ≤ writes.room new + length owed)
-  -- Where no word is owed, the backend stays untouched.
+  -- If no word is owed, the call succeeds and the backend is unchanged.
   pub untouched : owed ≡ [] → IsOk answer × (new ≡ old)
   pub begun : OnErr answer (IsBegun owed (map number (holds.words old)) (map number (holds.words new)))
   pub short : OnErr answer (writes.room old < length owed)
   -- Where a request makes room, an error leaves the words unchanged.
   pub kept : writes.makes_room → OnErr answer (holds.words new ≡ holds.words old)
-  -- The error is that of the request, before any write; or, where a request makes no room, that of a write.
+  -- The error is that of the request, before any write. If requests make no room, it may be that of a write.
   pub error : IfErr answer (λ e. (writes.prepare_fails old (length owed) e × (holds.words new ≡ holds.words old))
       ⊎ RefusesWrite number holds writes owed old e new)
 
--- The owed words could not be written, and the backend is gone. There was no room for all of them: the request for
--- room was refused or, where a request makes no room, a write behind a beginning of them was.
+-- A call can't write all owed words, and the caller no longer has the backend. The old room is below the number of owed
+-- words. The backend refuses the request for room. If requests make no room, it may instead refuse a later write.
 abbrev pub NotWritten : {W B E S : Type 0} → (W → ℕ) → holding.Ghosts B W S → writing.Ghosts B W E → List ℕ → B → E → Type 0
 NotWritten number holds writes owed old e =
     (writes.room old < length owed)
     × (writes.prepare_fails old (length owed) e ⊎ RefusedWrite number holds writes owed old e)
 
--- The number is a one above m words of w bits: its bit length is m * w + 1.
+-- The highest set bit of n stands right above m words of w bits: n has m * w + 1 bits without leading zeros.
 pub record IsOneAbove (w m n : ℕ) : Type 0 where
   pub from : 2 ^ (m * w) ≤ n
   pub below : n < 2 ^ (m * w + 1)

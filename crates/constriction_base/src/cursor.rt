@@ -48,7 +48,7 @@ impl<Word: BitArray, Buf: Words<Word> + Drop> Model for Cursor<Word, Buf> {
 }
 
 impl<Word: BitArray, Buf: Words<Word> + Drop> Cursor<Word, Buf> {
-    /// Creates a cursor before the first word: an empty stack, or a queue of all words of the buffer.
+    /// Creates a cursor before the first word. Its stack is empty, and its queue holds all words of the buffer.
     ///
     /// # Examples
     ///
@@ -66,7 +66,7 @@ impl<Word: BitArray, Buf: Words<Word> + Drop> Cursor<Word, Buf> {
         }
     }
 
-    /// Creates a cursor after the last word: a stack of all words of the buffer, or an empty queue.
+    /// Creates a cursor after the last word. Its stack holds all words of the buffer, and its queue is empty.
     ///
     /// # Examples
     ///

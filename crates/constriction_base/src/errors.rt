@@ -8,7 +8,7 @@ use std::alloc::AllocError;
 use std::fmt::Display;
 use thiserror::Error;
 
-/// The error of a coder: either its frontend or its backend refused the call.
+/// The error of a coder: either its frontend or its backend refuses the call.
 ///
 /// The frontend is the part of the coder that handles symbols and their models. The backend reads and writes words. The
 /// `?` operator turns a backend's error into `CoderError::Backend`. It doesn't convert a frontend's error: code has to
@@ -24,10 +24,10 @@ use thiserror::Error;
 #[derive(Debug, Clone, PartialEq, Eq, Hash, Drop, Error)]
 #[error_bound(F: Display, B: Display)]
 pub enum CoderError<F, B> {
-    /// The frontend refused the call, for example because the symbol is impossible or the data is invalid.
+    /// The frontend refuses the call, for example because the symbol is impossible or the data is invalid.
     #[error("{0}")]
     Frontend(F),
-    /// The backend refused a read, a write or a request for room.
+    /// The backend refuses a read, a write or a request for room.
     #[error("{0}")]
     Backend(B),
 }
@@ -69,10 +69,10 @@ pub type DefaultEncoderError<E> = CoderError<DefaultEncoderFrontendError, E>;
 #[derive(Debug, Clone, PartialEq, Eq, Hash, Drop, Error)]
 #[error_bound(R: Display, W: Display)]
 pub enum ReadWriteError<R, W> {
-    /// A read was refused.
+    /// The backend refuses a read.
     #[error("{0}")]
     Read(R),
-    /// A write, or a request for room, was refused.
+    /// The backend refuses a write or a request for room.
     #[error("{0}")]
     Write(W),
 }

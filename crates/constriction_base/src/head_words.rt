@@ -17,6 +17,8 @@ use crate::backends::writing::WriteWords;
 use constriction_words::{BitArray, WordOf};
 
 /// Returns the number of words of `head`, without leading zero words.
+///
+/// The caller proves that `State` has a whole number of words, at least two.
 #[inline]
 pub fn count_of_words<Word: WordOf<State>, State: BitArray>(head: State) -> usize
     requires { IsSizes Word.BITS State.BITS }
@@ -33,7 +35,8 @@ pub fn count_of_words<Word: WordOf<State>, State: BitArray>(head: State) -> usiz
 
 /// Returns how many words the bits below the highest set bit of `head` fill, or `None` if they don't fill whole words.
 ///
-/// It also returns `None` if `head` is 0.
+/// The call also returns `None` if `head` is 0. The caller proves that `State` has a whole number of words, at least
+/// two.
 pub fn words_below_one<Word: WordOf<State>, State: BitArray>(head: State) -> Option<usize>
     requires { IsSizes Word.BITS State.BITS }
     ensures value { IfSome result (λ m. IsOneAbove Word.BITS m (State.number head)) }
@@ -50,6 +53,8 @@ pub fn words_below_one<Word: WordOf<State>, State: BitArray>(head: State) -> Opt
 }
 
 /// Writes the lowest `count` words of `head` to `bulk`, the lowest word first, without asking for room.
+///
+/// The caller proves that `State` has a whole number of words, at least two.
 ///
 /// # Errors
 ///
@@ -85,7 +90,7 @@ pub fn write_words<Word: WordOf<State>, State: BitArray, Backend: WriteWords<Wor
 
 /// Asks for room for `count` words, and writes the lowest `count` words of `head` to `bulk`, the lowest word first.
 ///
-/// If `count` is 0, the backend isn't called.
+/// If `count` is 0, the backend isn't called. The caller proves that `State` has a whole number of words, at least two.
 ///
 /// # Errors
 ///

@@ -1,5 +1,4 @@
-//! Model traits. A model gives a symbol an interval of numbers. The interval's length stands for the symbol's
-//! probability.
+//! Model traits: a model gives symbols intervals of numbers, whose lengths stand for the symbols' probabilities.
 //!
 //! A model of a given precision (in bits) partitions its quantiles, the numbers below `2 ^ PRECISION`, into intervals.
 //! Each symbol that the model can code has one interval. [`EncoderModel`] finds the interval of a symbol.
@@ -44,8 +43,9 @@ pub trait EntropyModel<const PRECISION: usize>: Drop {
 
 /// A model that an encoder can use.
 ///
-/// An implementor proves that each call returns the start and the length of the symbol's interval, or `None` if the
-/// table has no entry for the symbol. If a call also returns a reciprocal, it is the reciprocal of this length.
+/// An implementor proves that each call returns the start and the length of the symbol's interval. If the table has no
+/// entry for the symbol, the call returns `None`. If a call also returns a reciprocal, it is the reciprocal of this
+/// length.
 ///
 /// # Examples
 ///

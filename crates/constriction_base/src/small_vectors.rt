@@ -1,8 +1,8 @@
 //! `SmallVec` as a stack of words. The first word is stored in the value itself.
 //!
 //! The vector asks for memory only when it grows past its first word. Only then may a write or `prepare` fail, and only
-//! for lack of memory. Reads never fail, take no memory and keep the capacity. A bit stack over a small vector holds
-//! one codeword while the codeword is reversed. The impls are generic over the allocator.
+//! for lack of memory. Reads never fail, take no memory and keep the capacity. The crate `constriction_symbol` reverses
+//! a codeword on a bit stack over such a vector. The impls are generic over the allocator.
 
 ghost use Rattle.std.specs.Prelude.{◌≡◌, ◌+◌, ◌-◌, false, ◌<◌, ◌≤◌, ◌==◌, Option, Result, Ok, Err, length, reverse};
 ghost use Rattle.constriction_base.specs.Backends.{Reads, Writes};

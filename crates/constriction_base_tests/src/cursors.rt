@@ -11,7 +11,7 @@ use constriction_base::cursor::Cursor;
 use constriction_base::errors::BoundedWriteError;
 use std::convert::Infallible;
 
-/// Reads to and fro from a cursor before `[1, 2, 3]`. Returns whether all calls return what is expected.
+/// Reads in both directions from a cursor before `[1, 2, 3]`. Returns whether all calls return what is expected.
 fn goes_to_and_fro<B>(cursor: &mut B) -> bool
 where
     B: BoundedReadWords<u32, Stack> + BoundedReadWords<u32, Queue>,

@@ -39,9 +39,9 @@ fn writes<B: WriteWords<u8, WriteError = BoundedWriteError>>(
     }
 }
 
-/// Moves words in below `number` until it is at least `2^8`. Returns the new number, and whether it is at least `2^8`.
+/// Appends words to `number` as its lowest words until the number is at least `2^8` or no word is left.
 ///
-/// The number 0 is returned unchanged.
+/// Returns the new number, and whether it is at least `2^8`. Returns the number 0 unchanged.
 fn fills<B: ReadWords<u8, Stack, ReadError = Infallible>>(
     words: &mut B,
     number: u16,
@@ -56,6 +56,8 @@ fn fills<B: ReadWords<u8, Stack, ReadError = Infallible>>(
 }
 
 /// Returns whether `number` has `words` words, and `below_one` words below its leading 1.
+///
+/// `below_one` is `None` if the bits below the leading 1 don't fill whole words, or if there is no leading 1.
 fn counts(number: u16, words: usize, below_one: Option<usize>) -> bool {
     (count_of_words::<u8, u16>(number) == words) & (words_below_one::<u8, u16>(number) == below_one)
 }

@@ -1,5 +1,4 @@
-//! Tests of backends, models and errors at concrete types: calls on small lists and tables, with results worked out by
-//! hand.
+//! Tests of backends, models and errors at concrete types, on small lists and tables with results worked out by hand.
 //!
 //! The contracts of `constriction_base` are proved there for all values. These tests check what no contract can state:
 //! the definitions have the values that a reader expects, calls that need memory succeed if there is some, and a caller

@@ -38,7 +38,7 @@ fn table_of_three(alloc: Global, is_for_decoding: bool) -> Result<bool, AllocErr
     }
 }
 
-/// Makes a table, and tries again if memory was refused. In this case fails with the error `name`.
+/// Makes a table, and tries again if memory was refused. If the second try succeeds, returns the error `name`.
 fn table_comes(alloc: Global, is_for_decoding: bool, name: &'static str) -> Result<(), Fail> {
     match table_of_three(alloc, is_for_decoding) {
         Ok(true) => Ok(()),
@@ -49,7 +49,9 @@ fn table_comes(alloc: Global, is_for_decoding: bool, name: &'static str) -> Resu
     }
 }
 
-/// Checks tables with memory refused. `tests/refused-memory` refuses each request of this test, one at a time.
+/// Checks that making a table reports refused memory, and succeeds when tried again.
+///
+/// `tests/refused-memory` refuses each request for memory of this test, one at a time.
 #[test]
 fn refused_requests_of_tables(rt: HostRuntime) -> Result<(), Fail> {
     table_comes(rt.alloc(), false, "WeightTable::new")?;

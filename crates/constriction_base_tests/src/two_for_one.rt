@@ -57,7 +57,7 @@ pub fn two_for_one<Word: BitArray, Backend: ReadWords<Word, Stack> + WriteWords<
 
 /// Replaces the last word of a vector by `below` and `above`. If there is no memory, the vector is unchanged.
 ///
-/// Only `prepare` can be refused. The function then pushes the word that was read back into its room.
+/// Only `prepare` can be refused. The function then pushes the word that was read, for which the vector still has room.
 pub fn two_for_last<A: Allocator>(
     words: &mut Vec<u32, A>,
     below: u32,

@@ -1,12 +1,13 @@
--- Where the intervals of the symbols 0, 1, .. begin, and behind them where the last ends.
+-- The starts of the intervals of the symbols 0, 1, .., followed by the end of the last symbol's interval.
 use Rattle.std.specs.Prelude.{◌≡◌, ℕ, ◌+◌, ◌*◌, ◌<◌, ◌≤◌, ◌^◌, List, [], ◌∷◌, length, slice_index, cond, nat_eq}
 
--- where a symbol's interval begins in a table, and how long it is: 0 where it has none
+-- The start and the length of a symbol's interval in a table. Both are 0 if the symbol has no entry.
 abbrev pub interval_in : List (ℕ × ℕ × ℕ) → ℕ → ℕ × ℕ
 interval_in [] symbol = (0, 0)
 interval_in (e ∷ es) symbol = cond (nat_eq e.0 symbol) (e.1, e.2) (interval_in es symbol)
 
--- the intervals of the first so many symbols of a table begin at these places, and each ends at the next
+-- The list has the starts of the intervals of the symbols below `count`, and then the end of the last interval.
+-- Each interval ends where the next one begins.
 pub record AreStarts (precision : ℕ) (table : List (ℕ × ℕ × ℕ)) (starts : List ℕ) (count : ℕ) : Type 0 where
   pub len : length starts ≡ count + 1
   pub begins : (k : ℕ) → k < count → (interval_in table k).0 ≡ slice_index starts k
@@ -14,13 +15,13 @@ pub record AreStarts (precision : ℕ) (table : List (ℕ × ℕ × ℕ)) (start
   pub some : (k : ℕ) → k < count → 0 < (interval_in table k).1
   pub within : (k : ℕ) → k ≤ count → slice_index starts k ≤ 2 ^ precision
 
--- a symbol of so many whose interval holds a quantile
+-- The symbol is below `count`, and its interval holds the quantile.
 pub record HoldsQuantile (starts : List ℕ) (count symbol quantile : ℕ) : Type 0 where
   pub known : symbol < count
   pub low : slice_index starts symbol ≤ quantile
   pub high : quantile < slice_index starts (symbol + 1)
 
--- a symbol of so many whose interval begins at or before the first quantile of a part
+-- The symbol is below `count`, and its interval begins at or before the first quantile of the part.
 pub record BeginsBefore (starts : List ℕ) (count symbol part : ℕ) : Type 0 where
   pub known : symbol < count
   pub low : slice_index starts symbol ≤ part * 4096

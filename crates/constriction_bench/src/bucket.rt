@@ -29,7 +29,9 @@ pub struct BucketTable {
 }
 
 impl BucketTable {
-    /// Makes the table of `weights`. Returns `None` if the weights make no such table, or if there is no memory.
+    /// Makes the table of `weights`.
+    ///
+    /// Returns `None` if the weights make no table of this type, or if there is no memory.
     pub fn new(alloc: Global, weights: &[u32]) -> Option<Self>
         ensures { IfSome result
             (λ table. ⟦<BucketTable as EntropyModel<24>>⟧.table table

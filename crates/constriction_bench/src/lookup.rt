@@ -27,7 +27,9 @@ pub struct LookupTable {
 }
 
 impl LookupTable {
-    /// Makes the table of `weights`. Returns `None` if the weights make no such table, or if there is no memory.
+    /// Makes the table of `weights`.
+    ///
+    /// Returns `None` if the weights make no table of this type, or if there is no memory.
     pub fn new(alloc: Global, weights: &[u16]) -> Option<Self>
         ensures { IfSome result
             (λ table. ⟦<LookupTable as EntropyModel<12>>⟧.table table

@@ -62,7 +62,9 @@ where
     true
 }
 
-/// Imports `words` into a coder, and exports them again. Returns `None` if the last word is 0, or after a failure.
+/// Imports `words` into a coder, and exports them again.
+///
+/// Returns `None` if the last word is 0, or if there is no memory.
 #[inline(never)]
 pub fn reload_all<Word: WordOf<State>, State: BitArray>(words: Vec<Word>) -> Option<Vec<Word>>
     requires { IsSizes Word.BITS State.BITS }

@@ -1,4 +1,4 @@
--- The calls with 32-bit words, 64-bit states and a precision of 24 bits.
+-- Contracts of the calls with 32-bit words, 64-bit states and a precision of 24 bits.
 use Rattle.std.specs.Prelude.{ℕ, ◌%◌, ◌^◌, List, Result, map}
 use Rattle.constriction_calls.specs.AnsCalls.{AnsKept, AnsPuts, AnsTakes}
 use Rattle.constriction_calls.specs.ChainCalls.{ChainKept, ChainPuts, ChainTakes, keeps}
@@ -27,14 +27,15 @@ abbrev pub LargeAnsTakes : (List ℕ → Coded) → AnsKept ℕ ℕ → AnsKept 
 LargeAnsTakes coded old new old_symbols new_symbols answer = AnsTakes large_word large_state 32 64 24 coded old new old_symbols new_symbols answer
 
 -- ---- the range coder
--- The encoder and the decoder of a C caller's structs.
+-- The encoder that a C caller's struct holds.
 abbrev pub large_encoder : RangeEncoderU32 → EncoderParts ℕ ℕ
 large_encoder e = record { lower = e.lower; range = e.range; held = e.held; first = e.first }
 
+-- The decoder that a C caller's struct holds.
 abbrev pub large_decoder : RangeDecoderU32 → DecoderParts ℕ
 large_decoder d = record { lower = d.lower; range = d.range; point = d.point; pos = d.pos }
 
--- An encoder, and a buffer with its number of words in use.
+-- A C caller's encoder, its buffer, and the number of words in use.
 abbrev pub large_kept : RangeEncoderU32 → List ℕ → ℕ → RangeKept ℕ ℕ
 large_kept encoder words len = kept_in (large_encoder encoder) words len
 
@@ -45,11 +46,11 @@ abbrev pub LargeRangeTakes : (List ℕ → Coded) → List ℕ → DecoderParts 
 LargeRangeTakes coded words old new old_symbols new_symbols answer = RangeTakes large_state 32 64 24 coded (map large_word words) old new old_symbols new_symbols answer
 
 -- ---- the chain coder
--- The heads of a C caller's struct.
+-- The heads that a C caller's struct holds.
 abbrev pub large_heads : ChainHeadsU32 → ChainHeads ℕ ℕ
 large_heads heads = record { remainders = heads.remainders; compressed = heads.compressed }
 
--- The heads, and two buffers with their numbers of words in use.
+-- A C caller's chain coder: the heads, and two buffers with their numbers of words in use.
 abbrev pub large_chain : ChainHeadsU32 → List ℕ → ℕ → List ℕ → ℕ → ChainKept ℕ ℕ
 large_chain heads compressed count remainders rest = keeps (large_heads heads) compressed count remainders rest
 

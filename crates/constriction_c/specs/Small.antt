@@ -1,5 +1,5 @@
 -- Written by tools/sizes from Large.antt.
--- The calls with 16-bit words, 32-bit states and a precision of 12 bits.
+-- Contracts of the calls with 16-bit words, 32-bit states and a precision of 12 bits.
 use Rattle.std.specs.Prelude.{ℕ, ◌%◌, ◌^◌, List, Result, map}
 use Rattle.constriction_calls.specs.AnsCalls.{AnsKept, AnsPuts, AnsTakes}
 use Rattle.constriction_calls.specs.ChainCalls.{ChainKept, ChainPuts, ChainTakes, keeps}
@@ -28,14 +28,15 @@ abbrev pub SmallAnsTakes : (List ℕ → Coded) → AnsKept ℕ ℕ → AnsKept 
 SmallAnsTakes coded old new old_symbols new_symbols answer = AnsTakes small_word small_state 16 32 12 coded old new old_symbols new_symbols answer
 
 -- ---- the range coder
--- The encoder and the decoder of a C caller's structs.
+-- The encoder that a C caller's struct holds.
 abbrev pub small_encoder : RangeEncoderU16 → EncoderParts ℕ ℕ
 small_encoder e = record { lower = e.lower; range = e.range; held = e.held; first = e.first }
 
+-- The decoder that a C caller's struct holds.
 abbrev pub small_decoder : RangeDecoderU16 → DecoderParts ℕ
 small_decoder d = record { lower = d.lower; range = d.range; point = d.point; pos = d.pos }
 
--- An encoder, and a buffer with its number of words in use.
+-- A C caller's encoder, its buffer, and the number of words in use.
 abbrev pub small_kept : RangeEncoderU16 → List ℕ → ℕ → RangeKept ℕ ℕ
 small_kept encoder words len = kept_in (small_encoder encoder) words len
 
@@ -46,11 +47,11 @@ abbrev pub SmallRangeTakes : (List ℕ → Coded) → List ℕ → DecoderParts 
 SmallRangeTakes coded words old new old_symbols new_symbols answer = RangeTakes small_state 16 32 12 coded (map small_word words) old new old_symbols new_symbols answer
 
 -- ---- the chain coder
--- The heads of a C caller's struct.
+-- The heads that a C caller's struct holds.
 abbrev pub small_heads : ChainHeadsU16 → ChainHeads ℕ ℕ
 small_heads heads = record { remainders = heads.remainders; compressed = heads.compressed }
 
--- The heads, and two buffers with their numbers of words in use.
+-- A C caller's chain coder: the heads, and two buffers with their numbers of words in use.
 abbrev pub small_chain : ChainHeadsU16 → List ℕ → ℕ → List ℕ → ℕ → ChainKept ℕ ℕ
 small_chain heads compressed count remainders rest = keeps (small_heads heads) compressed count remainders rest
 

@@ -1,4 +1,4 @@
--- The calls of the stack coder: what each does with a coder that a caller keeps, and which error comes when.
+-- Contracts of the stack coder's calls: what each call does with the caller's coder, and when each error comes.
 use Rattle.std.specs.Prelude.{◌≡◌, ℕ, ◌+◌, ◌<◌, ◌≤◌, List, [], Result, length, map, reverse, OnErr, OnOk}
 use Rattle.constriction_base.specs.Models.{AreKnown, Item}
 use Rattle.constriction_stack.specs.Ans.{AnsState, IsValid, exported}
@@ -11,7 +11,7 @@ use Rattle.constriction_inputs.specs.Refusals.{Asks, Else, Memory, Never, Room}
 use Rattle.constriction_inputs.specs.declared.refusal.Refusal.{Refusal}
 use Rattle.constriction_inputs.specs.declared.refusal.Refusal.TheVariants.{ImpossibleSymbol, InvalidData, WrongLength}
 
--- A coder that a caller keeps: a head, and a buffer with `len` words in use, last word on top.
+-- A coder that a caller keeps: a head, and a buffer whose first `len` words are in use. The last of these is on top.
 pub record AnsKept (Word State : Type 0) : Type 0 where
   pub head : State
   pub words : List Word
@@ -20,7 +20,7 @@ pub record AnsKept (Word State : Type 0) : Type 0 where
 abbrev pub coder_of : {Word State : Type 0} → State → List Word → ℕ → AnsKept Word State
 coder_of head words len = record { head = head; words = words; len = len }
 
--- The state that the caller keeps.
+-- The state of a kept coder: its head, and its words in use as a list, top word first.
 abbrev pub state_kept : {Word State : Type 0} → (Word → ℕ) → (State → ℕ) → AnsKept Word State → AnsState
 state_kept number state kept = record { head = state kept.head; words = stack_in number kept.words kept.len }
 
@@ -28,50 +28,53 @@ state_kept number state kept = record { head = state kept.head; words = stack_in
 abbrev pub IsWithin : {Word State : Type 0} → AnsKept Word State → Type 0
 IsWithin kept = kept.len ≤ length kept.words
 
--- Words were appended to those in use, and nothing else of the buffer changed.
+-- A call appends words to the words in use, and changes nothing else in the buffer.
 abbrev pub PutsBehind : {Word State : Type 0} → AnsKept Word State → AnsKept Word State → Type 0
 PutsBehind {Word} old new = (added : List Word) × Appended old.words old.len added new.words new.len
 
 -- ---- symbols
--- The state after encoding the items has `needed` words, and the buffer has room for fewer. These are the words that
--- the encodes write from the head alone, behind those below it.
+-- The state after encoding the items has `needed` words, but the buffer holds only `room` words, which is fewer.
+-- `needed` is the number of old words, plus the number of words that encoding from the head alone writes.
 pub record NeedsRoom (w s : ℕ) (items : List (Item ℕ)) (room : ℕ) (old : AnsState) (needed : ℕ) : Type 0 where
   pub short : room < needed
   pub encoded : IsValid w s old → (new : AnsState) × EncodesAll w s items old new × (length new.words ≡ needed)
   pub alone : (new : AnsState) × EncodesAll w s items (record { head = old.head; words = [] }) new × (needed ≡ length old.words + length new.words)
 
--- Encodes of the items lead from the head alone to the new head, and the words that they write were appended.
+-- Encoding the items from the old head alone leads to the new head. The call appends the words that this writes.
 abbrev pub PutsItems : {Word State : Type 0} → (Word → ℕ) → (State → ℕ) → ℕ → ℕ → List (Item ℕ) → AnsKept Word State → AnsKept Word State → Type 0
 PutsItems {Word} number state w s items old new = (added : List Word) × Appended old.words old.len added new.words new.len
     × EncodesAll w s items (record { head = state old.head; words = [] }) (record { head = state new.head; words = map number (reverse added) })
 
--- The errors of encoding items under given models: a symbol is unknown, or there is no room.
+-- The errors of encoding items: `ImpossibleSymbol` if a model has no entry for its symbol. After this check, `NoSpace`
+-- or `NoMemory` can come.
 abbrev pub AsksItems : ℕ → ℕ → List (Item ℕ) → ℕ → AnsState → Result (Unit {0}) Refusal → Type 0
 AsksItems w s items room old = Asks ImpossibleSymbol (AreKnown items) (Else (Room (NeedsRoom w s (reverse items) room old)))
 
--- An encode call.
+-- The contract of an encode call. `old` and `new` are the coder before and after the call, and `answer` is its result.
 pub record AnsPuts {Word State : Type 0} (number : Word → ℕ) (state : State → ℕ) (w s precision : ℕ) (coded : Coded)
     (old new : AnsKept Word State) (answer : Result (Unit {0}) Refusal) : Type 0 where
-  -- From a valid state, encodes of the items from the last to the first lead to the new one. From any other state, the
-  -- words are those written from the head alone.
+  -- From a valid state, encoding the items from the last to the first leads to the new state.
   pub put : OnOk answer (IsValid w s (state_kept number state old)
       → EncodesAll w s (reverse (items precision coded)) (state_kept number state old) (state_kept number state new))
+  -- From every state, the call appends the words that encoding from the head alone writes.
   pub behind : OnOk answer (PutsItems number state w s (reverse (items precision coded)) old new)
   pub asked : Asks WrongLength (IsWithin old)
       (AsksFit precision coded (AsksItems w s (items precision coded) (length old.words) (state_kept number state old))) answer
   pub kept : OnErr answer (new ≡ old)
 
--- A decode call for as many symbols as there are places.
+-- The contract of a decode call, which fills a list with decoded symbols. `old` and `new` are the coder before and
+-- after the call.
 pub record AnsTakes {Word State : Type 0} (number : Word → ℕ) (state : State → ℕ) (w s precision : ℕ) (coded : List ℕ → Coded)
     (old new : AnsKept Word State) (old_symbols new_symbols : List ℕ) (answer : Result (Unit {0}) Refusal) : Type 0 where
-  -- Decodes of the items, one after the other, lead to the new state.
+  -- Decoding the items in order leads from the old state to the new state.
   pub taken : OnOk answer (DecodesAll w s (items precision (coded new_symbols)) (state_kept number state old) (state_kept number state new))
   pub within : OnOk answer ((new.words ≡ old.words) × (new.len ≤ old.len) × (length new_symbols ≡ length old_symbols))
   pub asked : Asks WrongLength (IsWithin old) (AsksFit precision (coded old_symbols) (Else Memory)) answer
   pub kept : OnErr answer ((new ≡ old) × (new_symbols ≡ old_symbols))
 
 -- ---- words
--- An import call: it makes a state of words that have the property, last word on top.
+-- The contract of an import call. It makes the state `makes` of the caller's words, of which the last is on top.
+-- `InvalidData` comes exactly if the words don't have the property `holds`.
 pub record AnsImports {Word State : Type 0} (number : Word → ℕ) (state : State → ℕ) (makes : List ℕ → AnsState) (holds : List ℕ → Type 0)
     (old new : AnsKept Word State) (answer : Result (Unit {0}) Refusal) : Type 0 where
   pub made : OnOk answer (state_kept number state new ≡ makes (map number (reverse old.words)))
@@ -79,14 +82,16 @@ pub record AnsImports {Word State : Type 0} (number : Word → ℕ) (state : Sta
   pub asked : Asks InvalidData (holds (map number (reverse old.words))) (Else Never) answer
   pub kept : OnErr answer (new ≡ old)
 
--- All words of a state are `needed` in number, and the buffer is shorter.
+-- A state has `needed` words in the form `are`, but the buffer holds only `room` words, which is fewer.
 pub record ExportLacksRoom (are : AnsState → List ℕ → Type 0) (room : ℕ) (old : AnsState) (needed : ℕ) : Type 0 where
   pub short : room < needed
   pub all : List ℕ
   pub is_all : are old all
   pub count : length all ≡ needed
 
--- An export call for a state that has the property: the words appended complete the words of the state.
+-- The contract of an export call. It appends words, so that all words in use are the state's words in the form `are`.
+-- `WrongLength` comes if the words in use aren't within the buffer. `InvalidData` comes next, if the state doesn't have
+-- the property `holds`.
 pub record AnsExports {Word State : Type 0} (number : Word → ℕ) (state : State → ℕ) (are : AnsState → List ℕ → Type 0) (holds : AnsState → Type 0)
     (old new : AnsKept Word State) (answer : Result (Unit {0}) Refusal) : Type 0 where
   pub all : OnOk answer (are (state_kept number state old) (stack_in number new.words new.len))
@@ -95,14 +100,14 @@ pub record AnsExports {Word State : Type 0} (number : Word → ℕ) (state : Sta
       (Else (Room (ExportLacksRoom are (length old.words) (state_kept number state old))))) answer
   pub kept : OnErr answer (new ≡ old)
 
--- The words are those of the state without leading zero words.
+-- The words are the words below the state's head, and the head's words without leading zero words.
 abbrev pub AreCompressed : ℕ → AnsState → List ℕ → Type 0
 AreCompressed w state all = all ≡ exported w state
 
--- The words are those of the state below its leading 1.
+-- The words are the words below the state's head, and the head's bits below its leading 1, as `m` words.
 abbrev pub AreBinary : ℕ → AnsState → List ℕ → Type 0
 AreBinary w state all = (m : ℕ) × IsOneAbove w m state.head × (all ≡ binary_words w m state)
 
--- The head is a 1 above whole words.
+-- The state has a binary form: the head's bits below its leading 1 make whole words.
 abbrev pub HasBinary : ℕ → AnsState → Type 0
 HasBinary w state = (m : ℕ) × IsOneAbove w m state.head

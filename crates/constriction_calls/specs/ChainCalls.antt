@@ -1,4 +1,4 @@
--- The calls of the chain coder: what each does with a coder that a caller keeps, and which error comes when.
+-- Contracts of the chain coder's calls: what each call does with the caller's coder, and when each error comes.
 use Rattle.std.specs.Prelude.{◌≡◌, ℕ, ◌*◌, ◌<◌, ◌≤◌, List, ◌∷◌, ◌++◌, [], length, reverse, take, Result, OnErr, OnOk}
 use Rattle.constriction_base.specs.Models.{AreKnown, Item}
 use Rattle.constriction_base.specs.Tables.{AtEntry}
@@ -14,7 +14,7 @@ use Rattle.constriction_inputs.specs.declared.refusal.Refusal.{Refusal}
 use Rattle.constriction_inputs.specs.declared.refusal.Refusal.TheVariants.{ImpossibleSymbol, InvalidData, WrongLength}
 
 -- ---- states
--- The state of two heads and the words in use of two buffers.
+-- The chain coder's state with the compressed head `h`, the remainders head `r`, and the words in use of two buffers.
 abbrev pub chain_in : {W : Type 0} → (W → ℕ) → ℕ → ℕ → List W → ℕ → List W → ℕ → ChainState
 chain_in number h r compressed len remainders len' = record {
   h = h;
@@ -23,7 +23,7 @@ chain_in number h r compressed len remainders len' = record {
   remainders = stack_in number remainders len';
 }
 
--- What a caller keeps: the heads, and two buffers with their numbers of words in use.
+-- A chain coder that a caller keeps: the heads, and two buffers with their numbers of words in use.
 pub record ChainKept (Word State : Type 0) : Type 0 where
   pub heads : ChainHeads Word State
   pub compressed : List Word
@@ -42,7 +42,7 @@ chain_kept number state kept =
 abbrev pub AreInUse : {Word State : Type 0} → ChainKept Word State → Type 0
 AreInUse kept = (kept.compressed_len ≤ length kept.compressed) × (kept.remainders_len ≤ length kept.remainders)
 
--- The numbers are the heads of a coder.
+-- A chain coder can have the heads `h` and `r`: `h` isn't 0, and `r` is within its normalization interval.
 pub record AreHeads (w s P h r : ℕ) : Type 0 where
   pub some : 0 < h
   pub window : IsInWindow w (least w s P) r
@@ -51,7 +51,7 @@ abbrev pub HeadsKept : {Word State : Type 0} → (Word → ℕ) → (State → �
 HeadsKept number state w s P heads = AreHeads w s P (number heads.compressed) (state heads.remainders)
 
 -- ---- ends
--- The compressed words end before `count` symbols: after fewer of them a word is needed, and none is left.
+-- The compressed words end too early: after `done` of `count` symbols, a decode needs a word, and no word is left.
 pub record LacksCompressed (w s P : ℕ) (items : List ℕ → List (Item ℕ)) (count : ℕ) (old : ChainState) : Type 0 where
   pub symbols : List ℕ
   pub done : ℕ
@@ -62,7 +62,7 @@ pub record LacksCompressed (w s P : ℕ) (items : List ℕ → List (Item ℕ)) 
   pub needs : NeedsWord w P last.h
   pub ended : last.compressed ≡ []
 
--- The remainders end before all items are encoded: after the first of them a word is needed, and none is left.
+-- The remainders end too early: after the items `first`, encoding `item` needs a word, and no word is left.
 pub record LacksRemainders (w s : ℕ) (items : List (Item ℕ)) (old : ChainState) : Type 0 where
   pub first : List (Item ℕ)
   pub item : Item ℕ
@@ -73,7 +73,7 @@ pub record LacksRemainders (w s : ℕ) (items : List (Item ℕ)) (old : ChainSta
   pub needs : AtEntry item.model.precision item.model.table item.symbol (λ e. last.r < e.p * least w s e.precision)
   pub ended : last.remainders ≡ []
 
--- The remainders after decoding `count` symbols need n words, and the buffer is shorter.
+-- After decoding `count` symbols there are `n` words of remainders, but their buffer holds only `size` words.
 pub record RemaindersNeedRoom (w s : ℕ) (items : List ℕ → List (Item ℕ)) (count : ℕ) (old : ChainState) (size n : ℕ) : Type 0 where
   pub symbols : List ℕ
   pub new : ChainState
@@ -82,7 +82,7 @@ pub record RemaindersNeedRoom (w s : ℕ) (items : List ℕ → List (Item ℕ))
   pub is : n ≡ length new.remainders
   pub past : size < n
 
--- The compressed words after encoding the items need n words, and the buffer is shorter.
+-- After encoding the items there are `n` compressed words, but their buffer holds only `size` words.
 pub record CompressedNeedRoom (w s : ℕ) (items : List (Item ℕ)) (old : ChainState) (size n : ℕ) : Type 0 where
   pub new : ChainState
   pub put : PutsBackAll w s items old new
@@ -90,30 +90,33 @@ pub record CompressedNeedRoom (w s : ℕ) (items : List (Item ℕ)) (old : Chain
   pub past : size < n
 
 -- ---- calls
--- The errors of an encode under given models, in this order.
+-- The errors of an encode call whose lengths and models fit: `InvalidData` if no coder has these heads, then
+-- `ImpossibleSymbol` if a model has no entry for its symbol, and then `OutOfData`, `NoSpace` or `NoMemory`.
 abbrev pub AsksToPut : {Word State : Type 0} → (Word → ℕ) → (State → ℕ) → ℕ → ℕ → ℕ → List (Item ℕ) → ChainKept Word State → Result (Unit {0}) Refusal → Type 0
 AsksToPut number state w s P items old = Asks InvalidData (HeadsKept number state w s P old.heads) (Asks ImpossibleSymbol (AreKnown items)
     (Else (DataOrRoom (LacksRemainders w s (reverse items) (chain_kept number state old)) (CompressedNeedRoom w s (reverse items) (chain_kept number state old) (length old.compressed)))))
 
--- An encode call.
+-- The contract of an encode call. `old` and `new` are the coder before and after the call, and `answer` is its result.
 pub record ChainPuts {Word State : Type 0} (number : Word → ℕ) (state : State → ℕ) (w s P : ℕ) (coded : Coded) (old new : ChainKept Word State)
     (answer : Result (Unit {0}) Refusal) : Type 0 where
-  -- The items are encoded from the last to the first.
+  -- The call encodes the items from the last to the first.
   pub put : OnOk answer (PutsBackAll w s (reverse (items P coded)) (chain_kept number state old) (chain_kept number state new))
   pub taken : OnOk answer ((new.remainders ≡ old.remainders) × (new.remainders_len ≤ old.remainders_len))
   pub appended : OnOk answer ((added : List Word) × Appended old.compressed old.compressed_len added new.compressed new.compressed_len)
   pub asked : Asks WrongLength (AreInUse old) (AsksFit P coded (AsksToPut number state w s P (items P coded) old)) answer
   pub kept : OnErr answer (new ≡ old)
 
--- The errors of a decode under given models, in this order.
+-- The errors of a decode call whose lengths and models fit: `InvalidData` if no coder has these heads, and then
+-- `OutOfData`, `NoSpace` or `NoMemory`.
 abbrev pub AsksToTake : {Word State : Type 0} → (Word → ℕ) → (State → ℕ) → ℕ → ℕ → ℕ → (List ℕ → List (Item ℕ)) → ℕ → ChainKept Word State → Result (Unit {0}) Refusal → Type 0
 AsksToTake number state w s P items count old = Asks InvalidData (HeadsKept number state w s P old.heads)
     (Else (DataOrRoom (LacksCompressed w s P items count (chain_kept number state old)) (RemaindersNeedRoom w s items count (chain_kept number state old) (length old.remainders))))
 
--- A decode call for as many symbols as there are places.
+-- The contract of a decode call, which fills a list with decoded symbols. `old` and `new` are the coder before and
+-- after the call.
 pub record ChainTakes {Word State : Type 0} (number : Word → ℕ) (state : State → ℕ) (w s P : ℕ) (coded : List ℕ → Coded) (old new : ChainKept Word State)
     (old_symbols new_symbols : List ℕ) (answer : Result (Unit {0}) Refusal) : Type 0 where
-  -- The items are decoded, one after the other.
+  -- The call decodes the items in order.
   pub taken : OnOk answer (TakesOffAll w s (items P (coded new_symbols)) (chain_kept number state old) (chain_kept number state new))
   pub count : OnOk answer (length new_symbols ≡ length old_symbols)
   pub fewer : OnOk answer ((new.compressed ≡ old.compressed) × (new.compressed_len ≤ old.compressed_len))

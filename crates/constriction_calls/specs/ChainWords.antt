@@ -1,4 +1,4 @@
--- Imports and exports of a chain coder that a caller keeps, in three forms.
+-- Contracts of the calls that import a chain coder from words, or export its words, in three forms.
 use Rattle.std.specs.Prelude.{◌≡◌, ℕ, ◌<◌, ◌≤◌, List, [], length, map, reverse, Result, OnErr, OnOk}
 use Rattle.constriction_chain.specs.Chain.{ChainState}
 use Rattle.constriction_chain.specs.Imports.{AreBinaryWords, FromBinary, FromCompressed, FromRemainders, compressed_words}
@@ -11,14 +11,16 @@ use Rattle.constriction_calls.specs.declared.chain.ChainHeads.{ChainHeads}
 use Rattle.constriction_inputs.specs.declared.refusal.Refusal.{Refusal}
 use Rattle.constriction_inputs.specs.declared.refusal.Refusal.TheVariants.{InvalidData, WrongLength}
 
--- The form of words: compressed words with the remainders' head above them, as its words or in binary form; or
--- remainders with both heads above them.
+-- The form of the words that a chain coder is imported from, or exported as.
+-- `InCompressed`: compressed words, and above them the words of the remainders head. `InBinary`: the same, with the
+-- bits of that head below its leading 1. `InRemainders`: words of remainders, and above them the words of both heads.
 pub data Form : Type 0 where
   InCompressed : Form
   InBinary : Form
   InRemainders : Form
 
--- The state of the heads over the words in use, with no other words.
+-- The state with these heads and the words in use below them. The words are remainders in the form `InRemainders`, and
+-- compressed words in the other forms.
 abbrev pub heads_over : {Word State : Type 0} → (Word → ℕ) → (State → ℕ) → Form → ChainHeads Word State → List Word → ℕ → ChainState
 heads_over number state InRemainders heads words len =
     record { h = number heads.compressed; r = state heads.remainders; compressed = []; remainders = stack_in number words len }
@@ -26,7 +28,7 @@ heads_over number state form heads words len =
     record { h = number heads.compressed; r = state heads.remainders; compressed = stack_in number words len; remainders = [] }
 
 -- ---- coders from words
--- The words stand for this coder in this form.
+-- Importing the words in this form gives the state `x`.
 abbrev pub Begins : Form → ℕ → ℕ → ℕ → List ℕ → ChainState → Type 0
 Begins InCompressed w s P words x = FromCompressed w s P words x
 Begins InBinary w s P words x = FromBinary w s P words x
@@ -37,7 +39,7 @@ pub record HeadsOver (Word State : Type 0) : Type 0 where
   pub heads : ChainHeads Word State
   pub len : ℕ
 
--- An import call.
+-- The contract of an import call. `InvalidData` comes exactly if the words are those of no coder in this form.
 pub record ChainBegins {Word State : Type 0} (number : Word → ℕ) (state : State → ℕ) (w s P : ℕ) (form : Form) (words : List Word)
     (old new : HeadsOver Word State) (answer : Result (Unit {0}) Refusal) : Type 0 where
   pub begun : OnOk answer (Begins form w s P (map number (reverse words)) (heads_over number state form new.heads words new.len))
@@ -51,32 +53,32 @@ pub record AreWholeHeads (w s P h r : ℕ) : Type 0 where
   pub heads : AreHeads w s P h r
   pub whole : h ≡ 1
 
--- The heads belong to a coder without bits left over, and the remainders' head is a 1 above whole words.
+-- The heads belong to a coder without bits left over, and the remainders head is a leading 1 above `m` whole words.
 pub record AreBinaryHeads (w s P h r : ℕ) : Type 0 where
   pub heads : AreHeads w s P h r
   pub whole : h ≡ 1
   pub above : (m : ℕ) × IsOneAbove w m r
 
--- The heads have words in this form.
+-- A coder with these heads can be exported in this form.
 abbrev pub HaveWords : {Word State : Type 0} → (Word → ℕ) → (State → ℕ) → ℕ → ℕ → ℕ → Form → ChainHeads Word State → Type 0
 HaveWords number state w s P InCompressed heads = AreWholeHeads w s P (number heads.compressed) (state heads.remainders)
 HaveWords number state w s P InBinary heads = AreBinaryHeads w s P (number heads.compressed) (state heads.remainders)
 HaveWords number state w s P InRemainders heads = AreHeads w s P (number heads.compressed) (state heads.remainders)
 
--- The words are those of the coder in this form.
+-- The words are the export of the state `x` in this form.
 abbrev pub AreWordsInForm : Form → ℕ → List ℕ → ChainState → Type 0
 AreWordsInForm InCompressed w words x = words ≡ compressed_words w x
 AreWordsInForm InBinary w words x = AreBinaryWords w words x
 AreWordsInForm InRemainders w words x = words ≡ remainder_words w x
 
--- The words with the property are n in number, and the buffer is shorter.
+-- A list of `n` words has the property `holds`, but the buffer holds only `size` words, which is fewer.
 pub record NoRoomFor (size : ℕ) (holds : List ℕ → Type 0) (n : ℕ) : Type 0 where
   pub past : size < n
   pub words : List ℕ
   pub are : holds words
   pub count : length words ≡ n
 
--- An export call: the words of the heads are appended to the caller's.
+-- The contract of an export call, which appends the words of the heads to the words in use.
 pub record ChainEnds {Word State : Type 0} (number : Word → ℕ) (state : State → ℕ) (w s P : ℕ) (form : Form) (heads : ChainHeads Word State)
     (old new : WordsKept Word) (answer : Result (Unit {0}) Refusal) : Type 0 where
   pub ended : OnOk answer (AreWordsInForm form w (stack_in number new.words new.len) (heads_over number state form heads old.words old.len))

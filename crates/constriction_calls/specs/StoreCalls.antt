@@ -1,4 +1,4 @@
--- The calls of stores: what each does with the words and the index that a caller keeps, and which error comes when.
+-- Contracts of the calls of stores: what each call does with the caller's words and index, and when each error comes.
 use Rattle.std.specs.Prelude.{◌≡◌, ℕ, ◌-◌, ◌<◌, ◌≤◌, ◌^◌, List, [], ◌∷◌, Result, OnErr, OnOk, drop, length, map, sum, take}
 use Rattle.constriction_base.specs.Models.{AreKnown, items_of}
 use Rattle.constriction_store.specs.Stores.{Entry, HoldsChunk, HoldsChunks, IsBuilt, entry_of}
@@ -8,12 +8,13 @@ use Rattle.constriction_inputs.specs.declared.refusal.Refusal.{Refusal}
 use Rattle.constriction_inputs.specs.declared.refusal.Refusal.TheVariants.{ImpossibleSymbol, InvalidData, WrongLength, WrongWeights}
 
 -- ---- chunks, and where they begin
--- The symbols, which stand one chunk behind another, as chunks of these lengths.
+-- Cuts the symbols into chunks of the given lengths, in order.
 abbrev pub chunks_by : List ℕ → List ℕ → List (List ℕ)
 chunks_by symbols [] = []
 chunks_by symbols (len ∷ lengths) = take len symbols ∷ chunks_by (drop len symbols) lengths
 
--- The entries with these positions, intervals and lengths.
+-- Makes an index from lists: each entry has a position, the lower end and length of an interval, and a chunk length.
+-- The index is as long as the shortest list.
 abbrev pub entries_by : List ℕ → List ℕ → List ℕ → List ℕ → List Entry
 entries_by (place ∷ places) (lower ∷ lowers) (range ∷ ranges) (len ∷ lengths) =
     entry_of place lower range len ∷ entries_by places lowers ranges lengths
@@ -27,16 +28,17 @@ pub record StoreKept (Word State : Type 0) : Type 0 where
   pub words : List Word
   pub len : ℕ
 
--- The index in the buffers.
+-- The index that the buffers hold, for chunks of the given lengths.
 abbrev pub index_kept : {Word State : Type 0} → (State → ℕ) → List ℕ → StoreKept Word State → List Entry
 index_kept state lengths kept = entries_by kept.positions (map state kept.lowers) (map state kept.ranges) lengths
 
--- The words in the buffers.
+-- The words of the store: the first `len` words of the buffer.
 abbrev pub words_kept : {Word State : Type 0} → (Word → ℕ) → StoreKept Word State → List ℕ
 words_kept number kept = map number (take kept.len kept.words)
 
 -- ---- builds
--- The lengths add up to the number of symbols, a store holds these, and each list of the index has as many items.
+-- The chunk lengths add up to the number of symbols, which is at most 1048576. Each list of the index has one item for
+-- each chunk.
 pub record FitStore (symbols : ℕ) (lengths : List ℕ) (positions lowers ranges : ℕ) : Type 0 where
   pub positions_are : positions ≡ length lengths
   pub lowers_are : lowers ≡ length lengths
@@ -44,11 +46,11 @@ pub record FitStore (symbols : ℕ) (lengths : List ℕ) (positions lowers range
   pub all : sum lengths ≡ symbols
   pub few : symbols ≤ 1048576
 
--- The lengths and lists of these buffers fit a store.
+-- The chunk lengths, the number of symbols and the caller's index lists make a store.
 abbrev pub FitKept : {Word State : Type 0} → List ℕ → List ℕ → StoreKept Word State → Type 0
 FitKept symbols lengths kept = FitStore (length symbols) lengths (length kept.positions) (length kept.lowers) (length kept.ranges)
 
--- The store has `needed` words, and there is room for fewer.
+-- The store of the chunks has `needed` words, but the buffer holds only `size` words, which is fewer.
 pub record LacksStore (w s precision : ℕ) (weights : List ℕ) (chunks : List (List ℕ)) (size needed : ℕ) : Type 0 where
   pub less : size < needed
   pub index : List Entry
@@ -56,14 +58,14 @@ pub record LacksStore (w s precision : ℕ) (weights : List ℕ) (chunks : List 
   pub built : IsBuilt w s (weights_model precision weights) chunks index words
   pub count : needed ≡ length words
 
--- A build call.
+-- The contract of a build call. `old` and `new` are the buffers before and after the call, and `answer` is its result.
 pub record StoreBuilds {Word State : Type 0} (number : Word → ℕ) (state : State → ℕ) (w s precision : ℕ) (weights symbols lengths : List ℕ)
     (old new : StoreKept Word State) (answer : Result (Unit {0}) Refusal) : Type 0 where
   -- The buffers hold the store of the chunks.
   pub built : OnOk answer (IsBuilt w s (weights_model precision weights) (chunks_by symbols lengths) (index_kept state lengths new) (words_kept number new))
-  -- Each chunk is decoded at its entry.
+  -- Decoding at the entry of each chunk gives the chunk's symbols.
   pub chunks : OnOk answer (HoldsChunks w s (weights_model precision weights) (words_kept number new) (index_kept state lengths new) (chunks_by symbols lengths))
-  -- The words are within the buffer, and its items behind them are unchanged.
+  -- The store's words are within the buffer, and the buffer's words after them are unchanged.
   pub within : OnOk answer (new.len ≤ length new.words)
   pub behind : OnOk answer (drop new.len new.words ≡ drop new.len old.words)
   pub asked : Asks WrongLength (FitKept symbols lengths old) (Asks WrongWeights (IsTotal precision weights)
@@ -72,12 +74,14 @@ pub record StoreBuilds {Word State : Type 0} (number : Word → ℕ) (state : St
   pub kept : OnErr answer (new ≡ old)
 
 -- ---- look-ups
--- A look-up call at an entry, for as many symbols as there are places.
+-- The contract of a look-up call, which fills a list with the symbols of the chunk at one entry.
 pub record StoreGives {State : Type 0} (state : State → ℕ) (w s precision : ℕ) (weights words : List ℕ) (place : ℕ) (lower range : State)
     (old new : List ℕ) (answer : Result (Unit {0}) Refusal) : Type 0 where
-  -- The symbols are the chunk at the entry.
+  -- The new symbols are those of the chunk at the entry.
   pub ok : OnOk answer (HoldsChunk w s (weights_model precision weights) words (entry_of place (state lower) (state range) (length old)) new)
-  -- The interval is long enough, and the words hold a chunk there.
+  -- The call checks in this order: the position is within the words, the weights add up to 2^precision, and the
+  -- interval is at least 2^(s - w) long. After these checks, `InvalidData` comes only if the words encode no chunk of
+  -- this length at the entry.
   pub asked : Asks WrongLength (place ≤ length words) (Asks WrongWeights (IsTotal precision weights) (Asks InvalidData (2 ^ (s - w) ≤ state range)
       (Else (Words ((symbols : List ℕ) → HoldsChunk w s (weights_model precision weights) words (entry_of place (state lower) (state range) (length old)) symbols → ⊥))))) answer
   pub kept : OnErr answer (new ≡ old)

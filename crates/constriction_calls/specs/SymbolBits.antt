@@ -1,5 +1,6 @@
--- The calls of symbol codes that begin at a bit of a queue, and return the bit after the last codeword. Bit i of the
--- words is bit i % w of word i / w, counted from 0 and from the lowest bit of each word.
+-- Contracts of the calls that encode and decode symbols with codewords, from a given bit of the words on.
+-- Each call returns the bit after the last codeword. Bit i of the words is bit i % w of word i / w. Bits and words
+-- count from 0, and bit 0 of a word is its lowest bit.
 use Rattle.std.specs.Prelude.{◌≡◌, ℕ, ◌+◌, ◌-◌, ◌*◌, ◌/◌, ◌^◌, ◌<◌, ◌≤◌, Bool, List, ◌++◌, length, map, take, drop, Option, OnErr, OnOk, Result}
 use Rattle.constriction_symbol.specs.Bits.{IsQueueWords, bits_of_words}
 use Rattle.constriction_symbol.specs.Lists.{AreCodewords}
@@ -9,34 +10,34 @@ use Rattle.constriction_inputs.specs.declared.refusal.Refusal.{Refusal}
 use Rattle.constriction_inputs.specs.declared.refusal.Refusal.TheVariants.{ImpossibleSymbol, WrongLength, WrongWeights}
 use Rattle.constriction_calls.specs.SymbolCalls.{AllHaveCodewords, IsCutOff, IsWrong, MakesCode, ReadsNone, SymbolCode, codeword_in}
 
--- The bit is one of these words or the one after the last, and the number of their bits fits 64 bits.
+-- `count` words have at least `bit` bits, and fewer than 2^64 bits.
 abbrev pub IsBit : ℕ → ℕ → ℕ → Type 0
 IsBit w count bit = (bit ≤ count * w) × (count * w < 2 ^ 64)
 
 -- ---- symbols as words
--- A buffer, and a bit of its words.
+-- A caller's buffer of words, and the bit at which the next codeword begins.
 pub record BitKept (Word : Type 0) : Type 0 where
   pub words : List Word
   pub bit : ℕ
 
--- The words are those of a queue. Its bits are the first `bit` bits of other words, and then the code.
+-- The words hold a queue of bits: the first `bit` bits of the words `old`, and then the bits `code`.
 abbrev pub AreWordsFrom : ℕ → List ℕ → ℕ → List Bool → List ℕ → Type 0
 AreWordsFrom w old bit code words = IsQueueWords w (take bit (bits_of_words w old) ++ code) words
 
--- The code is written from the bit on. The bits below it stay, and the new bit is the one after the code.
+-- A call writes `code` from bit `old.bit` on, and leaves the bits below unchanged. `new.bit` is the bit after `code`.
 pub record PutsCode {Word : Type 0} (number : Word → ℕ) (w : ℕ) (code : List Bool) (old new : BitKept Word) : Type 0 where
-  -- The words from the one that has the bit on.
+  -- The new words, from the word that has bit `old.bit` on.
   pub added : List Word
   pub words : Appended old.words (old.bit / w) added new.words (old.bit / w + length added)
   pub bits : AreWordsFrom w (map number old.words) old.bit code (map number (take (old.bit / w) old.words ++ added))
   pub bit : new.bit ≡ old.bit + length code
 
--- Written from the bit on, the symbols need `needed` words, and there is room for fewer.
+-- Writing the symbols' codewords from bit `bit` on takes `needed` words in total, but the caller's buffer is shorter.
 abbrev pub LackRoomFrom : {S : Type 0} → ℕ → (S → Option (List Bool)) → List S → List ℕ → ℕ → ℕ → Type 0
 LackRoomFrom w codeword symbols old bit needed =
     (code : List Bool) × (words : List ℕ) × AreCodewords codeword symbols code × AreWordsFrom w old bit code words × (needed ≡ length words) × (length old < needed)
 
--- An encode call: it writes the codewords of symbols from a bit of a buffer on.
+-- The contract of an encode call, which writes the symbols' codewords from bit `old.bit` of a buffer on.
 pub record PutsAtBit {S Word : Type 0} (symbol : S → ℕ) (number : Word → ℕ) (w : ℕ) (book : SymbolCode) (symbols : List S) (old new : BitKept Word) (answer : Result (Unit {0}) Refusal) : Type 0 where
   pub put : OnOk answer ((code : List Bool) × AreCodewords (codeword_in symbol book) symbols code × PutsCode number w code old new)
   pub asked : Asks WrongLength (IsBit w (length old.words) old.bit) (Asks WrongWeights (MakesCode (2 ^ 62 - 1) book) (Asks ImpossibleSymbol (AllHaveCodewords (codeword_in symbol book) symbols)
@@ -44,7 +45,7 @@ pub record PutsAtBit {S Word : Type 0} (symbol : S → ℕ) (number : Word → �
   pub kept : OnErr answer (new ≡ old)
 
 -- ---- words as symbols
--- A list of symbols, and a bit.
+-- A caller's list of symbols, and the bit at which the next codeword begins.
 pub record SymbolsKept (S : Type 0) : Type 0 where
   pub symbols : List S
   pub bit : ℕ
@@ -54,7 +55,7 @@ abbrev pub TakesCode : {S : Type 0} → (S → Option (List Bool)) → List Bool
 TakesCode codeword bits symbols old new =
     (code : List Bool) × (rest : List Bool) × AreCodewords codeword symbols code × (drop old bits ≡ code ++ rest) × (new ≡ old + length code)
 
--- A decode call: it fills a buffer with symbols from a bit of words on.
+-- The contract of a decode call, which fills a list with the symbols decoded from bit `old.bit` of the words on.
 pub record TakesAtBit {S : Type 0} (symbol : S → ℕ) (w : ℕ) (book : SymbolCode) (words : List ℕ) (old new : SymbolsKept S) (answer : Result (Unit {0}) Refusal) : Type 0 where
   pub count : length new.symbols ≡ length old.symbols
   pub taken : OnOk answer (TakesCode (codeword_in symbol book) (bits_of_words w words) new.symbols old.bit new.bit)

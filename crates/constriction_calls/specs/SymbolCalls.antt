@@ -1,4 +1,4 @@
--- The calls of symbol codes: what each does with a caller's buffer, and which error comes when.
+-- Contracts of the calls that use codebooks: what each call does with the caller's buffer, and when each error comes.
 use Rattle.std.specs.Prelude.{◌≡◌, ℕ, ◌<◌, ◌⊎◌, ◌-◌, ◌^◌, Bool, List, [], ◌∷◌, ◌++◌, length, map, reverse, Option, Some, OnErr, OnOk, Result}
 use Rattle.constriction_base.specs.declared.errors.CoderError.{CoderError}
 use Rattle.constriction_base.specs.declared.errors.CoderError.TheVariants.{Frontend, Backend}
@@ -16,28 +16,28 @@ use Rattle.constriction_inputs.specs.declared.refusal.Refusal.{Refusal}
 use Rattle.constriction_inputs.specs.declared.refusal.Refusal.TheVariants.{ImpossibleSymbol, InvalidData, NoMemory, OutOfData, WrongWeights}
 
 -- ---- codewords
--- The caller's choice of codewords: Exp-Golomb for numbers of this many bits, or the Huffman tree of weights of this
--- many bits.
+-- The caller's choice of codewords: Exp-Golomb for numbers, or the Huffman tree of weights.
+-- The first argument of each choice is the width in bits of the numbers, or of the weights.
 pub data SymbolCode : Type 0 where
   OfNumbers : ℕ → SymbolCode
   OfWeights : ℕ → List ℕ → SymbolCode
 
--- The codeword of a symbol, by its number.
+-- The codeword of a symbol, or none if the symbol has no codeword. `number` gives the number that stands for a symbol.
 abbrev pub codeword_in : {S : Type 0} → (S → ℕ) → SymbolCode → S → Option (List Bool)
 codeword_in number (OfNumbers width) = λ symbol. Some (golomb (number symbol))
 codeword_in number (OfWeights width weights) = λ symbol. huffman weights (number symbol)
 
--- The weights make a tree: there are between 1 and `most`, and their sum fits the given number of bits.
+-- The weights make a Huffman tree: there are 1 to `most` weights, and their sum fits in `width` bits.
 abbrev pub MakesCode : ℕ → SymbolCode → Type 0
 MakesCode most (OfNumbers width) = Unit {0}
 MakesCode most (OfWeights width weights) = FitTree (λ weight. weight) width most weights
 
--- The bits may be the beginning of a codeword.
+-- The bits end before a codeword is complete, so a decoder needs further bits.
 abbrev pub IsCutOff : SymbolCode → List Bool → Type 0
 IsCutOff (OfNumbers width) bits = WantsBit width bits
 IsCutOff (OfWeights width weights) bits = NoneBegins (huffman weights) bits
 
--- The bits begin with no codeword.
+-- A decoder stops after these bits, because no codeword begins with them. A Huffman tree has no such bits.
 abbrev pub IsWrong : SymbolCode → List Bool → Type 0
 IsWrong (OfNumbers width) bits = IsInvalid width bits
 IsWrong (OfWeights width weights) bits = ⊥
@@ -47,22 +47,22 @@ abbrev pub AllHaveCodewords : {S : Type 0} → (S → Option (List Bool)) → Li
 AllHaveCodewords codeword symbols = (code : List Bool) × AreCodewords codeword symbols code
 
 -- ---- bits as words
--- The order of reading: that of writing, or its reverse.
+-- The order in which bits are read: the order of writing (`AsQueue`), or the reverse order (`AsStack`).
 pub data Order : Type 0 where
   AsQueue : Order
   AsStack : Order
 
--- The words hold exactly the bits, read in this order.
+-- The words hold exactly `bits`, listed in the order of reading.
 abbrev pub AreWordsInOrder : Order → ℕ → List Bool → List ℕ → Type 0
 AreWordsInOrder AsQueue w bits words = IsQueueWords w bits words
 AreWordsInOrder AsStack w bits words = IsStackWords w (reverse bits) words
 
--- The words give these bits in this order.
+-- Reading the words gives these bits. The bits of a queue include the zeros that fill its last word.
 abbrev pub GiveBits : Order → ℕ → List ℕ → List Bool → Type 0
 GiveBits AsQueue w words bits = bits ≡ bits_of_words w words
 GiveBits AsStack w words bits = HasStackWords w (reverse bits) words
 
--- The words give no bits: they end in a 0, which no stack of bits does.
+-- The words hold no list of bits: their last word is 0, which never ends a stack of bits. A queue can have any words.
 abbrev pub GiveNone : Order → List ℕ → Type 0
 GiveNone AsQueue words = ⊥
 GiveNone AsStack words = (front : List ℕ) × (words ≡ front ++ 0 ∷ [])
@@ -72,11 +72,11 @@ GiveNone AsStack words = (front : List ℕ) × (words ≡ front ++ 0 ∷ [])
 abbrev pub AreSymbolWords : {S : Type 0} → Order → ℕ → (S → Option (List Bool)) → List S → List ℕ → Type 0
 AreSymbolWords order w codeword symbols words = (code : List Bool) × AreCodewords codeword symbols code × AreWordsInOrder order w code words
 
--- The symbols have `needed` words, and there is room for fewer.
+-- The symbols' codewords take `needed` words, but the buffer holds only `room` words, which is fewer.
 abbrev pub LackRoom : {S : Type 0} → Order → ℕ → (S → Option (List Bool)) → List S → ℕ → ℕ → Type 0
 LackRoom order w codeword symbols room needed = (words : List ℕ) × AreSymbolWords order w codeword symbols words × (needed ≡ length words) × (room < needed)
 
--- An encode call: it writes the words of symbols at the beginning of a buffer.
+-- The contract of an encode call, which writes the words of the symbols at the beginning of a buffer.
 pub record PutsCodewords {S Word : Type 0} (symbol : S → ℕ) (number : Word → ℕ) (w : ℕ) (order : Order) (book : SymbolCode) (symbols : List S)
     (old new : WordsKept Word) (answer : Result (Unit {0}) Refusal) : Type 0 where
   pub put : OnOk answer ((all : List Word) × AreSymbolWords order w (codeword_in symbol book) symbols (map number all) × Appended old.words 0 all new.words new.len)
@@ -89,40 +89,42 @@ pub record PutsCodewords {S Word : Type 0} (symbol : S → ℕ) (number : Word �
 abbrev pub BeginBits : {S : Type 0} → (S → Option (List Bool)) → List S → List Bool → Type 0
 BeginBits codeword symbols bits = (code : List Bool) × (rest : List Bool) × AreCodewords codeword symbols code × (bits ≡ code ++ rest)
 
--- The old bits are the symbols' codewords, concatenated, and then the new bits.
+-- The bits `old` are the symbols' codewords, concatenated, and then the bits `new`.
 abbrev pub AreTakenOff : {S : Type 0} → (S → Option (List Bool)) → List S → List Bool → List Bool → Type 0
 AreTakenOff codeword symbols old new = (code : List Bool) × AreCodewords codeword symbols code × (old ≡ code ++ new)
 
--- Bits with the property stand behind the codewords of fewer symbols.
+-- The bits begin with the codewords of fewer than `amt` symbols, and the bits after these have the property `holds`.
 abbrev pub AfterFewer : {S : Type 0} → (S → Option (List Bool)) → ℕ → (List Bool → Type 0) → List Bool → Type 0
 AfterFewer {S} codeword amt holds bits =
     (symbols : List S) × (length symbols < amt) × (code : List Bool) × (rest : List Bool) × AreCodewords codeword symbols code × (bits ≡ code ++ rest) × holds rest
 
--- The bits begin with bits that have the property.
+-- The first bits of the list, up to some bit, have the property `holds`.
 abbrev pub BegunBy : (List Bool → Type 0) → List Bool → Type 0
 BegunBy holds bits = (first : List Bool) × (rest : List Bool) × (bits ≡ first ++ rest) × holds first
 
--- The bits don't give `amt` symbols. After fewer symbols, they end within a codeword or begin with no codeword; or
--- there is no memory.
+-- The error states why the bits don't give `amt` symbols. After fewer symbols, the bits end within a codeword
+-- (`OutOfData`) or begin with no codeword (`InvalidData`). Or there is no memory (`NoMemory`).
 abbrev pub ReadsNone : {S : Type 0} → (S → Option (List Bool)) → (List Bool → Type 0) → (List Bool → Type 0) → ℕ → List Bool → Refusal → Type 0
 ReadsNone codeword is_cut is_wrong amt bits OutOfData = AfterFewer codeword amt is_cut bits
 ReadsNone codeword is_cut is_wrong amt bits InvalidData = AfterFewer codeword amt (BegunBy is_wrong) bits
 ReadsNone codeword is_cut is_wrong amt bits other = Memory other
 
--- The answer of the call for a codebook's error.
+-- The error that a call returns for a coder's error: `OutOfData` if bits are missing, `InvalidData` for an invalid
+-- codeword, and `NoMemory` for an error of the backend.
 abbrev pub IsToldAs : {V E : Type 0} → CoderError (SymbolCodeError V) E → Refusal → Type 0
 IsToldAs (Frontend OutOfCompressedData) refusal = refusal ≡ OutOfData
 IsToldAs (Frontend (InvalidCodeword e)) refusal = refusal ≡ InvalidData
 IsToldAs (Backend e) refusal = refusal ≡ NoMemory
 
--- The words don't give `amt` symbols: there is no memory, they give no bits, or their bits don't give the symbols.
+-- The error states why the words don't give `amt` symbols: there is no memory, the words hold no list of bits, or their
+-- bits don't give the symbols.
 abbrev pub TakesNone : {S : Type 0} → Order → ℕ → (S → ℕ) → SymbolCode → ℕ → List ℕ → Refusal → Type 0
 TakesNone order w symbol book amt words e =
     Memory e
     ⊎ ((e ≡ InvalidData) × GiveNone order words)
     ⊎ ((bits : List Bool) × GiveBits order w words bits × ReadsNone (codeword_in symbol book) (IsCutOff book) (IsWrong book) amt bits e)
 
--- A decode call: it fills a buffer with symbols from the beginning of the bits of words.
+-- The contract of a decode call, which fills a list with the first symbols that the words encode.
 pub record TakesCodewords {S : Type 0} (symbol : S → ℕ) (w : ℕ) (order : Order) (book : SymbolCode) (words : List ℕ) (old new : List S) (answer : Result (Unit {0}) Refusal) : Type 0 where
   pub count : length new ≡ length old
   pub taken : OnOk answer ((bits : List Bool) × GiveBits order w words bits × BeginBits (codeword_in symbol book) new bits)

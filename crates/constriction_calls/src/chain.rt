@@ -3,7 +3,7 @@
 //! The caller keeps the coder: two heads, a buffer of compressed words, and a buffer of remainders. The first words of
 //! each buffer are in use, and the last of them is the top word. The caller passes the number of words in use of each
 //! buffer. A decode reads compressed words and writes remainders. An encode reads remainders and writes compressed
-//! words.
+//! words. The remainders hold the part of each quantile that the decoded symbol doesn't determine.
 //!
 //! # Errors
 //!

@@ -16,8 +16,8 @@
 //! - `WrongLength` exactly if `len`, or the decoder's position, is past the buffer's end.
 //! - `WrongLength`, `WrongInterval` or `WrongWeights` exactly if the call takes models, and
 //!   [`constriction_inputs::models::Models::check`] returns the error.
-//! - `InvalidData` exactly if no encoder or decoder has the numbers that the caller passes for it, or if the encoder
-//!   can't count the symbols to encode.
+//! - `InvalidData` exactly if no encoder or decoder has the numbers that the caller passes for it, or if the number of
+//!   held words plus the number of symbols to encode is above `2^64 - 18`.
 //!
 //! The errors that a call itself documents come after these.
 

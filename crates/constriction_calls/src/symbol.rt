@@ -3,6 +3,9 @@
 //! A caller chooses the codebook with a value of a type that implements [`Codes`]. The types are `ExpGolomb` for
 //! numbers, and [`Tree`] for the Huffman tree of weights.
 //!
+//! The words hold a list of bits. Reading a queue of bits returns them in the order of writing, and reading a stack of
+//! bits returns them in the reverse order.
+//!
 //! # Errors
 //!
 //! A call that fails leaves the buffers unchanged. It returns the first of these errors that applies:

@@ -1,4 +1,4 @@
--- What each command answers a text, and which fault it gives when.
+-- The output of each command for an input text, and the condition under which each fault comes.
 use Rattle.std.specs.Prelude.{Option, ◌≡◌, ℕ, List, [], ◌∷◌, codes, drop, map, string_bytes, ◌⊎◌, IfSome}
 use Rattle.std.specs.declared.string.String.{String}
 use Rattle.constriction_commands.specs.Coding.{EncodeFails}
@@ -34,11 +34,11 @@ Names arguments command = arguments ≡ name_of command ∷ []
 abbrev pub NamesNone : List (List ℕ) → Type 0
 NamesNone arguments = (command : Command) → Names arguments command → ⊥
 
--- The arguments of a run: the words behind the program's name, as bytes.
+-- The arguments of a run: the words after the program's name, as bytes.
 abbrev pub words_behind_name : {Z : Type 0} → List (String Z) → List (List ℕ)
 words_behind_name words = map string_bytes (drop 1 words)
 
--- A command fails with this fault. If two faults apply, the first in the order of faults comes.
+-- The command fails with this fault for the text. `OutOfMemory` may come for any text.
 abbrev pub Fails : Command → List ℕ → Fault → Type 0
 Fails AnsEncode text fault = EncodeFails text fault
 Fails AnsDecode text fault = AnsDecodeFails text fault

@@ -7,11 +7,11 @@ use Rattle.constriction_commands.specs.Inputs.{GivesSymbols, NoSymbols}
 use Rattle.constriction_commands.specs.declared.fault.Fault.{Fault}
 use Rattle.constriction_commands.specs.declared.fault.Fault.TheVariants.{Encoder, OutOfMemory}
 
--- A table of precision 24, as a model.
+-- A table at a precision of 24 bits, as a model.
 abbrev pub of_24_bits : List (ℕ × ℕ × ℕ) → Model ℕ
 of_24_bits table = record { precision = 24; table = table }
 
--- The last of the words is 0.
+-- There are words, and the last word is 0.
 abbrev pub EndsWithZero : List ℕ → Type 0
 EndsWithZero words = (front : List ℕ) × (words ≡ front ++ 0 ∷ [])
 
@@ -21,7 +21,7 @@ CoderFails table symbols (Encoder error) = Any (Impossible table) symbols
 CoderFails table symbols OutOfMemory = ⊤
 CoderFails table symbols fault = ⊥
 
--- Encoding the symbols of a text fails: the text gives none, or one of them is impossible.
+-- Encoding the symbols of a text fails: the text gives no table and symbols, or a symbol is impossible.
 abbrev pub EncodeFails : List ℕ → Fault → Type 0
 EncodeFails text (Encoder error) = (table : List (ℕ × ℕ × ℕ)) × (symbols : List ℕ) × GivesSymbols text table symbols × Any (Impossible table) symbols
 EncodeFails text fault = NoSymbols text fault

@@ -1,4 +1,4 @@
--- The inputs that the lines of a text give a command that codes symbols, and the faults of bad lines.
+-- The inputs that commands parse from the lines of a text, and the faults that come for bad lines.
 use Rattle.std.specs.Prelude.{Option, None, ◌≡◌, ℕ, ◌-◌, ◌≤◌, ◌^◌, Some, List, [], ◌∷◌, sum, ◌≢◌, ◌⊎◌, ◌<◌, ⊤}
 use Rattle.constriction_base.specs.Tables.{table_of}
 use Rattle.constriction_commands.specs.Lines.{first_line, second_line, after_line, numbers_of, number_lists_of}
@@ -17,11 +17,11 @@ SymbolsAre text symbols = numbers_of (2 ^ 64 - 1) (second_line text) ≡ Some sy
 abbrev pub CountedAre : List ℕ → List ℕ → Type 0
 CountedAre text numbers = numbers_of (2 ^ 32 - 1) (second_line text) ≡ Some numbers
 
--- The weights make a table.
+-- The weights make a table: they add up to 2 ^ 24.
 abbrev pub Total : List ℕ → Type 0
 Total weights = sum weights ≡ 2 ^ 24
 
--- The line is no list of numbers.
+-- Parsing a line gives `None`, because the line is no list of numbers.
 abbrev pub IsBad : Option (List ℕ) → Type 0
 IsBad numbers = numbers ≡ None
 
@@ -72,11 +72,11 @@ NoWords text fault = ⊥
 
 -- ---- weights, look-ups and chunks
 
--- The lines behind the second list these chunks of 64-bit symbols, one chunk each.
+-- Each line after the second one lists a chunk of 64-bit symbols, and these are the chunks.
 abbrev pub ChunksAre : List ℕ → List (List ℕ) → Type 0
 ChunksAre text chunks = number_lists_of (2 ^ 64 - 1) (after_line (after_line text)) ≡ Some chunks
 
--- The text gives the weights of this table, the places to look up, and these chunks.
+-- The text gives the weights of this table, the indices of the chunks to look up, and these chunks.
 pub record GivesChunks (text : List ℕ) (table : List (ℕ × ℕ × ℕ)) (places : List ℕ) (chunks : List (List ℕ)) : Type 0 where
   pub first_two : GivesSymbols text table places
   pub chunk_lines : ChunksAre text chunks

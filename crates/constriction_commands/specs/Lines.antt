@@ -8,15 +8,15 @@ use Rattle.std.specs.Str.{all_ascii_digits}
 abbrev pub is_line_feed : ℕ → Bool
 is_line_feed byte = byte == 10
 
--- The first line of a text without its line feed, or the whole text if there is none.
+-- The first line of a text without its line feed, or the whole text if there is no line feed.
 abbrev pub first_line : List ℕ → List ℕ
 first_line text = before_first is_line_feed text
 
--- The text behind the first line feed, or nothing if there is none.
+-- The text after the first line feed, or the empty text if there is no line feed.
 abbrev pub after_line : List ℕ → List ℕ
 after_line text = after_first is_line_feed text
 
--- The second line, or nothing if there is none.
+-- The second line of a text, or the empty line if the text has one line.
 abbrev pub second_line : List ℕ → List ℕ
 second_line text = first_line (after_line text)
 
@@ -29,20 +29,20 @@ abbrev pub has_bytes : List ℕ → Bool
 has_bytes [] = false
 has_bytes (byte ∷ bytes) = true
 
--- The pieces of a line between blanks.
+-- The nonempty pieces of a line between blanks.
 abbrev pub pieces_of : List ℕ → List (List ℕ)
 pieces_of line = filter has_bytes (slice_split is_blank line)
 
--- The number whose decimal digits are those of n and then these.
+-- The number whose decimal digits are the digits of n, followed by the listed digits.
 abbrev pub value_after : ℕ → List ℕ → ℕ
 value_after n [] = n
 value_after n (digit ∷ digits) = value_after (10 * n + (digit - 48)) digits
 
--- The number with the digits of n and this one, or none if the byte is no digit or the number is too great.
+-- The number 10 * n plus the digit, or `None` if the byte is no digit or the number is above `greatest`.
 abbrev pub with_digit : ℕ → ℕ → ℕ → Option ℕ
 with_digit greatest n byte = if is_ascii_digit byte && nat_le (10 * n + (byte - 48)) greatest then Some (10 * n + (byte - 48)) else None
 
--- The number that a piece spells, or none if a byte is no digit or the number is too great.
+-- The number that a piece spells, or `None` if a byte is no digit or the number is above `greatest`.
 abbrev pub number_spelled : ℕ → List ℕ → Option ℕ
 number_spelled greatest piece = if all_ascii_digits piece && nat_le (value_after 0 piece) greatest then Some (value_after 0 piece) else None
 
@@ -52,29 +52,29 @@ in_front None rest = None
 in_front (Some x) None = None
 in_front (Some x) (Some xs) = Some (x ∷ xs)
 
--- The numbers of all pieces, or none if a piece spells no number.
+-- The numbers of all pieces, or `None` if a piece spells no number.
 abbrev pub all_numbers : ℕ → List (List ℕ) → Option (List ℕ)
 all_numbers greatest [] = Some []
 all_numbers greatest (piece ∷ pieces) = in_front (number_spelled greatest piece) (all_numbers greatest pieces)
 
--- The numbers that a line lists, or none if it is no list of numbers up to the greatest.
+-- The numbers that a line lists, or `None` if the line is no list of numbers up to `greatest`.
 abbrev pub numbers_of : ℕ → List ℕ → Option (List ℕ)
 numbers_of greatest line = all_numbers greatest (pieces_of line)
 
--- The lines of a text. If it ends at a line feed, no line follows that.
+-- The lines of a text, without their line feeds. No line follows a line feed at the end of the text.
 abbrev pub lines_of : List ℕ → List (List ℕ)
 lines_of [] = []
 lines_of (byte ∷ bytes) = if is_line_feed byte then [] ∷ lines_of bytes else onto_first byte (lines_of bytes)
 
--- The lists of numbers of all lines, or none if a line is no list of numbers up to the greatest.
+-- The lists of numbers of all lines, or `None` if a line is no list of numbers up to `greatest`.
 abbrev pub all_number_lists : ℕ → List (List ℕ) → Option (List (List ℕ))
 all_number_lists greatest [] = Some []
 all_number_lists greatest (line ∷ lines) = in_front (numbers_of greatest line) (all_number_lists greatest lines)
 
--- The lists of numbers of a text, one for each line.
+-- The lists of numbers of a text, one for each line, or `None` if a line is no list of numbers up to `greatest`.
 abbrev pub number_lists_of : ℕ → List ℕ → Option (List (List ℕ))
 number_lists_of greatest text = all_number_lists greatest (lines_of text)
 
--- The line of numbers in decimal, with a space between each two.
+-- The line of the numbers in decimal, separated by spaces, with a line feed at the end.
 abbrev pub line_of : List ℕ → List ℕ
 line_of numbers = join_with_byte 32 (map decimal numbers) ++ 10 ∷ []

@@ -4,7 +4,7 @@ use Rattle.std.specs.Io.KnownBytes.{Appends}
 use Rattle.constriction_commands.specs.declared.fault.Fault.{Fault}
 use Rattle.constriction_commands.specs.declared.fault.Fault.TheVariants.{Unreadable, Unwritable, BadNumber, NoCount, NoWeights, WrongTotal, TooManySymbols, WeightOverflow, Encoder, ZeroWord, NoChain, OutOfData, InvalidData, NoSuchChunk, OutOfMemory}
 
--- The writer's contents grew by a beginning of these bytes.
+-- The writer's contents grow by a beginning of these bytes.
 abbrev pub GrowsByBeginning : Option (List ℕ) → Option (List ℕ) → List ℕ → Type 0
 GrowsByBeginning old new bytes = (count : ℕ) × Appends old new (take count bytes)
 
@@ -16,7 +16,7 @@ as_line text = text ++ 10 ∷ []
 abbrev pub usage_line : List ℕ
 usage_line = as_line (codes "usage: constriction <ans-encode|ans-decode|range-encode|range-decode|chain-split|golomb|huffman|store>")
 
--- The line of a fault.
+-- The line on standard error for a fault.
 abbrev pub fault_line : Fault → List ℕ
 fault_line Unreadable = as_line (codes "cannot read input")
 fault_line Unwritable = as_line (codes "cannot write output")

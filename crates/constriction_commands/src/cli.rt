@@ -69,6 +69,8 @@ fn report<E: Write>(fault: &Fault, faults: &mut E) -> u8
 }
 
 /// Reads the whole input, and then writes the command's answer to `output`.
+///
+/// Returns a fault if the read, the command or the write fails.
 fn answer_to<R: Read, O: Write>(
     alloc: Global,
     command: Command,

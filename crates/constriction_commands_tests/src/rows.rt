@@ -1,4 +1,4 @@
-//! Tests of the worked rows of the program.
+//! Tests of worked examples: each runs commands on given inputs, and checks the exact output or fault.
 
 use crate::runs::{gives, stops};
 use std::test::Fail;

@@ -1,4 +1,4 @@
-//! Runs of the program over lists of bytes.
+//! Functions that run the program over lists of bytes, and check what a run writes.
 
 use constriction_commands::cli::run;
 use std::alloc::{AllocError, Global};

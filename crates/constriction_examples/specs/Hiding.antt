@@ -1,4 +1,4 @@
--- Bits back: what it is to hide symbols in the state of a stack coder of 32-bit words and 64-bit heads.
+-- Bits-back coding: hiding a symbol in the state of a stack coder with 32-bit words and 64-bit heads.
 use Rattle.std.specs.Prelude.{◌≡◌, ℕ, Some, map, slice_get}
 use Rattle.constriction.specs.stack.Ans.{AnsState}
 use Rattle.constriction.specs.Tables.{model_of}
@@ -6,8 +6,8 @@ use Rattle.constriction.specs.Models.{Model}
 use Rattle.constriction.specs.stack.Symbols.{Encodes, Decodes}
 use Rattle.constriction_examples.specs.declared.bits_back.Mixture.{Mixture}
 
--- a symbol is hidden: a latent comes off under the symbol's posterior, then the symbol goes on under the
--- latent's table, and then the latent under the prior
+-- Hiding the symbol leads from the old state to the new one. The coder decodes a latent with the symbol's posterior,
+-- then encodes the symbol with the latent's table, and then encodes the latent with the prior.
 pub record Hides (m : Mixture) (symbol : ℕ) (old new : AnsState) : Type 0 where
   pub latent : ℕ
   pub posterior : Model ℕ

@@ -1,10 +1,10 @@
--- Words of 32 bits that symbols were packed into.
+-- The words of 32 bits that hold packed symbols.
 use Rattle.std.specs.Prelude.{◌≡◌, ℕ, ◌%◌, ◌^◌, List, map, reverse}
 use Rattle.constriction.specs.stack.Ans.{AnsState, empty, exported}
 use Rattle.constriction.specs.Models.{Item}
 use Rattle.constriction.specs.stack.Symbols.{EncodesAll}
 
--- encodes of the symbols onto a new coder, each under its model and the last one first, lead to a state whose words these are
+-- A new coder exports these words after it encodes the symbols from the last to the first, each under its model.
 abbrev pub ArePacked : List (Item ℕ) → List ℕ → Type 0
 ArePacked items words = (state : AnsState)
     × EncodesAll 32 64 (reverse items) empty state

@@ -57,7 +57,7 @@ where
 ///
 /// # Errors
 ///
-/// The error of the backend, if it can't write the word with the encoder's last bits.
+/// Returns the error of the backend if it can't write the word with the encoder's last bits.
 fn bits_of<Backend>(
     encoder: QueueEncoder<u32, Backend>,
 ) -> Result<QueueDecoder<u32, Backend::IntoReadWords>, Backend::WriteError>

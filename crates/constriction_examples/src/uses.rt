@@ -83,8 +83,8 @@ pub fn words_so_far(alloc: Global, coder: &mut DefaultAnsCoder) -> Option<Vec<u3
 
 /// Decodes one symbol for each table of `tables`, from a position in a coder's words.
 ///
-/// These are the last symbols encoded before the position was recorded, in reverse order of encoding. The coder may
-/// have encoded any symbols since then.
+/// The symbols returned are the last symbols encoded before the position was recorded, in reverse order of encoding.
+/// The coder may have encoded any symbols after the position was recorded.
 ///
 /// # Errors
 ///

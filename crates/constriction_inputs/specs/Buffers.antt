@@ -6,7 +6,7 @@ pub record WordsKept (Word : Type 0) : Type 0 where
   pub words : List Word
   pub len : ℕ
 
--- The added words lie behind the first `len` words of the buffer, and nothing else of it changed.
+-- The new buffer has the added words after its first `len` words. All other words are unchanged.
 pub record Appended {W : Type 0} (old : List W) (len : ℕ) (added : List W) (new : List W) (new_len : ℕ) : Type 0 where
   pub count : new_len ≡ len + length added
   pub words : take new_len new ≡ take len old ++ added

@@ -1,4 +1,4 @@
--- Mixtures of a family's distributions, cut halfway between symbols, where each symbol has a row of components of its own.
+-- Mixtures of a family's distributions, cut halfway between symbols. Each symbol has its own row of components.
 use Rattle.std.specs.Prelude.{◌≡◌, ℕ, ℤ, ◌*◌, ◌<◌, ◌≤◌, List, length, map, sum, take, drop, Option}
 use Rattle.std.specs.List.{range_with_len, zip}
 use Rattle.constriction_base.specs.Models.{Item, pairs_of}
@@ -8,33 +8,33 @@ use Rattle.constriction_models.specs.declared.families.Family.{Family}
 use Rattle.constriction_inputs.specs.Coded.{Coded}
 use Rattle.constriction_inputs.specs.Quantized.{AreAsMany, AreScaled, ByFamily, IsRange, below_by, family_of, symbols_in}
 
--- What a caller hands in for models: components of a family over a range, each with a location and a scale; the weight of
--- each; and how many of them each coded symbol has.
+-- A caller's arguments for mixtures: components of a family, each with a location and a scale; the weight of each
+-- component; and the number of components for each symbol (`width`).
 pub record ByMixture : Type 0 where
   pub components : ByFamily
   pub weights : List ℕ
   pub width : ℕ
 
--- The row of a place, where rows of this width stand one behind another.
+-- The row at index `place` of a list that has rows of `width` items, one after another.
 abbrev pub row_of_place : {A : Type 0} → ℕ → ℕ → List A → List A
 row_of_place width place list = take width (drop (width * place) list)
 
--- Components of a family by their weights, locations and scales.
+-- The components of a family with the given weights, locations and scales.
 abbrev pub components_of : Option Family → List ℕ → List ℤ → List ℕ → List Weighted
 components_of family weights locations scales =
     map (λ (part : ℕ × (ℤ × ℕ)). record { weight = part.0; below = below_by family part.1.0 part.1.1 }) (zip weights (zip locations scales))
 
--- The components of the symbol at a place.
+-- The components for the symbol at index `place` of the caller's list.
 abbrev pub components_at : ByMixture → ℕ → List Weighted
 components_at by place =
     components_of (family_of by.components.family) (row_of_place by.width place by.weights) (row_of_place by.width place by.components.locations) (row_of_place by.width place by.components.scales)
 
--- The tables of the indices in the range under so many mixtures; the first symbol has the index 0.
+-- The tables of the first `count` mixtures. Their symbols are indices into the range, and index 0 is the first symbol.
 abbrev pub mixture_tables : ℕ → ByMixture → ℕ → List (List (ℕ × ℕ × ℕ))
 mixture_tables precision by count =
     map (λ place. indexed precision (mixed (components_at by place)) by.components.min (symbols_in by.components.min by.components.max)) (range_with_len 0 count)
 
--- Symbols, each under the table of its own mixture.
+-- Each symbol with the table of its own mixture.
 abbrev pub mixture_items : ℕ → ByMixture → List ℕ → List (Item ℕ)
 mixture_items precision by symbols = pairs_of precision (λ table. table) symbols (mixture_tables precision by (length symbols))
 
@@ -43,19 +43,20 @@ mixture_items precision by symbols = pairs_of precision (λ table. table) symbol
 abbrev pub AreInRows : ByMixture → ℕ → Type 0
 AreInRows by count = (length by.weights ≡ by.width * count) × AreAsMany by.components (length by.weights)
 
--- Weights add up to more than 0, and to 2 ^ 32 at most.
+-- The weights add up to at least 1 and at most 2 ^ 32.
 abbrev pub IsMixable : List ℕ → Type 0
 IsMixable weights = (0 < sum weights) × (sum weights ≤ 4294967296)
 
--- The weights of each row do.
+-- The weights of each row add up to at least 1 and at most 2 ^ 32.
 abbrev pub AreMixable : ℕ → ℕ → List ℕ → Type 0
 AreMixable width count weights = (place : ℕ) → place < count → IsMixable (row_of_place width place weights)
 
--- Components have a family and scales above 0, there are some, and the weights of each row can be mixed.
+-- A family has the caller's family number, and all scales are above 0. Each row has at least one component, and its
+-- weights are mixable.
 abbrev pub MakeMixtures : ByMixture → ℕ → Type 0
 MakeMixtures by count = AreScaled by.components.family by.components.scales × (0 < by.width) × AreMixable by.width count by.weights
 
--- Symbols, each under its own mixture.
+-- The symbols with their own mixtures as models, and the requirements on the caller's arguments.
 abbrev pub by_mixture : ByMixture → List ℕ → Coded
 by_mixture by symbols = record {
   items_at = λ precision. mixture_items precision by symbols;
@@ -64,7 +65,8 @@ by_mixture by symbols = record {
   weights_fit = λ precision. MakeMixtures by (length symbols);
 }
 
--- Symbols under mixtures of a family, given by its number, over a range: rows of `width` weights, locations and scales.
+-- The same for arguments that no record collects: the family's number, the range from `min` to `max`, and rows of
+-- `width` weights, locations and scales.
 abbrev pub in_mixture : ℕ → ℤ → ℤ → ℕ → List ℕ → List ℤ → List ℕ → List ℕ → Coded
 in_mixture family min max width weights locations scales = by_mixture (record {
   components = record { family = family; min = min; max = max; locations = locations; scales = scales };

@@ -1,4 +1,4 @@
--- Calls that return the numbers of models: the intervals of a family's symbols, and weights from counts.
+-- Contracts of two calls that fill a caller's buffers: with intervals of a family's symbols, or with weights of counts.
 use Rattle.std.specs.Prelude.{◌≡◌, ◌↔◌, ℕ, ◌<◌, ◌≤◌, ◌^◌, List, Result, OnErr, OnOk, length, map, slice_index}
 use Rattle.std.specs.List.{sum, sum_by}
 use Rattle.constriction_base.specs.Models.{AreKnown}
@@ -10,16 +10,17 @@ use Rattle.constriction_inputs.specs.declared.refusal.Refusal.{Refusal}
 use Rattle.constriction_inputs.specs.declared.refusal.Refusal.TheVariants.{ImpossibleSymbol, WrongLength, WrongWeights}
 
 -- ---- intervals
--- Two buffers, for starts and for lengths.
+-- A caller's two buffers: one for the starts of intervals, and one for their lengths.
 pub record IntervalsKept (P : Type 0) : Type 0 where
   pub lefts : List P
   pub ps : List P
 
--- Each of the two buffers has this many places.
+-- Each of the two buffers has `count` items.
 abbrev pub HavePlaces : {P : Type 0} → ℕ → IntervalsKept P → Type 0
 HavePlaces count kept = (length kept.lefts ≡ count) × (length kept.ps ≡ count)
 
--- The call writes the interval of each symbol in the table of its own model.
+-- The call writes the interval that each symbol has in the table of its own model. After an error, the buffers are
+-- unchanged.
 pub record GivesIntervals {P : Type 0} (number : P → ℕ) (precision : ℕ) (by : ByFamily) (symbols : List ℕ) (old new : IntervalsKept P)
     (answer : Result (Unit {0}) Refusal) : Type 0 where
   pub intervals : OnOk answer (AreIntervalsOf (family_items precision by symbols) (map number new.lefts) (map number new.ps))
@@ -32,13 +33,14 @@ pub record GivesIntervals {P : Type 0} (number : P → ℕ) (precision : ℕ) (b
 abbrev pub AreCounts : ℕ → List ℕ → Type 0
 AreCounts precision counts = (0 < sum_by positive counts) × (sum_by positive counts ≤ 2 ^ precision)
 
--- The call writes weights in proportion to counts.
+-- The call writes weights in proportion to counts. After an error, the buffer is unchanged.
 pub record GivesWeightsOfCounts (precision : ℕ) (counts old new : List ℕ) (answer : Result (Unit {0}) Refusal) : Type 0 where
   pub weights : OnOk answer (AreWeights counts (2 ^ precision) new)
   pub total : OnOk answer ((length new ≡ length counts) × (sum new ≡ 2 ^ precision))
   -- Exactly the counts above 0 have a weight above 0.
   pub some : OnOk answer ((k : ℕ) → k < length counts → (0 < slice_index new k) ↔ (0 < slice_index counts k))
-  -- Where no share is below 1, the weights are the rounded shares, and the largest remainders are rounded up first.
+  -- If no count above 0 has a share below 1, the weights are the rounded shares. The largest remainders are rounded up
+  -- first.
   pub shares : OnOk answer (AllShare counts (2 ^ precision) → AreShares counts (2 ^ precision) new × ServesLargest counts (2 ^ precision) new)
   pub asked : Asks WrongLength (length old ≡ length counts) (Asks WrongWeights (AreCounts precision counts) (Else Memory)) answer
   pub kept : OnErr answer (new ≡ old)

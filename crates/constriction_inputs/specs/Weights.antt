@@ -12,7 +12,7 @@ weights_model precision weights = record { precision = precision; table = table_
 abbrev pub IsTotal : ℕ → List ℕ → Type 0
 IsTotal precision weights = sum weights ≡ 2 ^ precision
 
--- Symbols under the weights of one table.
+-- The symbols with one table of weights as the model of all, and the requirements on the caller's arguments.
 abbrev pub by_weights : List ℕ → List ℕ → Coded
 by_weights weights symbols = record {
   items_at = λ precision. items_of (weights_model precision weights) symbols;

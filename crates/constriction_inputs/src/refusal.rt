@@ -35,8 +35,8 @@ pub enum Refusal {
     /// There is no memory.
     #[error("out of memory")]
     NoMemory,
-    /// No coder has the words or the numbers that the caller passed. Or the words don't encode the number of symbols
-    /// to decode.
+    /// No state of a coder has the words or the numbers that the caller passed. Or the words don't encode as many
+    /// symbols as the caller asks for.
     #[error("invalid data")]
     InvalidData,
     /// The words ended before all symbols were decoded.

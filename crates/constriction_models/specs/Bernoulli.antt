@@ -1,6 +1,6 @@
 -- The table of two symbols.
 use Rattle.std.specs.Prelude.{ℕ, ◌-◌, ◌^◌, List, [], ◌∷◌, Bool, true, false}
 
--- First comes false, and then true, which has this weight.
+-- The entries of false and of true. The symbol true has the given weight, and false has the rest of 2 ^ precision.
 abbrev pub bernoulli : ℕ → ℕ → List (Bool × ℕ × ℕ)
 bernoulli precision weight = (false, 0, 2 ^ precision - weight) ∷ (true, 2 ^ precision - weight, weight) ∷ []

@@ -1,7 +1,7 @@
 -- Distribution functions with a table of values, interpolated linearly between them.
 use Rattle.std.specs.Prelude.{◌≡◌, ℕ, ◌+◌, ◌-◌, ◌*◌, ◌/◌, ◌%◌, List, [], ◌∷◌, length, slice_index, Bool, true, ◌&&◌, nat_le, nat_lt, cond, ℤ, pos, negsuc, ◌+ℤ◌, ◌-ℤ◌}
 
--- No number is below the one before it, and the first is not below `low`.
+-- No number of the list is below the number before it, and the first number isn't below `low`.
 unfoldable pub rises_from : ℕ → List ℕ → Bool
 rises_from low [] = true
 rises_from low (x ∷ xs) = nat_le low x && rises_from x xs
@@ -20,21 +20,21 @@ interpolated values k part = slice_index values k + (slice_index values (k + 1) 
 unfoldable pub value_at : List ℕ → ℕ → ℕ
 value_at values place = interpolated values (place / 65536) (place % 65536)
 
--- The value at a distance above the beginning of a table of this width, where a unit has rate / 2 ^ 36 of the 65536ths
--- of a step.
+-- The value at the distance `far` above the beginning of a table of width `wide`, and 2 ^ 32 from the table's end on.
+-- The distance times rate / 2 ^ 36 is in 65536ths of a step.
 unfoldable pub value_above : List ℕ → ℕ → ℕ → ℕ → ℕ
 value_above values wide rate far = cond (nat_lt far wide) (value_at values (far * rate / 68719476736)) 4294967296
 
--- The value at a signed distance from the beginning of the table: nothing lies below it.
+-- The value at a signed distance from the beginning of the table. Below the beginning, the value is 0.
 unfoldable pub value_beyond : List ℕ → ℕ → ℕ → ℤ → ℕ
 value_beyond values wide rate (pos far) = value_above values wide rate far
 value_beyond values wide rate (negsuc _) = 0
 
--- The value at a place, for a table of this width around `middle`.
+-- The value at a place, for a table of width `wide` around `middle`.
 unfoldable pub located : List ℕ → ℕ → ℕ → ℤ → ℤ → ℕ
 located values wide rate middle place = value_beyond values wide rate (place -ℤ middle +ℤ pos (wide / 2))
 
--- The distribution function of a location and a scale, in multiples of 2 ^ -16, where the table is `width` scales
+-- The distribution function with a location and a scale, both in multiples of 2 ^ -16. The table is `width` scales
 -- wide.
 unfoldable pub scaled : List ℕ → ℕ → ℤ → ℕ → ℤ → ℕ
 scaled values width location scale = located values (width * scale) (9223372036854775808 / width / scale) location

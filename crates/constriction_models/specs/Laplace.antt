@@ -4,8 +4,8 @@ use Rattle.std.proofs.Common.{refl, arith}
 use Rattle.constriction_models.specs.Interpolation.{AreValues, rises_from}
 use Rattle.constriction_models.specs.Rules.{powers, mirrored, rounded, decay, exponential}
 
--- 2 ^ 32 times the function at -32 + k / 32 scales, rounded to the nearest integer, for k from 0 to 2048. It is exp
--- (x) / 2 below the middle.
+-- The 2049 values, for k from 0 to 2048: 2 ^ 32 times the distribution function at x = -32 + k / 32 scales, rounded to
+-- the nearest integer. Below the middle, the function is exp (x) / 2.
 unfoldable pub laplace_values : List ℕ
 laplace_values = mirrored 4294967296 (map (λ p. rounded 2147483648 p (2 ^ 160)) (powers (2 ^ 160) 1025 (2 ^ 160) (decay (2 ^ 160) 32)))
 

@@ -1,9 +1,9 @@
--- The rows of quantiles.
+-- The rows of a lookup table, with one row for each quantile.
 use Rattle.std.specs.Prelude.{◌≡◌, ℕ, ◌<◌, List, length, slice_index_or}
 use Rattle.constriction_base.specs.Tables.{Has, Covers}
 use Rattle.constriction_models.specs.declared.lookup.Row.{Row}
 
--- The symbol `listed` and the row are the symbol and the interval of each entry whose interval holds the quantile.
+-- If the interval of an entry holds the quantile q, `listed` is the entry's symbol and `row` has the interval.
 abbrev pub IsRowAt : {P N : Type 0} → (P → ℕ) → (N → ℕ) → List (ℕ × ℕ × ℕ) → ℕ → Row P N → ℕ → Type 0
 IsRowAt number length_of table listed row q = (symbol left p : ℕ) → Has table symbol left p → Covers left p q
     → (listed ≡ symbol) × (number row.left ≡ left) × (length_of row.weight ≡ p)

@@ -1,7 +1,7 @@
 -- The integer rules by which the tables of distribution functions are computed. A large number, `one`, stands for 1.
 use Rattle.std.specs.Prelude.{ℕ, zero, suc, ◌+◌, ◌-◌, ◌*◌, ◌/◌, List, [], ◌∷◌, ◌++◌, map, reverse, drop}
 
--- The sum of 1 / (d ^ n * n!) from the given term on. The whole sum is exp (1 / d).
+-- Adds the terms 1 / (d ^ n * n!) to `sum`, from the given term on. The sum of all terms is exp (1 / d).
 unfoldable pub exponential : ℕ → ℕ → ℕ → ℕ → ℕ → ℕ
 exponential zero term n d sum = sum
 exponential (suc fuel) zero n d sum = sum
@@ -16,10 +16,11 @@ unfoldable pub powers : ℕ → ℕ → ℕ → ℕ → List ℕ
 powers one zero p q = []
 powers one (suc steps) p q = p ∷ powers one steps (p * q / one) q
 
--- The fraction part / whole of all, rounded to the nearest integer.
+-- The number all * part / whole, rounded to the nearest integer.
 unfoldable pub rounded : ℕ → ℕ → ℕ → ℕ
 rounded all part whole = (all * part + whole / 2) / whole
 
--- The values from the middle down, in reverse; above the middle come what they leave of all.
+-- The values below the middle and above it. `lows` lists the values from the middle down. Each value above the middle
+-- is `all` minus the value as far below the middle.
 unfoldable pub mirrored : ℕ → List ℕ → List ℕ
 mirrored all lows = reverse lows ++ drop 1 (map (λ low. all - low) lows)

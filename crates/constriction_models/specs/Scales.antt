@@ -1,7 +1,7 @@
--- What contracts say of a scale: its number.
+-- The number of a scale, for use in contracts.
 use Rattle.std.specs.Prelude.{ℕ}
 use Rattle.constriction_models.specs.declared.location_scale.scale.Scale.{Scale}
 
--- The number of 65536ths that a scale is.
+-- The scale as a multiple of 2 ^ -16.
 abbrev pub scale_number : {D : Type 0} {standard : _} → Scale D standard → ℕ
 scale_number s = s.scale

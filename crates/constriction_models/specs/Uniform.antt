@@ -1,8 +1,8 @@
--- The table of symbols with equal weights, of which the last also gets what is left over.
+-- The table of symbols with equal weights. The last symbol also gets the remainder.
 use Rattle.std.specs.Prelude.{ℕ, ◌*◌, ◌/◌, ◌^◌, List, cond, nat_lt}
 use Rattle.constriction_models.specs.Cuts.{entries_from}
 
--- The start of a symbol's interval: k times the equal share, or all at the end.
+-- The start of symbol k's interval: k times the equal share, or `all` if k is the number of symbols.
 unfoldable pub even_start : ℕ → ℕ → ℕ → ℕ
 even_start all count k = cond (nat_lt k count) (k * (all / count)) all
 

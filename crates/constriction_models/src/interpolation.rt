@@ -1,7 +1,7 @@
 //! Functions given by a table of values, and interpolated linearly between the values.
 //!
-//! The division by the scale happens once, in `Scale::new`, which computes the `rate`. If the values were 1/32 of a
-//! standard deviation apart instead of 1/128, coding would cost 2e-6 bits a symbol more.
+//! The division by the scale happens once, in `Scale::new`, which computes the `rate`. The values of the Gaussian are
+//! 1/128 of a standard deviation apart. A distance of 1/32 would cost 2e-6 bits a symbol more.
 
 ghost use Rattle.std.specs.Prelude.{◌≡◌, ◌+◌, ◌-◌, ◌*◌, ◌/◌, ◌<◌, ◌≤◌, length, ℤ, pos, ◌+ℤ◌, ◌-ℤ◌};
 ghost use Rattle.constriction_models.specs.Interpolation.{AreValues, value_at, located};
@@ -30,7 +30,8 @@ fn far_above(wide: u64, middle: i64, place: i64) -> i128
 
 /// Returns the value at `place` of a table of width `wide` around `middle`.
 ///
-/// The value is 0 below the table, and `2^32` above it.
+/// `wide`, `middle` and `place` are in units of `2^-16`. A distance times `rate`, divided by `2^36`, is in 65536ths of
+/// the table's spacing. The value is 0 below the table, and `2^32` above it.
 #[inline(always)]
 pub fn located(values: &[u64], wide: u64, rate: u64, middle: i64, place: i64) -> u64
     requires values { AreValues values.now }
@@ -47,7 +48,7 @@ pub fn located(values: &[u64], wide: u64, rate: u64, middle: i64, place: i64) ->
     value_at(values, far as u64 * rate / 68719476736)
 }
 
-/// Returns about where the table reaches the value `below`, in 65536ths of the table's spacing.
+/// Estimates where the table reaches the value `below`. The result is in 65536ths of the table's spacing.
 #[inline(always)]
 fn place_of(places: &[u32], below: u64) -> u64
     requires { length places.now ≡ 1025 }

@@ -1,4 +1,4 @@
-//! Models in integer arithmetic: every machine computes the same table.
+//! Entropy models that are computed in integer arithmetic, so that every machine computes the same table.
 //!
 //! A decoder needs exactly the encoder's table. A table computed in floating point may differ on another machine, and
 //! then the message is lost. All models of this crate are computed in integers, and each is proved to be a table.
@@ -15,7 +15,7 @@
 //!   components that can't form a mixture.
 //! - [`uniform`], [`bernoulli`]: `UniformModel`, whose symbols have equal weights, and `BernoulliModel`, which has two
 //!   symbols.
-//! - [`counts`]: `weights_of_counts`, weights in proportion to counts.
+//! - [`counts`]: `weights_of_counts`, which computes weights in proportion to counts.
 //! - [`lookup`]: `ContiguousLookupDecoderModel`, a model with a row for each quantile.
 //! - [`errors`]: `SupportError`, the error for too few symbols, or too many for the precision.
 #![tactic(auto)]

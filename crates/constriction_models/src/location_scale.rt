@@ -23,10 +23,10 @@ use std::marker::PhantomData;
 /// - `are_values`: there are 2049 values, they never fall, and the last is `2^32`.
 /// - `width_law`: the table is at least 1 and at most 64 scales wide.
 pub trait StandardDistribution: Copy {
-    // The values, in parts of 2 ^ 32.
+    // The 2049 values of the distribution function, in units of 2 ^ -32.
     ghost values: { List ℕ };
 
-    // The width, as contracts see it.
+    // The width of the table as a multiple of the scale, for use in contracts.
     ghost WIDTH: { ℕ };
 
     /// The width of the table, as a multiple of the scale.

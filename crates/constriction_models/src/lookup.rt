@@ -1,8 +1,9 @@
 //! `ContiguousLookupDecoderModel`: a model with a row for each quantile.
 //!
-//! A row holds the interval of a quantile's symbol. The symbols are in a second list, because a decoder's next step
-//! doesn't wait for them. If probabilities are `u16`, a row takes 4 bytes and a symbol 2 bytes. A processor scales an
-//! index by these sizes as it loads. At a precision of 12 bits, both lists fit the first-level cache.
+//! A row holds the interval of a quantile's symbol. The symbols are in a second list, because a decoder computes its
+//! next state from the interval alone. If probabilities are `u16`, a row takes 4 bytes and a symbol 2 bytes. A
+//! processor scales an index by these sizes as it loads. At a precision of 12 bits, both lists fit the first-level
+//! cache.
 
 ghost use Rattle.std.specs.Prelude.{◌≡◌, ◌+◌, ◌^◌, ◌<◌, ◌≤◌, IfOk, IsErrOf};
 ghost use Rattle.constriction_base.specs.Tables.{Has, Covers};
@@ -41,14 +42,14 @@ struct Row<P: Copy + Drop, N: Copy + Drop> {
     weight: N,
 }
 
-/// A list of rows over probabilities of one type.
+/// A list of rows whose starts and lengths have the probability type `P`.
 type Rows<P> = Vec<Row<P, <P as BitArray>::NonZero>>;
 
 /// A model of the symbols `0`, `1`, .. with a row for each quantile, so that one look-up finds a quantile's symbol.
 ///
 /// It has the same table as the model that it is built from. It stores the symbol and the interval of each quantile, in
-/// 6 bytes if probabilities are `u16`, and in 10 bytes if they are `u32`. At a precision of 12 bits, these are 24 or
-/// 40 KiB.
+/// 6 bytes if probabilities are `u16`, and in 10 bytes if they are `u32`. At a precision of 12 bits, the model takes 24
+/// or 40 KiB.
 ///
 /// # Examples
 ///

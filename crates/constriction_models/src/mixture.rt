@@ -131,10 +131,10 @@ impl<'a, D: CumulativeDistribution> Mixture<'a, D> {
         }
     }
 
-    /// Returns a guess for `below` under the assumption that the components don't overlap.
+    /// Estimates the place at which the mixture reaches `below`, as if its components didn't overlap.
     ///
-    /// The call finds the component that has `below` in its share, as `share_of` defines shares. It returns this
-    /// component's guess for the part of the share that lies below `below`.
+    /// The call finds the component whose share holds `below`, as `share_of` defines shares. It returns the guess of
+    /// this component for the part of its share that lies below `below`.
     fn place_by_shares(&self, places: &[i64; FEW], below: u64) -> i64 {
         let sum = below.min(4294967295) * self.total;
         let (k, inside) = self.share_of(places, sum);

@@ -299,8 +299,8 @@ fn between(low: u64, high: u64, wanted: u64) -> u64
 
 /// Returns the distance, in symbols, from the last probe of a search to the next probe.
 ///
-/// - If the search has `turned`, it has probed on both sides of the quantile. The result is `2^64 - 1`. This leads
-///   outside the range that is left, so `between` halves the range.
+/// - If the search has `turned`, it has probed on both sides of the quantile. The result is `2^64 - 1`. The next probe
+///   then lies outside the remaining range, so `between` halves that range.
 /// - Otherwise, if this is the `first` move, the result is 1.
 /// - Otherwise the last move passed `last` symbols, which have the total weight `mass`, and the quantile lies `far`
 ///   beyond the start of the last probe. The result is `far * last / mass + 1`, but at most `8 * last`.

@@ -5,7 +5,7 @@ ghost use Rattle.std.specs.Prelude.{◌≡◌, ◌^◌};
 use constriction_base::model::{DecoderModel, EncoderModel};
 use constriction_words::{BitArray, WordOf};
 
-/// Returns whether `quantile` lies in the interval `expected`: a symbol, the interval's start and its length.
+/// Returns whether `model` decodes `quantile` to `expected`: a symbol, its interval's start and its length.
 fn finds<S, M, const PRECISION: usize>(
     model: &M,
     all: u64,
@@ -27,9 +27,9 @@ where
     *expected.0 == symbol && left.widen() as u64 == expected.1 && p.widen() as u64 == expected.2
 }
 
-/// Returns the end of the interval of `symbol`, if it begins at `left`, and its first and last quantiles lie in it.
+/// Returns the end of the interval of `symbol`, or `None` if a check fails.
 ///
-/// Returns `None` otherwise.
+/// The call checks that the interval begins at `left`, and that its first and last quantiles decode to `symbol`.
 fn end_of<S, M, const PRECISION: usize>(model: &M, all: u64, left: u64, symbol: &S) -> Option<u64>
 where
     S: PartialEq,

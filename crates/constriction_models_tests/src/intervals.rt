@@ -1,4 +1,6 @@
-//! Tests of worked intervals of the symbols from -100 to 100, with 32-bit words and a precision of 24 bits.
+//! Tests that symbols have the expected intervals under Gaussian, Laplace and logistic distributions.
+//!
+//! The symbols are the integers from -100 to 100. Probabilities are 32-bit words, and the precision is 24 bits.
 
 use crate::cuts::interval_of;
 use constriction_models::distribution::CumulativeDistribution;

@@ -6,8 +6,8 @@
 //! caller can make each call. `tests/cases/constriction_models_tests` has tests that run without a proof, with
 //! `tests/unproved`. They cover many ranges at each word width, and many symbols.
 //!
-//! `tests/models expected` prints the worked values of [`intervals`], [`mixtures`] and [`weights`]. It computes them
-//! from the formulas of the distributions, and with another program for weights, and not with this library.
+//! `tests/models expected` prints the expected values of [`intervals`], [`mixtures`] and [`weights`]. It computes them
+//! from the formulas of the distributions, and the weights with another program. It doesn't use this library.
 #![tactic(auto)]
 
 #[cfg(test)]

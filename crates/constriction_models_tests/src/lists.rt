@@ -1,4 +1,4 @@
-//! A test of lists of symbols through the stack coder, with a model for each symbol.
+//! Tests that the stack coder decodes the lists that it encodes, with a Gaussian of its own for each symbol.
 
 use constriction_models::gaussian::Gaussian;
 use constriction_models::quantizer::LeakyQuantizer;
@@ -31,7 +31,7 @@ fn takes(coder: &mut DefaultAnsCoder, quantizer: &LeakyQuantizer<u32, 24>, item:
     }
 }
 
-/// Encodes `items`, and decodes them from last to first. Returns whether they are the same, and the coder is empty.
+/// Encodes `items`, and decodes them from last to first. Returns whether all come back and the coder ends empty.
 fn comes_back(alloc: Global, items: &[Item]) -> bool {
     let Ok(quantizer) = LeakyQuantizer::<u32, 24>::new(-1000, 1000) else {
         return false;

@@ -1,4 +1,4 @@
-//! Tests of a model that has the symbol of each quantile in a list.
+//! Tests that a lookup model has the same intervals as the model that it is built from.
 
 use crate::cuts::{cuts, is_unknown};
 use constriction_base::weights::WeightTable;
@@ -7,7 +7,7 @@ use constriction_models::uniform::UniformModel;
 use std::alloc::Global;
 use std::test::Fail;
 
-/// Returns whether the lookup model of weights with zeros has the intervals of the other weights, and no others.
+/// Returns whether a lookup model of weights, two of which are 0, has intervals for exactly the weights above 0.
 fn weights_are_looked_up(alloc: Global) -> bool {
     match WeightTable::<u16, 12>::new(alloc, &[1000, 0, 0, 3095, 1]) {
         Ok(table) => match ContiguousLookupDecoderModel::new(alloc, table) {
@@ -18,7 +18,7 @@ fn weights_are_looked_up(alloc: Global) -> bool {
     }
 }
 
-/// Returns whether the lookup model of a borrowed model has one symbol of `symbols` for each quantile.
+/// Returns whether the intervals of `symbols` cover the 256 quantiles of the lookup model of a borrowed model.
 fn quantiles_are_looked_up(alloc: Global, symbols: &[usize]) -> bool {
     match UniformModel::<u32, 8>::new(256) {
         Ok(model) => match ContiguousLookupDecoderModel::new(alloc, &model) {

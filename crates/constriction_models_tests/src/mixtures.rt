@@ -1,4 +1,6 @@
-//! Tests of worked intervals of mixtures: the symbols from -100 to 100, with 32-bit words and a precision of 24 bits.
+//! Tests that symbols have the expected intervals under mixtures of logistic distributions.
+//!
+//! The symbols are the integers from -100 to 100. Probabilities are 32-bit words, and the precision is 24 bits.
 
 use crate::cuts::interval_of;
 use constriction_base::model::DecoderModel;
@@ -18,7 +20,7 @@ fn component(part: Part) -> Option<Component<Logistic>> {
     })
 }
 
-/// Returns whether `expected` is the interval of `symbol` under the mixture, and its first quantile finds `symbol`.
+/// Returns whether `expected` is the interval of `symbol` under the mixture, and its start decodes to `symbol`.
 fn has(components: &[Component<Logistic>], symbol: i32, expected: (u64, u64)) -> bool {
     let Ok(mixture) = Mixture::new(components) else {
         return false;
@@ -34,7 +36,7 @@ fn has(components: &[Component<Logistic>], symbol: i32, expected: (u64, u64)) ->
     found == symbol && interval_of(&model, &symbol) == Some(expected)
 }
 
-/// Returns whether [`has`] holds for a mixture of three components.
+/// Returns whether [`has`] holds for the mixture of the three components `parts`.
 fn three_have(parts: [Part; 3], symbol: i32, expected: (u64, u64)) -> bool {
     match (
         component(parts[0]),
@@ -48,7 +50,7 @@ fn three_have(parts: [Part; 3], symbol: i32, expected: (u64, u64)) -> bool {
     }
 }
 
-/// Checks the interval of a symbol under a mixture of one component.
+/// Shows that a symbol has the same interval under a mixture of one component as under the component alone.
 #[test]
 fn one_component(rt: HostRuntime) {
     let holds = match component((7, 229376, 147456)) {

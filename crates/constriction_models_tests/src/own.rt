@@ -1,4 +1,4 @@
-//! A test of a user-defined distribution, and of references to it.
+//! Tests that the quantizer accepts a user-defined distribution, and references to it.
 
 ghost use Rattle.std.proofs.Common.{arith};
 
@@ -6,7 +6,7 @@ use crate::cuts::{cuts, interval_of};
 use constriction_models::distribution::CumulativeDistribution;
 use constriction_models::quantizer::LeakyQuantizer;
 
-/// A distribution with one half far below all symbols, and one half far above.
+/// A distribution with half of its probability far below all symbols, and the other half far above them.
 #[derive(Clone, Copy)]
 struct FarEnds;
 

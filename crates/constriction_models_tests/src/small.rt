@@ -36,7 +36,7 @@ fn equal_symbols_share(rt: HostRuntime) {
     );
 }
 
-/// Returns whether the symbol `true` has the weight `weight` of 256, in an interval after that of `false`.
+/// Returns whether the symbol `true` has the weight `weight` of 256, in an interval after the interval of `false`.
 fn has_weight(weight: u32) -> bool {
     match BernoulliModel::<u32, 8>::new(weight) {
         Some(model) => {
@@ -48,7 +48,7 @@ fn has_weight(weight: u32) -> bool {
     }
 }
 
-/// Returns whether a model is refused in which `true` has the weight `weight` of 256.
+/// Returns whether the call refuses to create a model in which `true` has the weight `weight` of 256.
 fn has_nothing(weight: u32) -> bool {
     BernoulliModel::<u32, 8>::new(weight).is_none()
 }

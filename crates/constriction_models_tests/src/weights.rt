@@ -1,4 +1,4 @@
-//! Tests of weights of counts: shares, and ties.
+//! Tests that `weights_of_counts` returns the rounded shares of counts, and gives ties to the first counts.
 
 use constriction_base::weights::WeightTable;
 use constriction_models::counts::weights_of_counts;

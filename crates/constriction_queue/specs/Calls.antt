@@ -1,5 +1,5 @@
--- What a call of a range coder may answer and leave, over a backend of which only its rules are known: what it holds,
--- what a read may answer, and which errors a write and a `prepare` may answer.
+-- The possible results of a range coder's calls over any backend. The definitions use only the backend's rules: its
+-- words, the possible results of a read, and the possible errors of a write and of `prepare`.
 use Rattle.std.specs.Prelude.{◌≡◌, ℕ, ◌+◌, ◌<◌, ◌≤◌, ◌⊎◌, Bool, List, [], ◌++◌, Option, Result, Err, length, map, reverse, OnOk, OnErr, IfErr}
 use Rattle.constriction_base.specs.Steps.{Step}
 use Rattle.constriction_base.specs.Writing.{IsBegun, NotWritten, RefusesWrite}
@@ -14,75 +14,78 @@ use Rattle.constriction_queue.specs.Encoder.{Encoder, IsEncoder, HasHeads, Owes,
 use Rattle.constriction_queue.specs.Decoder.{Decoder, IsDecoder, StandsAt, Follows, BeginsOver, RefusesPoint, quantile_read, OwesRead, ReadsStep}
 use Rattle.constriction_queue.specs.SelfDelimiting.{SelfDelimits}
 
--- the words that a step owes were written
+-- The encoder writes the words that the step has to write.
 pub record IsWritten {Word B E : Type 0} (number : Word → ℕ) (writes : writing.Ghosts B Word E) (w s : ℕ) (old : Encoder B) (step : Step) (new : Encoder B) : Type 0 where
   pub owed : List ℕ
   pub owes : Owes number w s step old owed
   pub words : new.words ≡ owed ++ old.words
-  -- no more room is used than words are written
+  -- The room shrinks by at most the number of words written.
   pub room_used : writes.room old.bulk ≤ writes.room new.bulk + length owed
-  -- where none is owed, the backend isn't touched
+  -- If there is no word to write, the backend is unchanged.
   pub untouched : owed ≡ [] → new.bulk ≡ old.bulk
 
--- a call of the backend was refused, for the words that a step owes
+-- The backend refuses room for the words that the step has to write, or refuses a write.
 pub record IsRefused {Word B E S : Type 0} (number : Word → ℕ) (holds : holding.Ghosts B Word S) (writes : writing.Ghosts B Word E) (w s : ℕ) (old : Encoder B) (step : Step) (e : E) (new : Encoder B) : Type 0 where
   pub owed : List ℕ
   pub owes : Owes number w s step old owed
-  -- a beginning of them stands on the backend
+  -- The backend takes a proper beginning of these words, which may be empty.
   pub begun : IsBegun owed old.words new.words
-  -- the backend had no room for all of them
+  -- The room of the old backend is less than the number of these words.
   pub short : writes.room old.bulk < length owed
-  -- it said so before any was written; or, where asking for room makes none, a write was refused
+  -- The error comes from `prepare`, or, if `prepare` makes no room, from a write.
   pub error : writes.prepare_fails old.bulk (length owed) e ⊎ RefusesWrite number holds writes owed old.bulk e new.bulk
-  -- where no words are held, just one is owed
+  -- If no word is pending, the failed call is `prepare` for one word, or the write of this word.
   pub one : old.held ≡ [] → writes.prepare_fails old.bulk 1 e ⊎ ((writes.makes_room → ⊥) × writes.write_fails old.bulk e)
 
--- an encode of a step
+-- The possible results of encoding one symbol with this step.
 pub record EncodeCall {Word B E S : Type 0} (number : Word → ℕ) (holds : holding.Ghosts B Word S) (writes : writing.Ghosts B Word E) (w s : ℕ) (old : Encoder B) (step : Step) (answer : Result (Unit {0}) E) (new : Encoder B) : Type 0 where
-  -- before and after it is an encoder, whatever the answer
+  -- The values before and after the call satisfy the encoder's invariant, also after an error.
   pub before : IsEncoder number holds w s old
   pub after : IsEncoder number holds w s new
-  -- the run is narrowed by the step
+  -- On success, the new run is the old run after the step.
   pub narrowed : OnOk answer (run_by w s new ≡ narrowed_by w s step (run_by w s old))
-  -- the words that it owes are written, at once
+  -- On success, the words that the step has to write are written.
   pub written : OnOk answer (IsWritten number writes w s old step new)
-  -- one word more is held at most
+  -- At most one more word is pending.
   pub held : length new.held ≤ length old.held + 1
-  -- an error leaves the heads, and where `prepare` makes room the words too
+  -- An error leaves the interval and the pending words unchanged. If `prepare` makes room, it also leaves the written
+  -- words unchanged.
   pub heads : OnErr answer (HasHeads old new)
   pub kept : writes.makes_room → OnErr answer (new.words ≡ old.words)
-  -- and comes only where words are owed, from the call of the backend that asks for them, or writes them
+  -- An error comes only if there are words to write, from `prepare` or from a write.
   pub error : IfErr answer (λ e. IsRefused number holds writes w s old step e new)
 
--- a call of the backend was refused, for the words that an export owes: those held, and the seal. This holds of all the
--- words that the export would have given
+-- An export fails, because the backend refuses room for the pending words and the seal, or refuses a write. `all` holds
+-- for the list of words that a successful export would return.
 pub record ExportRefused {Word B E S : Type 0} (number : Word → ℕ) (holds : holding.Ghosts B Word S) (writes : writing.Ghosts B Word E) (all : List ℕ → Type 0) (old : Encoder B) (e : E) : Type 0 where
   pub words_are : old.words ≡ map number (holds.words old.bulk)
   pub owed : List ℕ
   pub is : all (reverse (owed ++ old.words))
   pub not_written : NotWritten number holds writes owed old.bulk e
 
--- the same of the sealed words
+-- The export of the sealed words fails (`into_compressed`).
 abbrev pub SealRefused : {Word B E S : Type 0} → (Word → ℕ) → holding.Ghosts B Word S → writing.Ghosts B Word E → ℕ → ℕ → Encoder B → E → Type 0
 SealRefused number holds writes w s old e =
     ExportRefused number holds writes (λ words. words ≡ sealed_by w s old) old e
 
--- and of words that hold whatever follows
+-- The export of words with a self-delimiting seal fails (`into_self_delimited`).
 abbrev pub SelfDelimitingRefused : {Word B E S : Type 0} → (Word → ℕ) → holding.Ghosts B Word S → writing.Ghosts B Word E → ℕ → ℕ → Encoder B → E → Type 0
 SelfDelimitingRefused number holds writes w s old e =
     ExportRefused number holds writes (SelfDelimits w s (run_by w s old)) old e
 
--- a queue's rules for reads, among those of what it holds
+-- A queue's rules for reads, taken from a record that also has the rules for its words.
 abbrev pub queue_reads : {Word B E : Type 0} → record { words : B → List Word; is_list : Type 0; reads : B → Result (Option Word) E → B → Type 0; seems_exhausted : B → Bool }
     → reading.Ghosts B Word Queue E
 queue_reads rules = record { reads = rules.reads; seems_exhausted = rules.seems_exhausted }
 
--- a decoder of an encoder's sealed words, before its first symbol: it read its point from what a backend of these words became
+-- The decoder stands before the first symbol of an encoder's sealed words. A backend `all` with these words becomes the
+-- backend `first`, from which the decoder reads its point.
 abbrev pub BeginsSealed : {Word B S R Q F : Type 0} → (Word → ℕ) → holding.Ghosts B Word S → (B → R → Type 0) → reading.Ghosts R Word Q F → ℕ → ℕ → Encoder B → Decoder R → Type 0
 BeginsSealed {B = B} {R = R} number holds becomes reads w s encoder decoder =
     (all : B) × (reverse (map number (holds.words all)) ≡ sealed_by w s encoder) × (first : R) × becomes all first × BeginsOver number reads w s first decoder
 
--- the same with what is true of every decoder; over a backend that knows its words it stands before the sealed ones
+-- The decoder satisfies `IsDecoder` and `BeginsSealed`. If `is_list` holds for its backend, it stands at the initial
+-- run of the sealed words.
 abbrev pub DecodesSealed : {Word B S R Q F : Type 0} → (Word → ℕ) → holding.Ghosts B Word S → (B → R → Type 0) → holding.Ghosts R Word Q → reading.Ghosts R Word Q F
     → ℕ → ℕ → Encoder B → Decoder R → Type 0
 DecodesSealed number holds becomes read_holds reads w s encoder decoder =
@@ -90,33 +93,35 @@ DecodesSealed number holds becomes read_holds reads w s encoder decoder =
     × (read_holds.is_list → StandsAt w s (sealed_by w s encoder) (initial s) decoder)
     × BeginsSealed number holds becomes reads w s encoder decoder
 
--- a decoder of an encoder's sealed words didn't begin: a read of its first words was refused
+-- Creating a decoder of an encoder's sealed words fails, because a read of its first words returns an error.
 abbrev pub NotBegun : {Word B S R Q F : Type 0} → (Word → ℕ) → holding.Ghosts B Word S → (B → R → Type 0) → reading.Ghosts R Word Q F → ℕ → ℕ → Encoder B → F → Type 0
 NotBegun {B = B} {R = R} number holds becomes reads w s encoder e =
     (all : B) × (reverse (map number (holds.words all)) ≡ sealed_by w s encoder) × (first rest : R) × becomes all first × RefusesPoint number reads w s first e rest
 
--- why an encoder didn't become a decoder: its words could not be sealed, or a read of the first of them was refused
+-- An encoder can't be turned into a decoder. Either its words can't be sealed (`Write`), or a read of the decoder's
+-- first words fails (`Read`).
 abbrev pub NoDecoder : {Word B S E R Q F : Type 0} → (Word → ℕ) → holding.Ghosts B Word S → writing.Ghosts B Word E → (B → R → Type 0) → reading.Ghosts R Word Q F
     → ℕ → ℕ → Encoder B → ReadWriteError F E → Type 0
 NoDecoder number holds writes becomes reads w s encoder (Write e) = SealRefused number holds writes w s encoder e
 NoDecoder number holds writes becomes reads w s encoder (Read e) = NotBegun number holds becomes reads w s encoder e
 
--- a decode at a step, of a decoder over a backend that knows its words or whose reads tell them
+-- The possible results of decoding one symbol with this step.
 pub record DecodeCall {Word B E S : Type 0} (number : Word → ℕ) (holds : holding.Ghosts B Word S) (reads : reading.Ghosts B Word S E) (w s : ℕ) (old : Decoder B) (step : Step) (answer : Result (Unit {0}) E) (new : Decoder B) : Type 0 where
-  -- before and after it is a decoder, whatever the answer
+  -- The values before and after the call satisfy the decoder's invariant, also after an error.
   pub before : IsDecoder number holds w s old
   pub after : IsDecoder number holds w s new
-  -- the quantile that is read is one of the step's
+  -- The quantile that is read lies in the interval of the step.
   pub from : step.left ≤ quantile_read s step.precision old
   pub below : quantile_read s step.precision old < step.left + step.p
-  -- from each moment of reading words it goes to the next
+  -- On success, if `is_list` holds for the backend, the decoder has reached the run after the step.
   pub read : OnOk answer (holds.is_list → Follows w s (narrowed_by w s step) old new)
-  -- and by the reads: one at most, and none where none is owed
+  -- On success, the decoder makes one read if it has to read a word, and otherwise no read.
   pub by_reads : OnOk answer (ReadsStep number reads w s step old new)
-  -- an error leaves the heads and the words
+  -- An error leaves the interval and the point unchanged. If `is_list` holds for the backend, it also leaves the words
+  -- unchanged.
   pub lower : OnErr answer (new.lower ≡ old.lower)
   pub range : OnErr answer (new.range ≡ old.range)
   pub point : OnErr answer (new.point ≡ old.point)
   pub kept : holds.is_list → OnErr answer (new.words ≡ old.words)
-  -- and is that of the one read that is owed
+  -- An error comes only if the decoder has to read a word, and it is the error of that read.
   pub error : IfErr answer (λ e. OwesRead w s step old.range × reads.reads old.bulk (Err e) new.bulk)

@@ -1,4 +1,4 @@
--- What a range decoder holds, and which quantile it reads.
+-- The value of a range decoder in contracts, and the quantile that it reads.
 use Rattle.std.specs.Prelude.{◌≡◌, ℕ, ◌+◌, ◌-◌, ◌*◌, ◌/◌, ◌%◌, ◌<◌, ◌≤◌, ◌^◌, ◌⊎◌, Bool, true, false, IsTrue, List, [], ◌∷◌, ◌++◌, Some, None, Ok, Err, map, drop, length}
 use Rattle.constriction_base.specs.Steps.{Step, IsSizes}
 use Rattle.constriction_base.specs.declared.backends.reading.Holds as holding
@@ -6,8 +6,8 @@ use Rattle.constriction_base.specs.declared.backends.reading.ReadWords as readin
 use Rattle.constriction_queue.specs.declared.reading.Placed.{Placed}
 use Rattle.constriction_queue.specs.Range.{Run, IsAt, narrowed_by, number_of_first}
 
--- a decoder: its backend, the words that are left to read, its interval, and its point (the code value of range decoders:
--- the words that were read last, as many as a state has)
+-- The value of a decoder: its backend, the remaining words, its interval, and its point. The point (code value) is the
+-- number formed by the last `s / w` words read.
 pub record Decoder (B : Type 0) : Type 0 where
   pub bulk : B
   pub words : List ℕ
@@ -15,20 +15,20 @@ pub record Decoder (B : Type 0) : Type 0 where
   pub range : ℕ
   pub point : ℕ
 
--- the decoder of these parts
+-- The value of the decoder with this interval, point and backend.
 abbrev pub decoder_of : {Word B S : Type 0} → (Word → ℕ) → holding.Ghosts B Word S → ℕ → ℕ → ℕ → B → Decoder B
 decoder_of number holds lower range point bulk = record { bulk = bulk; words = map number (holds.words bulk); lower = lower; range = range; point = point }
 
--- the same, where the point lies so far above the interval's low end
+-- The value of the decoder whose point has this distance from the lower end of the interval, modulo `2 ^ s`.
 abbrev pub decoder_at : {Word B S : Type 0} → (Word → ℕ) → holding.Ghosts B Word S → ℕ → ℕ → ℕ → ℕ → B → Decoder B
 decoder_at number holds s lower range distance bulk = decoder_of number holds lower range ((distance + lower) % 2 ^ s) bulk
 
--- and where it does so of what a step leaves
+-- The value of the decoder with the interval and the distance that a step returns, over this backend.
 abbrev pub placed_over : {Word State B S : Type 0} → (Word → ℕ) → (State → ℕ) → holding.Ghosts B Word S → ℕ → Placed State → B → Decoder B
 placed_over number state holds s placed bulk = decoder_at number holds s (state placed.lower) (state placed.range) (state placed.distance) bulk
 
--- what is true of every decoder: its sizes are allowed, the words left are those of its backend, and its interval is long
--- enough and a state, as its point is
+-- The invariant of every decoder. Its sizes are allowed, and its words are the words of its backend. The interval's
+-- length is at least `2 ^ (s - w)`. Both numbers of the interval and the point are below `2 ^ s`.
 pub record IsDecoder {Word B S : Type 0} (number : Word → ℕ) (holds : holding.Ghosts B Word S) (w s : ℕ) (d : Decoder B) : Type 0 where
   pub sizes : IsSizes w s
   pub words_are : d.words ≡ map number (holds.words d.bulk)
@@ -37,84 +37,87 @@ pub record IsDecoder {Word B S : Type 0} (number : Word → ℕ) (holds : holdin
   pub range_fits : d.range < 2 ^ s
   pub point_fits : d.point < 2 ^ s
 
--- how far the point lies above the interval's low end, modulo the numbers of a state
+-- The distance of the point from the lower end of the interval, modulo `2 ^ s`.
 abbrev pub distance : {B : Type 0} → ℕ → Decoder B → ℕ
 distance s d = (d.point + (2 ^ s - d.lower)) % 2 ^ s
 
--- the quantile that is read at a precision
+-- The quantile at the point: the distance divided by `range / 2 ^ precision`, both rounded down.
 abbrev pub quantile_read : {B : Type 0} → ℕ → ℕ → Decoder B → ℕ
 quantile_read s precision d = distance s d / (d.range / 2 ^ precision)
 
--- a decoder stands at this run of reading the words
+-- The decoder has reached this run in the words: its interval, its point and its remaining words match the run.
 abbrev pub StandsAt : {B : Type 0} → ℕ → ℕ → List ℕ → Run → Decoder B → Type 0
 StandsAt w s words r d = IsAt w s words r d.lower d.range d.point d.words
 
--- from each moment of reading words it goes to another
+-- For every list of words: if the old decoder has reached a run `r` in it, the new decoder has reached `next r`.
 abbrev pub Follows : {B : Type 0} → ℕ → ℕ → (Run → Run) → Decoder B → Decoder B → Type 0
 Follows w s next old new = (words : List ℕ) (r : Run) → StandsAt w s words r old → StandsAt w s words (next r) new
 
--- a step's interval grows by a word, which is read
+-- The symbol's part of the interval is shorter than `2 ^ (s - w)`, so the decoder has to read a word.
 abbrev pub OwesRead : ℕ → ℕ → Step → ℕ → Type 0
 OwesRead w s e range = range / 2 ^ e.precision * e.p < 2 ^ (s - w)
 
--- ---- words that are read
+-- ---- reads
 
--- one word was read, as a number; where none was left, it is 0
+-- One read returns a word with the number `x`, or the read returns no word and `x` is 0.
 abbrev pub TakesWord : {Word E B S : Type 0} → (Word → ℕ) → reading.Ghosts B Word S E → B → ℕ → B → Type 0
 TakesWord {Word} number reads old x new = ((word : Word) × reads.reads old (Ok (Some word)) new × (x ≡ number word)) ⊎ (reads.reads old (Ok None) new × (x ≡ 0))
 
--- these words were, one after another, and each read gave one
+-- Successive reads return the words with these numbers, one word a read.
 abbrev pub TakesWords : {Word E B S : Type 0} → (Word → ℕ) → reading.Ghosts B Word S E → B → List ℕ → B → Type 0
 TakesWords number reads old [] new = new ≡ old
 TakesWords {Word} {B = B} number reads old (x ∷ xs) new =
     (word : Word) × (between : B) × reads.reads old (Ok (Some word)) between × (x ≡ number word) × TakesWords number reads between xs new
 
--- the next word of a point, and whether none is left: it is 0 then, and where that was known no read is made
+-- Takes `x` as the next word of a point. The two `Bool`s state whether the words had ended before, and whether they
+-- have ended after. If the words have ended after, `x` is 0. If they had ended before, no read is made.
 abbrev pub TakesNext : {Word E B S : Type 0} → (Word → ℕ) → reading.Ghosts B Word S E → B → Bool → ℕ → Bool → B → Type 0
 TakesNext {Word} number reads old false x false new = (word : Word) × reads.reads old (Ok (Some word)) new × (x ≡ number word)
 TakesNext number reads old true x false new = ⊥
 TakesNext number reads old false x true new = reads.reads old (Ok None) new × (x ≡ 0)
 TakesNext number reads old true x true new = (new ≡ old) × (x ≡ 0)
 
--- the point is the number of a backend's first words, as many as a state has, with zeros past their end; the others are
--- left
+-- The point is the number formed by the first `s / w` words of the old backend, with zero words past the end. The new
+-- backend has the words after them.
 abbrev pub HasPoint : {Word B S : Type 0} → (Word → ℕ) → holding.Ghosts B Word S → ℕ → ℕ → B → ℕ → B → Type 0
 HasPoint number holds w s old point new =
     (point ≡ number_of_first (2 ^ w) (s / w) (map number (holds.words old))) × (map number (holds.words new) ≡ drop (s / w) (map number (holds.words old)))
 
--- the same by the reads: as many words were read; or fewer, behind which one read more found none, and that was the last
+-- The reads that form a point. Either `s / w` reads return words, or fewer reads return words and the next read, the
+-- last one, returns no word. The point is the number formed by these words, with zero words for the missing words.
 abbrev pub ReadsPoint : {Word E B S : Type 0} → (Word → ℕ) → reading.Ghosts B Word S E → ℕ → ℕ → B → ℕ → B → Type 0
 ReadsPoint {B = B} number reads w s old point new =
     (xs : List ℕ) × (((length xs ≡ s / w) × TakesWords number reads old xs new)
     ⊎ ((length xs < s / w) × ((end : B) × TakesWords number reads old xs end × reads.reads end (Ok None) new)))
     × (point ≡ number_of_first (2 ^ w) (s / w) xs)
 
--- a read was refused, of the words that a point needs: fewer reads were made before, just these, and each gave a word
+-- A read of a word for a point returns the error `e`. Fewer than `s / w` reads come before, and each returns a word.
 abbrev pub RefusesPoint : {Word E B S : Type 0} → (Word → ℕ) → reading.Ghosts B Word S E → ℕ → ℕ → B → E → B → Type 0
 RefusesPoint {B = B} number reads w s old e new =
     (xs : List ℕ) × (length xs < s / w) × ((before : B) × TakesWords number reads old xs before × reads.reads before (Err e) new)
 
--- a decoder before its first symbol, which read its point from the first backend
+-- The decoder has decoded no symbol, and it reads its point from the backend `first`.
 abbrev pub BeginsOver : {Word E B S : Type 0} → (Word → ℕ) → reading.Ghosts B Word S E → ℕ → ℕ → B → Decoder B → Type 0
 BeginsOver number reads w s first d = (d.lower ≡ 0) × (d.range + 1 ≡ 2 ^ s) × ReadsPoint number reads w s first d.point d.bulk
 
--- where these words come next, a moment of reading leads to another
+-- If the old decoder has reached a run `r` and its next words are `taken`, the new decoder has reached `next r`. The
+-- words after `taken` are the remaining words of the new decoder.
 abbrev pub LeadsOn : {B : Type 0} → ℕ → ℕ → (Run → Run) → List ℕ → Decoder B → Decoder B → Type 0
 LeadsOn w s next taken old new =
     (ws : List ℕ) (r : Run) (rest : List ℕ) → IsAt w s ws r old.lower old.range old.point (taken ++ rest) → IsAt w s ws (next r) new.lower new.range new.point rest
 
--- by the reads: just one word was read, where one is owed, and none else
+-- The decoder goes from each run `r` to `next r`. It makes exactly one read if `owes` holds, and otherwise no read.
 abbrev pub ReadsOn : {Word E B S : Type 0} → (Word → ℕ) → reading.Ghosts B Word S E → ℕ → ℕ → (Run → Run) → Type 0 → Decoder B → Decoder B → Type 0
 ReadsOn number reads w s next owes old new =
     (owes × ((x : ℕ) × TakesWord number reads old.bulk x new.bulk × LeadsOn w s next (x ∷ []) old new))
     ⊎ ((owes → ⊥) × (new.bulk ≡ old.bulk) × LeadsOn w s next [] old new)
 
--- the same of a step
+-- The decoder takes the step. It makes exactly one read if it has to read a word, and otherwise no read.
 abbrev pub ReadsStep : {Word E B S : Type 0} → (Word → ℕ) → reading.Ghosts B Word S E → ℕ → ℕ → Step → Decoder B → Decoder B → Type 0
 ReadsStep number reads w s step old new = ReadsOn number reads w s (narrowed_by w s step) (OwesRead w s step old.range) old new
 
--- the words may have ended: the backend says so of its own, and the point lies where a seal puts it, or no symbol
--- was decoded
+-- All encoded symbols may have been decoded. The backend's `maybe_exhausted` returns `true`. In addition, no symbol was
+-- decoded, or the point is as close to the lower end of the interval as after a seal.
 abbrev pub MayBeExhausted : {B : Type 0} → ℕ → ℕ → (B → Bool) → Decoder B → Type 0
 MayBeExhausted w s seems_exhausted d =
     IsTrue (seems_exhausted d.bulk) × ((d.range + 1 ≡ 2 ^ s) ⊎ (distance s d + 1 < 2 * 2 ^ (s - w)))

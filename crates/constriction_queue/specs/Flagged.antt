@@ -1,4 +1,4 @@
--- Symbols of which one is a flag: up to and with the first flag they stand under one model, behind it under another.
+-- Symbols with a flag: the first model applies up to and including the first flag, and the second model after it.
 use Rattle.std.specs.Prelude.{◌≡◌, ℕ, ◌≤◌, ◌^◌, ◌==◌, ◌||◌, Bool, false, List, [], ◌∷◌, ◌++◌, Result, Err, MatchResult, if◌then◌else◌}
 use Rattle.constriction_base.specs.Models.{Model, Item, item_of, items_of}
 use Rattle.constriction_base.specs.declared.backends.reading.Holds as holding
@@ -16,33 +16,33 @@ use Rattle.constriction_queue.specs.Encoder.{Encoder}
 use Rattle.constriction_queue.specs.declared.decoder.symbols.DecoderFrontendError.{DecoderFrontendError}
 use Rattle.constriction_queue.specs.declared.decoder.symbols.DecoderFrontendError.TheVariants as frontend_error
 
--- the symbols, each under its model
+-- The symbols with their models: `first` up to and including the first flag, and `second` after it.
 abbrev pub flagged : ℕ → Model ℕ → Model ℕ → List ℕ → List (Item ℕ)
 flagged flag first second [] = []
 flagged flag first second (symbol ∷ symbols) = item_of first symbol ∷ (if symbol == flag then items_of second symbols else flagged flag first second symbols)
 
--- the flag is among them
+-- Whether the flag is one of the symbols.
 abbrev pub has_flag : ℕ → List ℕ → Bool
 has_flag flag [] = false
 has_flag flag (symbol ∷ symbols) = symbol == flag || has_flag flag symbols
 
--- the model of the next symbol, by whether the flag has come
+-- The model of the next symbol: `second` if the flag has come, and otherwise `first`.
 abbrev pub next_model : Bool → Model ℕ → Model ℕ → Model ℕ
 next_model switched first second = if switched then second else first
 
 -- ---- decodes
 
--- a decoder that changes its model behind a flag
+-- The value of a `FlagSwitch`: its decoder, the flag, and whether the flag was decoded.
 pub record Switch (B : Type 0) : Type 0 where
   pub decoder : Decoder B
   pub flag : ℕ
   pub switched : Bool
 
--- the words hold no symbol of a model of the precision
+-- The words encode no symbol of any model with this precision, because the quantile is `2 ^ precision` or more.
 abbrev pub HoldsNone : {B : Type 0} → ℕ → ℕ → Decoder B → Type 0
 HoldsNone s precision decoder = 2 ^ precision ≤ quantile_read s precision decoder
 
--- a decode under a model
+-- The possible results of decoding one symbol with this model.
 abbrev pub DecodesUnder : {Word B E S : Type 0} → (Word → ℕ) → holding.Ghosts B Word S → reading.Ghosts B Word S E → ℕ → ℕ
     → Model ℕ → Decoder B → Result ℕ (CoderError DecoderFrontendError E) → Decoder B → Type 0
 DecodesUnder number holds reads w s model old answer new =
@@ -52,14 +52,14 @@ DecodesUnder number holds reads w s model old answer new =
 
 -- ---- encodes
 
--- an encode of a symbol under its model
+-- The possible results of encoding one symbol with its model.
 abbrev pub EncodesItem : {A Word B E S : Type 0} → (Word → ℕ) → holding.Ghosts B Word S → writing.Ghosts B Word E → ℕ → ℕ
     → Encoder B → Item A → Result (Unit {0}) (CoderError DefaultEncoderFrontendError E) → Encoder B → Type 0
 EncodesItem number holds writes w s old item answer new =
     EncodesSymbol (ByBackend (EncodeCall number holds writes w s)) (λ error. error ≡ ImpossibleSymbol)
     item.model.precision item.model.table item.symbol old answer new
 
--- steps at the items in order up to the first that is refused: exactly the items before it are coded
+-- The items are coded in order. On an error, exactly the items before the refused item are coded.
 abbrev pub StepsToFault : {C A E : Type 0} → (C → A → Result (Unit {0}) E → C → Type 0) → C → List A → Result (Unit {0}) E → C → Type 0
 StepsToFault {C} {A} step old items answer new =
     MatchResult answer

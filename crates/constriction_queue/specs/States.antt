@@ -1,17 +1,17 @@
--- What a state of a range coder is to those who read its contracts: the interval as two numbers.
+-- The interval of a range coder as two numbers, for contracts.
 use Rattle.std.specs.Prelude.{ℕ, ◌≡◌, ◌^◌, ◌%◌}
 use Rattle.constriction_queue.specs.declared.state.RangeCoderState.{RangeCoderState}
 use Rattle.constriction_queue.specs.Range.{Run}
 
--- where the interval begins
+-- The lower end of the interval.
 abbrev pub lower_of : {Word State WordNonZero StateNonZero : Type 0} {word : _} {state : _} → RangeCoderState Word State WordNonZero StateNonZero word state → ℕ
 lower_of {state = state} interval = state.number interval.lower
 
--- how long it is
+-- The length of the interval.
 abbrev pub range_of : {Word State WordNonZero StateNonZero : Type 0} {word : _} {state : _} → RangeCoderState Word State WordNonZero StateNonZero word state → ℕ
 range_of {state = state} interval = state.number interval.range
 
--- the position of a run: how many words left it, and its interval as states tell it
+-- The position of a run: the number of words moved out, and the interval, with its lower end modulo `2 ^ s`.
 pub record IsPosition (s : ℕ) (r : Run) (place lower range : ℕ) : Type 0 where
   pub place_is : place ≡ r.moves
   pub lower_is : lower ≡ r.low % 2 ^ s

@@ -1,32 +1,31 @@
--- What coding symbols, each under its model, does to a run of the range coder, and which symbols are read from words.
+-- How encoding and decoding symbols, each with its own model, change the run of a range coder.
 use Rattle.std.specs.Prelude.{◌≡◌, ℕ, ◌+◌, ◌-◌, ◌*◌, ◌/◌, ◌<◌, ◌^◌, ◌⊎◌, List, [], drop}
 use Rattle.constriction_base.specs.Steps.{InTurn}
 use Rattle.constriction_base.specs.Tables.{AtEntry}
 use Rattle.constriction_base.specs.Models.{Model, Item}
 use Rattle.constriction_queue.specs.Range.{Run, Takes, narrowed_by, offset}
 
--- an encode of the symbol leads from the old run to the new one: the run is narrowed to the symbol's entry
+-- Encoding the symbol leads from the old run to the new run: the interval is narrowed to the symbol's entry.
 abbrev pub Narrows : {S : Type 0} → ℕ → ℕ → Model S → S → Run → Run → Type 0
 Narrows w s model symbol old new = AtEntry model.precision model.table symbol (λ e. new ≡ narrowed_by w s e old)
 
--- a decode of the symbol from these words leads from the old run to the new one: the symbol's entry holds the quantile that
--- is read at the old run, which is narrowed to it
+-- Decoding the symbol from these words leads from the old run to the new run. The quantile that is read at the old run
+-- lies in the symbol's entry, and the interval is narrowed to this entry.
 abbrev pub Finds : {S : Type 0} → ℕ → ℕ → List ℕ → Model S → S → Run → Run → Type 0
 Finds w s words model symbol old new = AtEntry model.precision model.table symbol (λ e. Takes w s words e old × (new ≡ narrowed_by w s e old))
 
--- encodes of the items, one after the other, lead from the old run to the new one
+-- Encoding the items in order leads from the old run to the new run.
 abbrev pub NarrowsAll : {S : Type 0} → ℕ → ℕ → List (Item S) → Run → Run → Type 0
 NarrowsAll w s items old new = InTurn (λ item. Narrows w s item.model item.symbol) items old new
 
--- decodes of the items from these words, one after the other, lead from the old run to the new one
+-- Decoding the items from these words, in order, leads from the old run to the new run.
 abbrev pub FindsAll : {S : Type 0} → ℕ → ℕ → List ℕ → List (Item S) → Run → Run → Type 0
 FindsAll w s words items old new = InTurn (λ item. Finds w s words item.model item.symbol) items old new
 
--- their number lies where a seal puts it, or the run is that of no symbol
+-- No symbol was coded, or the number read is as close to the low end of the interval as after a seal.
 abbrev pub NearsEnd : ℕ → ℕ → List ℕ → Run → Type 0
 NearsEnd w s words r = (r.range + 1 ≡ 2 ^ s) ⊎ (offset w s words r + 1 < 2 * 2 ^ (s - w))
 
--- the words may have ended where reading them came to this run: none is left, and their number lies where a seal puts it,
--- or the run is that of no symbol
+-- All encoded symbols may have been decoded at this run: no word is left to read, and `NearsEnd` holds.
 abbrev pub MayEnd : ℕ → ℕ → List ℕ → Run → Type 0
 MayEnd w s words r = (drop (r.moves + s / w) words ≡ []) × NearsEnd w s words r

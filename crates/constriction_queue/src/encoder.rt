@@ -2,7 +2,7 @@
 //!
 //! - [`symbols`]: the step, `encode_symbol`.
 //! - [`compressed`]: exporting an encoder's words, and counting them.
-//! - [`guard`]: the compressed words while a guard lends them.
+//! - [`guard`]: guards that lend the compressed words.
 //! - [`lending`]: lending the compressed words to a function.
 //! - [`through_guard`]: a decoder that borrows the encoder and reads its compressed words.
 //! - [`decoders`]: turning an encoder into a decoder.

@@ -88,7 +88,9 @@ impl<Word: WordOf<State>, State: BitArray> RangeCoderState<Word, State> {
         })
     }
 
-    /// Creates the interval of `range` numbers from `lower` on. The caller proves that the interval is long enough.
+    /// Creates the interval of `range` numbers from `lower` on.
+    ///
+    /// The caller proves that `range` is at least `2^(State::BITS - Word::BITS)`.
     #[inline]
     pub(crate) fn long(lower: State, range: State) -> Self
         requires { 2 ^ (State.BITS - Word.BITS) ≤ State.number range }

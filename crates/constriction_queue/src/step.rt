@@ -110,7 +110,7 @@ pub fn narrowed<Word: WordOf<State>, State: BitArray>(
     }
 }
 
-/// The result of a shift: the interval, its pending words, and the word that is to be written, if there is one.
+/// The result of a renormalization: the interval, its pending words, and the word to be written, if there is one.
 #[derive(Drop)]
 pub struct Shifted<Word, State> {
     pub lower: State,
@@ -119,7 +119,9 @@ pub struct Shifted<Word, State> {
     pub top: Option<Word>,
 }
 
-/// Extends the interval by a word if `range` is below `2^(State::BITS - Word::BITS)`.
+/// Renormalizes the interval: shifts it by one word if `range` is below `2^(State::BITS - Word::BITS)`.
+///
+/// The word shifted out of `lower` has to be written (`top`), or it becomes pending.
 #[inline(always)]
 pub fn grow<Word: WordOf<State>, State: BitArray>(
     lower: State,
@@ -178,7 +180,10 @@ pub fn grow<Word: WordOf<State>, State: BitArray>(
     }
 }
 
-/// Encodes a step: writes the words that it completes, and returns the new interval and situation.
+/// Encodes the symbol with the start `left` and the weight `p`, and returns the new interval and pending words.
+///
+/// The call writes the words that no later carry can change. It returns the backend's error if the backend refuses room
+/// for these words or refuses a write.
 #[inline(always)]
 pub fn step_onto<Word: WordOf<State>, State: BitArray, Backend: WriteWords<Word>>(
     bulk: &mut Backend,

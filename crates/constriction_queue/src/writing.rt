@@ -121,7 +121,7 @@ fn write_parts<Word: BitArray, Backend: WriteWords<Word>>(
     write_word(bulk, last)
 }
 
-/// Writes the words of `held`, then `top`, then `last`, then the words of `behind`. Skips what is `None`.
+/// Writes the words of `held`, then `top`, then `last`, then the words of `behind`. Skips each `None`.
 ///
 /// If there is any word to write, the call first asks for room for all of them.
 pub fn write_owed_behind<Word: BitArray, Backend: WriteWords<Word>>(

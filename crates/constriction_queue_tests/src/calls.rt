@@ -1,4 +1,4 @@
-//! Tests of the public calls that no worked row makes, each call once.
+//! Tests of the public calls that the worked examples in `rows.rt` don't make, each call once.
 
 use crate::coders::{INVERTING, Table, small, small_of};
 use crate::decoding::Lent;

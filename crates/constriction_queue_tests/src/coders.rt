@@ -15,10 +15,10 @@ use constriction_words::{BitArray, WordOf};
 use std::alloc::Global;
 use std::test::Fail;
 
-/// The encoder of most tests.
+/// The encoder of most tests, with 8-bit words and 16-bit states.
 pub type Coder = RangeEncoder<u8, u16>;
 
-/// The table of most tests.
+/// The table of most tests, with a precision of 8 bits.
 pub type Table = WeightTable<u8, 8>;
 
 /// The weights of a table under which symbol 1 makes an encoder hold a word back.
@@ -27,7 +27,7 @@ pub const INVERTING: &[u8] = &[127, 1, 127, 1];
 /// The weights of a table, and a script.
 pub type Part<'a, Probability> = (&'a [Probability], &'static str);
 
-/// Returns the error of a test for the first act that failed, if there is one.
+/// Turns the text of the first act that failed into an error of the test. Returns `Ok` if no act failed.
 pub fn said(failed: Option<&'static str>) -> Result<(), Fail> {
     match failed {
         Some(act) => Err(Fail::from(act)),

@@ -1,4 +1,6 @@
-//! The interpreter of scripts on decoders. Besides the acts of `constriction_scripts::taking`, it runs these acts:
+//! The interpreter of scripts on decoders.
+//!
+//! Besides the acts of `constriction_scripts::taking`, the interpreter runs these acts:
 //!
 //! - `at` compares the interval's lower end and length.
 //! - `stands` compares the interval, the point, and the number of words left.
@@ -28,7 +30,7 @@ pub type Lent<'a, Word, State> = RangeDecoder<Word, State, Cursor<Word, &'a [Wor
 
 /// A decoder that owns its words.
 ///
-/// Scripts use this type, because the checker has no proof of a generic call on a borrowing decoder that returns text.
+/// Scripts use this type, because the checker can't prove generic calls on a borrowing decoder that return text.
 pub type Owning<Word, State> = RangeDecoder<Word, State, Cursor<Word, Vec<Word>>>;
 
 /// Returns whether the decoder's interval, point and number of words left are the numbers of `act`.
@@ -102,7 +104,7 @@ where
     take_by(alloc, coder, model, act).unwrap_or(OTHER) == act.answer
 }
 
-/// Returns whether the answer that stands for `is_so` is the answer that `act` expects.
+/// Returns whether `act` expects the answer of a check with the result `is_so`.
 fn tells(is_so: bool, act: &Act<'_>) -> bool {
     answer_if(is_so) == act.answer
 }

@@ -1,5 +1,6 @@
-//! The interpreter of scripts on encoders over vectors. Besides the acts of `constriction_scripts::putting`, it runs
-//! these acts:
+//! The interpreter of scripts on encoders over vectors.
+//!
+//! Besides the acts of `constriction_scripts::putting`, the interpreter runs these acts:
 //!
 //! - `clear` clears the encoder. `of` makes an encoder over words. `parts` makes an encoder from an interval, a number
 //!   of held words, the first held word, and words. `again` takes the encoder apart and puts it together again.
@@ -47,7 +48,7 @@ where
     mem::replace(encoder, RangeEncoder::new(alloc))
 }
 
-/// Makes an encoder from the parts in `numbers`. Returns the answer.
+/// Replaces the encoder by an encoder with the parts in `numbers`. Returns the answer.
 ///
 /// The answer is `short` if the interval is too short, and `unfit` if the parts don't fit together.
 fn make_parts<Word, State>(
@@ -213,7 +214,7 @@ where
     act.symbols.first() == Some(&place) && is_interval(state, act.numbers, 1)
 }
 
-/// Returns whether `numbers` are the number of held words and the first held word, by taking a clone apart.
+/// Takes a clone apart, and returns whether `numbers` are the number of held words and the first held word.
 fn has_held<Word, State>(encoder: &RangeEncoder<Word, State>, numbers: &[u128]) -> bool
 where
     Word: WordOf<State> + Number,

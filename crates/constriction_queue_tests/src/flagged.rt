@@ -1,4 +1,4 @@
-//! Symbols under two models in one stream. The flag is symbol 1.
+//! Tests of symbols under two models in one stream, where symbol 1 is the flag.
 //!
 //! The first model has a precision of 8 bits, and codes the symbols up to the flag and the flag itself. The second
 //! model has a precision of 4 bits, and codes the symbols after the flag.
@@ -12,7 +12,7 @@ use constriction_stream::encoding::Encode;
 use std::alloc::Global;
 use std::test::Fail;
 
-/// A switch over borrowed words.
+/// A flag switch that decodes from borrowed words.
 pub type Switch<'a> = FlagSwitch<u8, u16, Cursor<u8, &'a [u8]>, 8, 4>;
 
 /// The table of the symbols up to the flag, and the table of the symbols after it.
@@ -70,7 +70,7 @@ pub fn come_from(words: &[u8], tables: &Tables, symbols: &[usize], switched: boo
     }
 }
 
-/// Encodes `symbols` and decodes them. Returns whether the words are `words` and the symbols are the same.
+/// Encodes `symbols` with a new encoder. Returns whether the words are `words`, and [`come_from`] returns `true`.
 pub fn come_back(
     alloc: Global,
     tables: &Tables,

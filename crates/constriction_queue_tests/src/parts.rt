@@ -21,7 +21,9 @@ where
         && numbers.get(at.saturating_add(1)) == Some(&State::from_nonzero(state.range()).shown())
 }
 
-/// Returns the interval of the two numbers from `numbers[at]` on, if it is long enough.
+/// Returns the interval with the lower end `numbers[at]` and the length in the next number.
+///
+/// Returns `None` if a number is missing, or if the interval is too short.
 pub fn state_of<Word, State>(numbers: &[u128], at: usize) -> Option<RangeCoderState<Word, State>>
 where
     Word: WordOf<State>,

@@ -1,9 +1,12 @@
-//! Tests of calls over a vector with requests for memory refused, one at a time.
+//! Tests of calls over a vector, where one request for memory is refused.
 //!
-//! `tests/refused-memory` runs these tests once for each request for memory that they make, and refuses it. A test then
-//! fails with the name of the call that made the request, if the call reported that there was no memory, left the coder
-//! as it must, and succeeded when it was made again. A test fails with `Memory` if the test itself made the request. If
-//! no request is refused, a test passes.
+//! `tests/refused-memory` runs these tests once for each request for memory that they make, and refuses this request. A
+//! test passes if no request is refused. It fails with `Memory` if the test itself made the refused request. It fails
+//! with the name of a call if all of this is true:
+//!
+//! - The call made the refused request, and reported that there was no memory.
+//! - The call left the coder as the test expects.
+//! - The same call succeeded when the test made it again.
 
 use crate::coders::{Coder, INVERTING, Table};
 use crate::encoding::{encode_by, follow};
@@ -28,7 +31,7 @@ struct Call {
     act: &'static str,
     /// The script that checks the encoder after a refusal, and makes the rest of the call.
     kept: &'static str,
-    /// The script that checks the encoder in the end.
+    /// The script that checks the encoder after the whole call.
     done: &'static str,
 }
 
@@ -53,7 +56,8 @@ fn does(alloc: Global, encoder: &mut Coder, table: &Table, text: &'static str) -
 
 /// Makes a call and checks the encoder. Returns the error of the test, or `DONE`.
 ///
-/// If memory is refused, the function makes the rest of the call. The error is then the call's name.
+/// If the call is refused memory, the function checks the encoder, makes the rest of the call, and returns the call's
+/// name.
 fn comes_of(alloc: Global, encoder: &mut Coder, table: &Table, call: &Call) -> &'static str {
     if goes(alloc, encoder, table, START) != DONE {
         return MEMORY;
@@ -70,14 +74,14 @@ fn comes_of(alloc: Global, encoder: &mut Coder, table: &Table, call: &Call) -> &
     }
 }
 
-/// The names and acts of the list calls. The second symbol owes two words, and the vector has no room for them.
+/// The names and acts of the list calls. The second symbol takes two words, for which the vector has no room.
 const LISTS: &[(&str, &str)] = &[
     ("encode_iid_symbols", "list 1 3 1"),
     ("encode_symbols", "pairs 1 3 1"),
     ("try_encode_symbols", "items 1 3 1"),
 ];
 
-/// The other calls.
+/// The calls other than list calls, with the scripts that check the coder.
 const CALLS: &[Call] = &[
     Call {
         name: "encode_symbol",
@@ -159,7 +163,7 @@ fn refused_requests_of_calls(rt: HostRuntime) -> Result<(), Fail> {
     }
 }
 
-/// Exports an encoder with an act, and exports `copy` if there was no memory. Returns the test's error, or `DONE`.
+/// Exports an encoder with an act, or exports `copy` if there is no memory. Returns the test's error, or `DONE`.
 fn take_or_copy(
     alloc: Global,
     encoder: &mut Coder,

@@ -1,4 +1,4 @@
-//! Tests of the worked rows.
+//! Tests of worked examples: scripts that check exact words and intervals.
 
 use crate::coders::{
     Coder, INVERTING, Table, decode, said, small, small_of, tall, tall_of, wide, wide_of,
@@ -45,7 +45,7 @@ fn range_inverted(rt: HostRuntime) -> Result<(), Fail> {
     )
 }
 
-/// Checks a carry, which adds 1 to the held word. The interval ends exactly at the end of the states.
+/// Checks a carry, which adds 1 to the held word. Afterwards the interval ends exactly at `2^16`.
 #[test]
 fn range_carry(rt: HostRuntime) -> Result<(), Fail> {
     small(
@@ -102,9 +102,9 @@ fn range_clear(rt: HostRuntime) -> Result<(), Fail> {
     )
 }
 
-/// Checks a seal that needs a zero word, because the interval lies within the values of one top word.
+/// Checks a seal that needs a zero word, because the interval doesn't contain all values of any top word.
 ///
-/// With the zero word, the symbols are decoded whatever words follow. Without it, another symbol is decoded.
+/// With the zero word, the symbols are decoded whatever words follow. If 255 replaces it, another symbol is decoded.
 #[test]
 fn range_zero_word(rt: HostRuntime) -> Result<(), Fail> {
     let first: &[u8] = &[129, 127];
@@ -359,7 +359,7 @@ fn range_forgotten_guard(rt: HostRuntime) -> Result<(), Fail> {
 
 /// Encodes three symbols over `buf`, which has room for one word. Returns whether the third symbol is refused.
 ///
-/// The third symbol owes two words. The first word is written, and the second word finds no room.
+/// The encoder must write two words for the third symbol. It writes the first word, and the second finds no room.
 fn is_full(buf: &mut [u8], table: &Table) -> bool {
     let words: Cursor<u8, &mut [u8]> = Cursor::new_at_write_beginning(buf);
     let mut encoder: RangeEncoder<u8, u16, Cursor<u8, &mut [u8]>> =
@@ -372,7 +372,7 @@ fn is_full(buf: &mut [u8], table: &Table) -> bool {
         && is_situation(situation, &[2, 126])
 }
 
-/// Checks that an encode with room for one of two owed words writes the first word and keeps the interval.
+/// Checks that an encode with room for one of its two words writes the first word and keeps the interval.
 #[test]
 fn range_cursor_full(rt: HostRuntime) -> Result<(), Fail> {
     let table: Table = WeightTable::new(rt.alloc(), INVERTING)?;

@@ -1,4 +1,4 @@
-//! A backend that passes a limited number of calls, and refuses all later calls.
+//! A backend that accepts a limited number of calls, and refuses all later calls.
 
 ghost use Rattle.std.specs.Prelude.{◌≡◌, ◌<◌, ◌≤◌, true, false, reverse};
 ghost use Rattle.constriction_base.specs.laws.Room.{within, no_room_at};
@@ -11,12 +11,12 @@ use constriction_base::backends::{
 };
 use std::alloc::{AllocError, Global};
 
-/// The reason why a backend refused a call.
+/// The reason why a backend refuses a call.
 #[derive(Debug, Clone, Copy, PartialEq, Eq)]
 pub enum Refused {
-    /// The budget had no calls left.
+    /// The budget has no calls left.
     Call,
-    /// There was no memory.
+    /// There is no memory.
     Memory,
 }
 

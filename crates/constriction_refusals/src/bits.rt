@@ -108,7 +108,7 @@ fn add_number<E: Drop>(number: Result<u8, CoderError<E, Refused>>, sum: &mut Sum
     }
 }
 
-/// Adds what an iterator returned to `sum`: a number, an error, or 3 for its end.
+/// Adds the answer of an iterator to `sum`: a number, an error, or 3 if the iterator has ended.
 fn add_given<E: Drop>(given: Option<Result<u8, CoderError<E, Refused>>>, sum: &mut Sum) {
     match given {
         Some(number) => add_number(number, sum),
@@ -128,7 +128,7 @@ fn reads_list<S: Semantics, R: ReadBitStream<S, ReadError = Refused>>(
     }
 }
 
-/// Reads with the call `call`, also after a refusal, and adds the outcomes to `sum`.
+/// Reads bits or numbers with the call `call`, also after a refusal, and adds the outcomes to `sum`.
 fn reads<S: Semantics, R: ReadBitStream<S, ReadError = Refused>>(
     stream: &mut R,
     call: Read,

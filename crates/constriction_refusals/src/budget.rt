@@ -1,8 +1,8 @@
-//! The number of calls that backends pass before they refuse all later calls.
+//! The number of calls that backends accept before they refuse all later calls.
 
 use std::cell::Cell;
 
-/// The number of calls left to the backends that share this budget, and a sum of what the backends took.
+/// The number of calls left to the backends that share this budget, and the sum of the numbers that they note.
 #[derive(Drop)]
 pub struct Budget {
     calls: u64,
@@ -26,7 +26,7 @@ impl Budget {
         }
     }
 
-    /// Uses one call of the budget. If no call is left, returns `false` and records a refusal.
+    /// Uses one call of the budget and returns `true`. If no call is left, returns `false` and records a refusal.
     pub fn passes(&self) -> bool {
         match self.left.get().checked_sub(1) {
             Some(left) => {

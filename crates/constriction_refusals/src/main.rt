@@ -3,13 +3,18 @@
 //! Among the list calls, the program makes only the calls with one model or one codebook. The other list calls take the
 //! same steps, as their contracts say.
 //!
-//! The program makes each call over backends that pass 0, 1, 2, .. calls, until a run meets no refusal. It does so
-//! twice: with backends on which `prepare` makes room, and with backends on which `prepare` makes no room.
+//! The program makes each call in several runs. In run `n`, counted from 0, the backends accept `n` calls and refuse
+//! all later calls. The last run is the first one without a refusal. The program does so twice: with backends on which
+//! `prepare` makes room, and with backends on which `prepare` makes no room.
 //!
-//! A sum that depends on the order collects each answer, the coder's numbers, the words that the backends hold
-//! afterwards, the words that backends took, and the number of words that each `prepare` asked for. The program prints
-//! a line for each call: the number of runs, and the sum. `tests/refused-requests` computes the sums separately, from
-//! the definitions.
+//! The program prints a line for each call: the number of runs, and a sum that depends on the order of its numbers. The
+//! sum collects:
+//!
+//! - Each answer, and the coder's numbers.
+//! - The words that the backends hold after the call.
+//! - The words that the backends took, and the number of words that each `prepare` asked for.
+//!
+//! `tests/refused-requests` computes the sums separately, from the definitions.
 #![tactic(auto)]
 
 mod backend;
@@ -39,10 +44,10 @@ enum Case {
     Bits(bits::Form),
 }
 
-/// The words that each backend begins with.
+/// The words that each backend begins with, except the backend of a chain coder's remainders.
 const WORDS: [u8; 5] = [9, 200, 31, 7, 1];
 
-/// The words that the remainders of a chain coder begin with.
+/// The words that the backend of a chain coder's remainders begins with.
 const REMAINDERS: [u8; 4] = [77, 3, 250, 18];
 
 /// All calls, with their names.
@@ -254,7 +259,7 @@ fn run(
     Ok(())
 }
 
-/// Makes the call `case` over backends that pass 0, 1, 2, .. calls, until a run meets no refusal.
+/// Makes the call `case` over backends that accept 0, 1, 2, .. calls, until a run meets no refusal.
 ///
 /// Returns `false` if each of 100 runs meets a refusal.
 fn run_all(

@@ -97,7 +97,7 @@ where
     }
 }
 
-/// Adds what an iterator returned to `sum`: a symbol, an error, or 3 for its end.
+/// Adds the answer of an iterator to `sum`: a symbol, an error, or 3 if the iterator has ended.
 fn add_given<F: Drop, E: Drop>(given: Option<Result<usize, CoderError<F, E>>>, sum: &mut Sum) {
     match given {
         Some(symbol) => add_symbol(symbol, sum),

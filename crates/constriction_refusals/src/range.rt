@@ -36,7 +36,7 @@ fn add_interval(state: RangeCoderState<u8, u32>, sum: &mut Sum) {
     sum.add(state.range().get() as u64);
 }
 
-/// Adds the interval, the words written and the held words to `sum`.
+/// Adds to `sum` the interval, the words written, and the held words, which a carry may still change.
 fn add_encoder(encoder: Encoder<'_>, sum: &mut Sum) {
     let (backend, state, situation) = encoder.into_raw_parts();
     add_interval(state, sum);
@@ -50,7 +50,7 @@ fn add_encoder(encoder: Encoder<'_>, sum: &mut Sum) {
     }
 }
 
-/// Adds the interval, the point and the words still to read to `sum`.
+/// Adds to `sum` the interval, the point (the words looked at, as one number) and the words still to read.
 fn add_decoder(decoder: Decoder<'_>, sum: &mut Sum) {
     let (backend, state, point) = decoder.into_raw_parts();
     add_interval(state, sum);

@@ -6,13 +6,13 @@ use constriction_stream::errors::TryCodingError;
 use std::alloc::AllocError;
 use std::convert::Infallible;
 
-/// The answer of a call that succeeded with the expected result.
+/// The answer of a call that succeeds with the expected result.
 pub const DONE: &str = "";
 
-/// The answer of a call that succeeded with another result, or that wasn't made.
+/// The answer of a call that succeeds with an unexpected result, or that the test can't make.
 pub const OTHER: &str = "other";
 
-/// The answer if there was no memory for the test itself.
+/// The answer if there is no memory for the test's own lists.
 pub const MEMORY: &str = "Memory";
 
 /// An error that has a word in scripts.
@@ -38,7 +38,7 @@ impl Told for Infallible {
     }
 }
 
-/// The errors of iterators in tests.
+/// Errors of the iterators that tests pass to a coder. The error 7 has the word `bad7`, and all others have `bad`.
 impl Told for u8 {
     fn word(error: Option<&u8>) -> &'static str {
         match error {

@@ -1,4 +1,4 @@
-//! Words and states as the numbers of a script.
+//! Converts words and states to and from the numbers of a script.
 
 use constriction_words::WordOf;
 use std::alloc::{AllocError, Global};

@@ -1,4 +1,4 @@
-//! Acts that encode symbols with any encoder.
+//! The acts of a script that encode symbols, for any encoder.
 
 use crate::answers::{DONE, MEMORY, OTHER, Told, answer_of};
 use crate::script::{Act, error_at, find};
@@ -8,7 +8,7 @@ use constriction_stream::encoding::{Encode, EncodeReverse};
 use constriction_words::WordOf;
 use std::alloc::{AllocError, Global};
 
-/// Encodes `symbols` one by one until one is refused. Returns the answer.
+/// Encodes `symbols` one by one, up to the first refusal. Returns the answer of the last call.
 pub fn put_each<C, M, const PRECISION: usize>(
     coder: &mut C,
     model: &M,
@@ -33,7 +33,7 @@ where
     DONE
 }
 
-/// Encodes `symbols` with one model and one list call. Returns the answer.
+/// Encodes `symbols` with one model, in one call for the whole list. Returns the answer of the call.
 fn put_list<C, M, const PRECISION: usize>(
     coder: &mut C,
     model: &M,
@@ -52,7 +52,7 @@ where
     answer_of(coder.encode_iid_symbols(symbols, model))
 }
 
-/// Encodes `symbols` from last to first, with one model and one list call. Returns the answer.
+/// Encodes `symbols` from last to first with one model, in one call for the whole list. Returns the answer of the call.
 fn put_list_back<C, M, const PRECISION: usize>(
     coder: &mut C,
     model: &M,
@@ -87,7 +87,7 @@ fn pairs_of<'a, M>(
     Ok(pairs)
 }
 
-/// Encodes `symbols` with one list call of pairs. Returns the answer.
+/// Encodes a list of pairs, each of a symbol and `model`, in one call. Returns the answer of the call.
 fn put_pairs<C, M, const PRECISION: usize>(
     alloc: Global,
     coder: &mut C,
@@ -110,7 +110,7 @@ where
     answer_of(coder.encode_symbols(pairs))
 }
 
-/// Encodes `symbols` from last to first, with one list call of pairs. Returns the answer.
+/// Encodes a list of pairs, each of a symbol and `model`, from last to first in one call. Returns the answer.
 fn put_pairs_back<C, M, const PRECISION: usize>(
     alloc: Global,
     coder: &mut C,
@@ -133,7 +133,7 @@ where
     answer_of(coder.encode_symbols_reverse(pairs))
 }
 
-/// Returns an item for each symbol: the error in its place in `numbers`, or else the symbol with `model`.
+/// Returns an item for each symbol: the error at the same index of `numbers`, or else the symbol with `model`.
 fn items_of<'a, M>(
     alloc: Global,
     model: &'a M,
@@ -152,7 +152,7 @@ fn items_of<'a, M>(
     Ok(items)
 }
 
-/// Encodes items, which may be errors, with one list call. Returns the answer.
+/// Encodes a list of items, some of which may be errors, in one call. Returns the answer of the call.
 fn put_items<C, M, const PRECISION: usize>(
     alloc: Global,
     coder: &mut C,
@@ -175,7 +175,7 @@ where
     answer_of(coder.try_encode_symbols(items))
 }
 
-/// Encodes items, which may be errors, from last to first with one list call. Returns the answer.
+/// Encodes a list of items, some of which may be errors, from last to first in one call. Returns the answer.
 fn put_items_back<C, M, const PRECISION: usize>(
     alloc: Global,
     coder: &mut C,
@@ -217,7 +217,7 @@ const PUTS: &[(&str, Put)] = &[
     ("items", Put::Items),
 ];
 
-/// Encodes symbols with the call that `act` names. Returns the answer, or `None` for other acts.
+/// Encodes symbols with the call that `act` names. Returns its answer, or `None` if `PUTS` doesn't have the verb.
 pub fn put_by<C, M, const PRECISION: usize>(
     alloc: Global,
     coder: &mut C,
@@ -246,7 +246,9 @@ const BACK: &[(&str, Put)] = &[
     ("items-back", Put::Items),
 ];
 
-/// Encodes symbols from last to first, with the call that `act` names. Returns the answer, or `None` for other acts.
+/// Encodes symbols from last to first, with the call that `act` names.
+///
+/// Returns the answer of the call, or `None` if `BACK` doesn't have the verb of `act`.
 pub fn put_back_by<C, M, const PRECISION: usize>(
     alloc: Global,
     coder: &mut C,

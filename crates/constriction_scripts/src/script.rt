@@ -1,4 +1,4 @@
-//! Reading a script.
+//! Reads a script: splits its text into acts.
 //!
 //! A script is a text of acts. An act is a verb and the numbers after it. The verb names a call that uses the numbers,
 //! or a check that expects them. `put 1 head 255` encodes the symbol 1, and then expects the head 255. If an act
@@ -30,7 +30,7 @@ struct Place {
     from: usize,
 }
 
-/// A script that was read.
+/// A script, split into its acts and their numbers.
 #[derive(Drop)]
 pub struct Script {
     places: Vec<Place>,
@@ -67,7 +67,7 @@ pub fn find<Verb: Copy>(verbs: &[(&str, Verb)], word: &str) -> Option<Verb> {
     None
 }
 
-/// Returns the end of `text` that begins with the first word at or after the byte `at`.
+/// Returns the rest of `text`, from the first word at or after the byte `at` on.
 fn rest_at(text: &'static str, at: usize) -> &'static str {
     text.get(at..).unwrap_or("").trim_start()
 }

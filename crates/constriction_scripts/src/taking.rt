@@ -1,4 +1,4 @@
-//! Acts that decode symbols with any decoder, one by one and with iterators.
+//! The acts of a script that decode symbols, one by one and with iterators, for any decoder.
 
 use crate::answers::{DONE, MEMORY, OTHER, Told, answer_if};
 use crate::script::{Act, error_at, find};
@@ -8,7 +8,7 @@ use constriction_stream::decoding::Decode;
 use constriction_words::WordOf;
 use std::alloc::{AllocError, Global};
 
-/// Decodes symbols one by one, and compares them with `symbols`, until one differs. Returns the answer.
+/// Decodes symbols one by one, up to the first that differs from `symbols`. Returns the answer of the last decode.
 pub fn take_each<C, M, const PRECISION: usize>(
     coder: &mut C,
     model: &M,
@@ -50,7 +50,7 @@ fn came<E: Told + Drop>(answer: Result<usize, E>, symbol: usize) -> &'static str
     }
 }
 
-/// Returns whether `answer` is what an iterator should return at `at`: a symbol, an error, or its end.
+/// Returns whether `answer` is the expected result of an iterator at index `at`: a symbol, an error, or the end.
 ///
 /// `act` has the expected symbols, and the numbers that may stand for errors.
 fn is_as_asked<E: Told + Drop>(
@@ -66,9 +66,10 @@ fn is_as_asked<E: Told + Drop>(
     }
 }
 
-/// Decodes the first of `numbers[0]` symbols with one model, and compares them with the other numbers.
+/// Decodes the first symbols of an iterator over `numbers[0]` symbols, and compares them with the other numbers.
 ///
-/// Drops the iterator then, so that the remaining symbols stay on the coder. Returns the answer.
+/// All symbols have the same model. The call then drops the iterator, so the remaining symbols stay on the coder. It
+/// returns the answer.
 fn by_one<C, M, const PRECISION: usize>(coder: &mut C, model: &M, numbers: &[usize]) -> &'static str
 where
     C: Decode<PRECISION>,
@@ -201,7 +202,7 @@ const TAKES: &[(&str, Take)] = &[
     ("by-items", Take::ByItems),
 ];
 
-/// Decodes symbols with the call that `act` names. Returns the answer, or `None` for other acts.
+/// Decodes symbols with the call that `act` names. Returns its answer, or `None` if `TAKES` doesn't have the verb.
 pub fn take_by<C, M, const PRECISION: usize>(
     alloc: Global,
     coder: &mut C,

@@ -1,6 +1,5 @@
--- The stack coder: asymmetric numeral systems, found by Jarek Duda, in the range variant that streams
--- words, as in the Rust crate's `AnsCoder`. All definitions speak of numbers and lists; w and s are the
--- numbers of bits of a word and of a head.
+-- The stack coder: range asymmetric numeral systems (rANS), invented by Jarek Duda, as in the Rust crate's `AnsCoder`.
+-- All definitions are about numbers and lists. `w` and `s` are the numbers of bits of a word and of a head.
 use Rattle.std.specs.Prelude.{◌≡◌, ℕ, ◌+◌, ◌-◌, ◌*◌, ◌/◌, ◌%◌, ◌<◌, ◌≤◌, ◌^◌, ◌⊎◌, List, [], ◌∷◌, ◌++◌, Option, Some, None, Result, Ok, Err, MatchResult, OnOk, OnErr, IfErr, map, nat_lt, if◌then◌else◌, length}
 use Rattle.std.specs.Int.Digits.{digits_of}
 use Rattle.constriction_base.specs.Steps.{Step, IsSizes, AreWords}
@@ -8,54 +7,52 @@ use Rattle.constriction_base.specs.declared.backends.reading.Holds as holding
 use Rattle.constriction_base.specs.declared.backends.reading.ReadWords as reading
 use Rattle.constriction_base.specs.declared.backends.writing.WriteWords as writing
 
--- what the coder holds: a number, the head, and a stack of words below it, the top one first
--- (Duda's state x, of which all but the leading part was moved out)
+-- The state of a coder: the head (the state `x` of rANS), and the stack of words below it, top word first.
 pub record AnsState : Type 0 where
   pub head : ℕ
   pub words : List ℕ
 
--- nothing: head 0, and no words
+-- The empty state: head 0 and no words.
 abbrev pub empty : AnsState
 empty = record { head = 0; words = [] }
 
--- the head has s bits at most, and each word w
+-- The head is below `2 ^ s`, and each word is below `2 ^ w`.
 pub record IsState (w s : ℕ) (x : AnsState) : Type 0 where
   pub fits : x.head < 2 ^ s
   pub are_words : AreWords w x.words
 
--- no word lies below a head that has room for it (Duda's normal interval, from 2 ^ (s - w) to 2 ^ s;
--- below it only where there are no words)
+-- The state is normalized: its head is at least `2 ^ (s - w)`, or no words are below the head.
 pub record IsValid (w s : ℕ) (x : AnsState) : Type 0 where
   pub state : IsState w s x
   pub full : (2 ^ (s - w) ≤ x.head) ⊎ (x.words ≡ [])
 
--- one word moves in below a head that is less than 2 ^ (s - w), if one is left (Duda's renormalization,
--- word by word)
+-- Moves the top word into the head if the head is below `2 ^ (s - w)` and a word is left (renormalization).
 abbrev pub refilled : ℕ → ℕ → ℕ → List ℕ → AnsState
 refilled w s head [] = record { head = head; words = [] }
 refilled w s head (word ∷ words) =
     if nat_lt head (2 ^ (s - w)) then record { head = head * 2 ^ w + word; words = words }
     else record { head = head; words = word ∷ words }
 
--- the head's quantile, which is its remainder by 2 ^ P, lies in the interval of the step
+-- The head's quantile, which is its remainder by `2 ^ precision`, lies in the interval of the step.
 pub record IsNext (e : Step) (x : AnsState) : Type 0 where
   pub from : e.left ≤ x.head % 2 ^ e.precision
   pub below : x.head % 2 ^ e.precision < e.left + e.p
 
--- what a pop leaves of the head a * 2 ^ P + left + t before a word moves in: a * p + t
+-- The head after a pop and before a refill. A head `a * 2 ^ precision + left + t` becomes `a * p + t`.
 abbrev pub popped_head : Step → AnsState → ℕ
 popped_head e x = x.head / 2 ^ e.precision * e.p + (x.head % 2 ^ e.precision - e.left)
 
--- a step is taken off (Duda's decoding step of the range variant)
+-- The state after the step's symbol is decoded: the decoding step of rANS, followed by a refill.
 abbrev pub pop : ℕ → ℕ → Step → AnsState → AnsState
 pop w s e x = refilled w s (popped_head e x) x.words
 
--- it can be taken off, and this is left
+-- The step's symbol can be decoded from the old state, and the new state is the state after that.
 abbrev pub IsPop : ℕ → ℕ → Step → AnsState → AnsState → Type 0
 IsPop w s e old new = IsNext e old × (new ≡ pop w s e old)
 
--- a step is put on: the new state is the valid one whose pop gives that step and the old state. So a
--- push is no list of instructions, but what a pop undoes; `one_push` of the laws says that there is one
+-- Encoding the step's symbol leads from the old state to the new state. The new state is the normalized state from
+-- which a pop takes this step and leaves the old state. For a normalized old state, the law `one_push` states that
+-- exactly one new state exists.
 pub record IsPush (w s : ℕ) (e : Step) (old new : AnsState) : Type 0 where
   pub valid : IsValid w s new
   pub holds : IsNext e new
@@ -63,104 +60,106 @@ pub record IsPush (w s : ℕ) (e : Step) (old new : AnsState) : Type 0 where
 
 -- ---- words of a state
 
--- words move in while the head is below 2 ^ (s - w) and one is left (the state that a list of words
--- stands for begins with head 0)
+-- Moves words into the head while the head is below `2 ^ (s - w)` and a word is left. An import of compressed words
+-- starts with head 0.
 abbrev pub filled : ℕ → ℕ → ℕ → List ℕ → AnsState
 filled w s head [] = record { head = head; words = [] }
 filled w s head (word ∷ words) =
     if nat_lt head (2 ^ (s - w)) then filled w s (head * 2 ^ w + word) words
     else record { head = head; words = word ∷ words }
 
--- the words of a state, the top one first: the head's digits in base 2 ^ w without leading zeros, and
--- the words below (the Rust crate's compressed form)
+-- The exported words of a state, top word first (the Rust crate's compressed form). These are the head's digits in base
+-- `2 ^ w` without leading zeros, and then the words below the head.
 abbrev pub exported : ℕ → AnsState → List ℕ
 exported w x = digits_of (2 ^ w) x.head ++ x.words
 
 -- ---- coders: a word's number is told by `number`, what a backend says of its words by `holds`, and of its writes and
 -- its reads by `writes` and `reads`
 
--- a coder's state, and the backend that holds its words
+-- The value of a coder: its state, and the backend that holds the words below the head.
 pub record AnsValue (B : Type 0) : Type 0 where
   pub state : AnsState
   pub backend : B
 
--- the state of a head above the words that a backend holds
+-- The state with this head above the words that a backend holds.
 abbrev pub state_of : {W B S : Type 0} → (W → ℕ) → holding.Ghosts B W S → ℕ → B → AnsState
 state_of number holds head backend = record { head = head; words = map number (holds.words backend) }
 
--- the value of a coder that has this head and holds its words on this backend
+-- The value of the coder with this head over this backend.
 abbrev pub value_of : {W B S : Type 0} → (W → ℕ) → holding.Ghosts B W S → ℕ → B → AnsValue B
 value_of number holds head backend = record { state = state_of number holds head backend; backend = backend }
 
--- what is true of every coder: its sizes are allowed, its head has s bits at most, and the words below
--- its head are those of the backend
+-- The invariant of every coder. Its sizes are allowed, and its head is below `2 ^ s`. The words below its head are the
+-- words of its backend.
 pub record IsCoder {W B S : Type 0} (number : W → ℕ) (holds : holding.Ghosts B W S) (w s : ℕ) (coder : AnsValue B) : Type 0 where
   pub sizes : IsSizes w s
   pub head_fits : coder.state.head < 2 ^ s
   pub words_are : coder.state.words ≡ map number (holds.words coder.backend)
 
--- a push has to write a word first: the head has no room for the step
+-- The head has no room for the step, so a push has to write a word first.
 abbrev pub OwesWord : ℕ → Step → AnsState → Type 0
 OwesWord s e x = e.p ≤ x.head / 2 ^ (s - e.precision)
 
--- the words after a push: the head's low word is written where it has to be
+-- The words after a push. If the head has no room for the step, its low word is written first.
 abbrev pub words_after : ℕ → ℕ → Step → AnsState → List ℕ
 words_after w s e x = if nat_lt (x.head / 2 ^ (s - e.precision)) e.p then x.words else x.head % 2 ^ w ∷ x.words
 
--- a pop has to read a word, if one is left
+-- The head after a pop is below `2 ^ (s - w)`, so the coder reads a word if one is left.
 abbrev pub OwesRead : ℕ → ℕ → Step → AnsState → Type 0
 OwesRead w s e x = popped_head e x < 2 ^ (s - w)
 
--- ---- coders over backends of which reads tell the words, as iterators
+-- ---- coders over backends whose words are known only by reading, such as iterators
 
--- a head into which a word moves by a read, where it is below 2 ^ (s - w)
+-- A refill by a read. If the head is below `2 ^ (s - w)`, the coder makes one read and moves the word read into the
+-- head. If the read finds no word, the head is unchanged. A larger head is unchanged, and no read is made.
 abbrev pub RefillsBy : {W E B : Type 0} → (W → ℕ) → (B → Result (Option W) E → B → Type 0) → ℕ → ℕ → ℕ → B → ℕ → B → Type 0
 RefillsBy {W} {E} {B} number reads w s head old new_head new =
     ((2 ^ (s - w) ≤ head) × (new_head ≡ head) × (new ≡ old))
     ⊎ ((head < 2 ^ (s - w)) × (new_head ≡ head) × reads old (Ok None) new)
     ⊎ ((head < 2 ^ (s - w)) × ((word : W) × (new_head ≡ head * 2 ^ w + number word) × reads old (Ok (Some word)) new))
 
--- ---- calls of a coder: what they may answer and leave, over a backend of which only its rules are known
+-- ---- the possible results of a coder's calls, over any backend
 
--- an encode of a step
+-- The possible results of encoding one symbol with this step.
 pub record EncodeCall {W B E S : Type 0} (number : W → ℕ) (holds : holding.Ghosts B W S) (writes : writing.Ghosts B W E) (w s : ℕ) (old : AnsValue B) (step : Step) (answer : Result (Unit {0}) E) (new : AnsValue B) : Type 0 where
-  -- before and after it is a coder, whatever the answer
+  -- The values before and after the call satisfy the coder's invariant, also after an error.
   pub before : IsCoder number holds w s old
   pub after : IsCoder number holds w s new
-  -- onto a valid state it is the push
+  -- On success, if the old state is normalized, the new state is the push of the step.
   pub pushed : OnOk answer (IsValid w s old.state → IsPush w s step old.state new.state)
-  -- one word more at most
+  -- On success, a word is written exactly if the head has no room for the step.
   pub words : OnOk answer (new.state.words ≡ words_after w s step old.state)
-  -- no more room is used than words are written
+  -- On success, the room shrinks by at most the number of words written.
   pub room_used : OnOk answer (writes.room old.backend + length old.state.words ≤ writes.room new.backend + length new.state.words)
-  -- where no word is owed, the backend isn't touched
+  -- If no word has to be written, the backend is unchanged.
   pub owes : (OwesWord s step old.state → ⊥) → new.backend ≡ old.backend
-  -- an error leaves the head and the words
+  -- An error leaves the head and the words unchanged.
   pub kept : OnErr answer (new.state ≡ old.state)
-  -- and comes only where one word is owed: the backend had no room for one; or, where asking for room makes
-  -- none, the write was refused
+  -- An error comes only if a word has to be written. It comes from `prepare`, or, if `prepare` makes no room, from the
+  -- write.
   pub error : IfErr answer (λ e. OwesWord s step old.state × (writes.prepare_fails old.backend 1 e ⊎ ((writes.makes_room → ⊥) × writes.write_fails old.backend e)))
 
--- an encode of a step onto a head and a backend: a new head, or an error that leaves the head
+-- The possible results of encoding a step onto a head and a backend. On success, there is a new head. After an error,
+-- the head is unchanged.
 abbrev pub EncodesOnto : {W B E S H : Type 0} → (W → ℕ) → holding.Ghosts B W S → writing.Ghosts B W E → ℕ → ℕ → (H → ℕ) → H → B → Step → Result H E → B → Type 0
 EncodesOnto number holds writes w s head_number head old step result new =
     MatchResult result
     (λ new_head. EncodeCall number holds writes w s (value_of number holds (head_number head) old) step (Ok tt) (value_of number holds (head_number new_head) new))
     (λ e. EncodeCall number holds writes w s (value_of number holds (head_number head) old) step (Err e) (value_of number holds (head_number head) new))
 
--- a decode at a step, of a coder over a backend that knows its words or whose reads tell them
+-- The possible results of decoding one symbol with this step.
 pub record DecodeCall {W B E S : Type 0} (number : W → ℕ) (holds : holding.Ghosts B W S) (reads : reading.Ghosts B W S E) (w s : ℕ) (old : AnsValue B) (step : Step) (answer : Result (Unit {0}) E) (new : AnsValue B) : Type 0 where
-  -- before and after it is a coder, whatever the answer
+  -- The values before and after the call satisfy the coder's invariant, also after an error.
   pub before : IsCoder number holds w s old
   pub after : IsCoder number holds w s new
-  -- the head's quantile is one of the step's
+  -- The head's quantile lies in the interval of the step.
   pub is_next : IsNext step old.state
-  -- of every state, valid or not, it is the pop
+  -- On success, if `is_list` holds for the backend, the new state is the pop of the old state, normalized or not.
   pub popped : OnOk answer (holds.is_list → new.state ≡ pop w s step old.state)
-  -- and by the reads: one at most, and none where none is owed
+  -- On success, the coder makes one read if the head after the pop is below `2 ^ (s - w)`, and otherwise no read.
   pub refilled : OnOk answer (RefillsBy number reads.reads w s (popped_head step old.state) old.backend new.state.head new.backend)
-  -- an error leaves the head, and the words
+  -- An error leaves the head unchanged. If `is_list` holds for the backend, it also leaves the words unchanged.
   pub head : OnErr answer (new.state.head ≡ old.state.head)
   pub kept : OnErr answer (holds.is_list → new.state ≡ old.state)
-  -- and is that of the one read that is owed
+  -- An error comes only if the coder has to make a read, and it is the error of that read.
   pub error : IfErr answer (λ e. OwesRead w s step old.state × reads.reads old.backend (Err e) new.backend)

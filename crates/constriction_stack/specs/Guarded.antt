@@ -1,19 +1,19 @@
--- What a guard holds, for those who read its contracts.
+-- The parts of a guard that contracts refer to.
 use Rattle.std.specs.Prelude.{ℕ}
 use Rattle.std.specs.Borrow.{MutBor}
 use Rattle.constriction_stack.specs.declared.coder.AnsCoder.{AnsCoder}
 use Rattle.constriction_stack.specs.declared.coder.guard.CoderGuard.{CoderGuard}
 
--- the coder that it borrows
+-- The coder that a guard borrows.
 abbrev pub lender : {Word State Backend : Type 0} {sealed : ℕ} {WordNonZero StateNonZero WriteError ReadError : Type 0}
     → CoderGuard Word State Backend sealed WordNonZero StateNonZero WriteError ReadError → MutBor (AnsCoder Word State Backend WordNonZero StateNonZero)
 lender g = g.inner
 
--- how many words it wrote onto the coder's backend
+-- The number of words that a guard wrote onto the coder's backend.
 abbrev pub written : {Word State Backend : Type 0} {sealed : ℕ} {WordNonZero StateNonZero WriteError ReadError : Type 0}
     → CoderGuard Word State Backend sealed WordNonZero StateNonZero WriteError ReadError → ℕ
 written g = g.count
 
--- what a drop of a guard leaves behind its reference: the first of the fields that it gives back
+-- The borrowed coder after the guard's drop: the first of the fields that the drop gives back.
 abbrev pub lent_back : {A B : Type 0} → A × B → A
 lent_back exit = exit.0

@@ -1,4 +1,4 @@
--- Words that a guard shows on a coder's backend, and takes off again.
+-- The words that a guard writes onto a coder's backend, and that its drop removes again.
 use Rattle.std.specs.Prelude.{◌≡◌, ◌⊎◌, ℕ, ◌^◌, List, Option, Result, drop}
 use Rattle.std.specs.Int.Digits.{digits_of}
 use Rattle.constriction_base.specs.Digits.{fixed_digits}
@@ -11,31 +11,32 @@ use Rattle.constriction_base.specs.declared.errors.CoderError.TheVariants.{Front
 use Rattle.constriction_stack.specs.Ans.{AnsState, AnsValue, exported}
 use Rattle.constriction_stack.specs.Binary.{binary_words}
 
--- the state with so many words taken off the top, below the same head
+-- The state with the same head, and without the `count` top words below the head.
 abbrev pub without : ℕ → AnsState → AnsState
 without count x = record { head = x.head; words = drop count x.words }
 
--- the words of the export lie below the head
+-- The new state has the head of the old state, and below it all words of the old state's export.
 abbrev pub ShowsExported : ℕ → AnsState → AnsState → Type 0
 ShowsExported w old new = new ≡ record { head = old.head; words = exported w old }
 
--- those of the binary form do, since there is one
+-- The old state has a binary form. The new state has the head of the old state, and below it the words of this form.
 abbrev pub ShowsBinary : ℕ → AnsState → AnsState → Type 0
 ShowsBinary w old new = (m : ℕ) × IsOneAbove w m old.head × (new ≡ record { head = old.head; words = binary_words w m old })
 
--- what is left where owed words could not be shown: the state as before; or, where a write was refused, a state with its
--- head, which is as before if no read is ever refused
+-- The state after a guard fails to write the words `owed`. Either the state is unchanged, or a write fails and the head
+-- is unchanged. If no read ever fails, the words are unchanged too.
 abbrev pub LeftByRefusal : {W B E F S : Type 0} → (W → ℕ) → holding.Ghosts B W S → writing.Ghosts B W E → (B → Result (Option W) F → B → Type 0) → List ℕ → AnsValue B → E → AnsState → Type 0
 LeftByRefusal number holds writes reads owed old e new =
     (new ≡ old.state)
     ⊎ ((new.head ≡ old.state.head) × (NeverRefused reads → new ≡ old.state)
     × RefusedWrite number holds writes owed old.backend e)
 
--- where the words of the export could not be
+-- The state after a guard fails to write the words of the export.
 abbrev pub ExportLeft : {W B E F S : Type 0} → (W → ℕ) → holding.Ghosts B W S → writing.Ghosts B W E → (B → Result (Option W) F → B → Type 0) → ℕ → AnsValue B → E → AnsValue B → Type 0
 ExportLeft number holds writes reads w old e new = LeftByRefusal number holds writes reads (digits_of (2 ^ w) old.state.head) old e new.state
 
--- where those of the binary form could not be: there is none, and nothing changed; or they could not be written
+-- The coder after a guard fails to write the words of the binary form. If there is no binary form (`Frontend`), the
+-- coder is unchanged. Otherwise (`Backend`), the state is as `LeftByRefusal` describes.
 abbrev pub BinaryLeft : {W B E F S G : Type 0} → (W → ℕ) → holding.Ghosts B W S → writing.Ghosts B W E → (B → Result (Option W) F → B → Type 0) → ℕ → AnsValue B → CoderError G E → AnsValue B → Type 0
 BinaryLeft number holds writes reads w old (Frontend e) new = new ≡ old
 BinaryLeft number holds writes reads w old (Backend e) new =

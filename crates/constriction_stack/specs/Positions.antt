@@ -1,9 +1,8 @@
--- Positions of the stack coder: what is recorded at a moment, and how a coder that holds more words goes back
--- to it.
+-- Positions of the stack coder, and how a coder with more words returns to a position.
 use Rattle.std.specs.Prelude.{◌≡◌, ℕ, ◌-◌, List, ◌++◌, length, drop}
 use Rattle.constriction_stack.specs.Ans.{AnsState}
 
--- how many words the coder holds below its head, and its head
+-- A position: the number of words below the head, and the head.
 pub record AnsPosition : Type 0 where
   pub held : ℕ
   pub head : ℕ
@@ -11,10 +10,10 @@ pub record AnsPosition : Type 0 where
 abbrev pub position_of : AnsState → AnsPosition
 position_of x = record { held = length x.words; head = x.head }
 
--- so many words are left, the last ones that would be read, below that head
+-- The state after seeking to a position: the head of the position, above the `held` lowest words of the stack.
 abbrev pub sought : AnsPosition → AnsState → AnsState
 sought position x = record { head = position.head; words = drop (length x.words - position.held) x.words }
 
--- words were written onto those of the old state, and none of these was read
+-- The new state has all words of the old state, and any number of further words above them.
 abbrev pub Grows : AnsState → AnsState → Type 0
 Grows old new = (more : List ℕ) × (new.words ≡ more ++ old.words)

@@ -5,7 +5,7 @@
 //! - [`words`]: importing and exporting words, and counting them.
 //! - [`decoders`]: positions, and coders for reading: over other backends, over borrowed words, or over words in
 //!   reading order.
-//! - [`guard`]: the compressed words while a guard lends them.
+//! - [`guard`]: guards that lend the compressed words.
 
 pub mod decoders;
 pub mod guard;

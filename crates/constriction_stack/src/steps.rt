@@ -8,7 +8,7 @@ ghost use Rattle.constriction_stack.specs.Ans.{EncodesOnto, RefillsBy, refilled,
 use constriction_base::backends::{Holds, ReadWords, Stack, WriteWords};
 use constriction_words::{BitArray, Reciprocal, WordOf};
 
-/// Returns the head after a pop and before a refill.
+/// Decodes the symbol with the start `left` and the weight `p`, and returns the head before renormalization.
 #[inline]
 pub fn popped_head<State: BitArray>(head: State, left: State, p: State, precision: u32) -> State
     requires within { precision < State.BITS }
@@ -51,7 +51,10 @@ pub fn refilled<Word: WordOf<State>, State: BitArray, Backend: ReadWords<Word, S
     Ok(head.shifted_left(Word::BITS).plus(word.widen()))
 }
 
-/// Writes the low word of `head` if the head has no room for the step, and returns the head after the push.
+/// Encodes the symbol with the start `left` and the weight `p` onto `head`, and returns the new head.
+///
+/// If `head` has no room for the symbol, the call first asks the backend for room for one word, and then writes the low
+/// word of `head`.
 #[inline(always)]
 pub fn pushed_onto<Word: WordOf<State>, State: BitArray, Backend: WriteWords<Word>>(
     bulk: &mut Backend,
@@ -87,10 +90,10 @@ pub fn pushed_onto<Word: WordOf<State>, State: BitArray, Backend: WriteWords<Wor
     ))
 }
 
-/// Returns the head after a push onto `head`, which has room for the step.
+/// Encodes a symbol onto `head`, which has room for the symbol, and returns the new head.
 ///
-/// With a reciprocal this is `head + left + head / p * (2^precision - p)`, so that the quotient is the only
-/// operation that waits for the head.
+/// With a reciprocal, the call computes the new head as `head + left + head / p * (2^precision - p)`. This needs the
+/// quotient but no remainder.
 #[inline]
 fn pushed<State: BitArray>(
     head: State,

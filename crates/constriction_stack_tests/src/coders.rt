@@ -21,7 +21,7 @@ pub type Small = AnsCoder<u8, u16>;
 /// A table with a precision of 8 bits.
 pub type Table = WeightTable<u8, 8>;
 
-/// Returns the error of a test for the first act that failed, if there is one.
+/// Turns the text of the first act that failed into an error of the test. Returns `Ok` if no act failed.
 pub fn said(failed: Option<&'static str>) -> Result<(), Fail> {
     match failed {
         Some(act) => Err(Fail::from(act)),
@@ -31,7 +31,7 @@ pub fn said(failed: Option<&'static str>) -> Result<(), Fail> {
 
 /// Runs a script with a new coder over a vector, and with a table of `weights`.
 ///
-/// Returns the first act that failed, or `MEMORY` if there was no memory for the table or the script.
+/// Returns the first act that failed, or `MEMORY` if the table or the script can't be made.
 pub fn go<Word, State, Probability, const PRECISION: usize>(
     alloc: Global,
     weights: &[Probability],

@@ -77,7 +77,7 @@ const VERBS: &[(&str, Owned)] = &[
     ("seek", Owned::Seek),
 ];
 
-/// Makes a coder from a head and the words below it. Returns the answer.
+/// Replaces the coder by a coder with the head and the words in `numbers`. Returns the answer.
 fn make_of<Word, State>(
     alloc: Global,
     coder: &mut AnsCoder<Word, State>,
@@ -100,7 +100,7 @@ where
     }
 }
 
-/// Imports a coder from words. Returns the answer.
+/// Replaces the coder by a coder that imports the words `numbers`. Returns the answer.
 ///
 /// The answer is `none` if the import is refused, and hands back all words except the last.
 fn import<Word, State>(
@@ -126,7 +126,7 @@ where
     }
 }
 
-/// Imports a coder from words in binary form. Returns the answer.
+/// Replaces the coder by a coder that imports the words `numbers` in binary form. Returns the answer.
 fn import_binary<Word, State>(
     alloc: Global,
     coder: &mut AnsCoder<Word, State>,
@@ -243,7 +243,7 @@ where
     words.next().is_none()
 }
 
-/// Returns whether `decoder` decodes `symbols`, and is empty then.
+/// Returns whether `decoder` decodes `symbols`, and is empty afterwards.
 fn all_come<Word, State, Backend, Probability, const PRECISION: usize>(
     mut decoder: AnsCoder<Word, State, Backend>,
     table: &WeightTable<Probability, PRECISION>,
@@ -259,7 +259,7 @@ where
     take_each(&mut decoder, table, symbols) == DONE && decoder.is_empty()
 }
 
-/// Returns whether a decoder that borrows the words decodes `symbols`, and is empty then.
+/// Returns whether a decoder that borrows the words decodes `symbols`, and is empty afterwards.
 fn lent_gives<Word, State, Probability, const PRECISION: usize>(
     coder: &AnsCoder<Word, State>,
     table: &WeightTable<Probability, PRECISION>,
@@ -281,7 +281,7 @@ where
     }
 }
 
-/// Turns a coder into a decoder with `IntoDecoder`. Returns whether it decodes `symbols`, and is empty then.
+/// Turns a coder into a decoder with `IntoDecoder`. Returns whether it decodes `symbols`, and is empty afterwards.
 fn owned_gives<Word, State, Probability, const PRECISION: usize>(
     coder: AnsCoder<Word, State>,
     table: &WeightTable<Probability, PRECISION>,
@@ -298,7 +298,7 @@ where
     }
 }
 
-/// Gets a decoder in the way `lend`. Returns whether it decodes `symbols`, and is empty then.
+/// Gets a decoder in the way `lend`. Returns whether it decodes `symbols`, and is empty afterwards.
 fn lend_by<Word, State, Probability, const PRECISION: usize>(
     alloc: Global,
     coder: &mut AnsCoder<Word, State>,

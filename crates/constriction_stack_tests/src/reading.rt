@@ -48,7 +48,7 @@ where
     act.numbers == [coder.state().shown()].as_slice()
 }
 
-/// Returns the place and the head of `act`, or `None` if a number is missing.
+/// Returns the position that `act` gives, as a place and a head. Returns `None` if a number is missing.
 fn place_of<State: Number>(act: &Act<'_>) -> Option<(usize, State)> {
     match (act.symbols.first(), act.numbers.get(1)) {
         (Some(place), Some(head)) => Some((*place, State::of(*head))),
@@ -56,7 +56,7 @@ fn place_of<State: Number>(act: &Act<'_>) -> Option<(usize, State)> {
     }
 }
 
-/// Seeks to the place and the head of `act`. Returns the answer.
+/// Seeks to the place and the head of `act`. Returns the answer, which is `none` if the seek is refused.
 pub fn seek<Word, State, Backend>(
     coder: &mut AnsCoder<Word, State, Backend>,
     act: &Act<'_>,

@@ -1,9 +1,14 @@
-//! Tests of calls over a vector with requests for memory refused, one at a time.
+//! Tests of calls over a vector, where one request for memory is refused.
 //!
-//! `tests/refused-memory` runs these tests once for each request for memory that they make, and refuses it. A test then
-//! fails with the name of the call that made the request, if the call reported that there was no memory, left the coder
-//! as it must, and succeeded when it was made again. A test fails with `Memory` if the test itself made the request. If
-//! no request is refused, a test passes. The heads and words were computed by hand.
+//! `tests/refused-memory` runs these tests once for each request for memory that they make, and refuses this request. A
+//! test passes if no request is refused. It fails with `Memory` if the test itself made the refused request. It fails
+//! with the name of a call if all of this is true:
+//!
+//! - The call made the refused request, and reported that there was no memory.
+//! - The call left the coder as the test expects.
+//! - The same call succeeded when the test made it again.
+//!
+//! The heads and words were computed by hand.
 
 use crate::coders::{Small, Table};
 use crate::owning::{export, export_binary, follow_owning, own_by};
@@ -22,7 +27,7 @@ struct Call {
     act: &'static str,
     /// The script that checks the coder after a refusal, and makes the rest of the call.
     kept: &'static str,
-    /// The script that checks the coder in the end.
+    /// The script that checks the coder after the whole call.
     done: &'static str,
 }
 
@@ -47,8 +52,8 @@ fn does(alloc: Global, coder: &mut Small, table: &Table, text: &'static str) -> 
 
 /// Makes a call and checks the coder. Returns the error of the test, or `DONE`.
 ///
-/// The coder has the head 300, the word 7, and a vector without room for another word. If memory is refused, the
-/// function makes the rest of the call. The error is then the call's name.
+/// Before the call, the coder has the head 300, the word 7, and a vector without room for another word. If the call is
+/// refused memory, the function checks the coder, makes the rest of the call, and returns the call's name.
 fn comes_of(alloc: Global, coder: &mut Small, table: &Table, call: &Call) -> &'static str {
     if goes(alloc, coder, table, "of 300 7") != DONE {
         return MEMORY;
@@ -75,7 +80,7 @@ const LISTS: &[(&str, &str)] = &[
     ("try_encode_symbols_reverse", "items-back 1 2 0"),
 ];
 
-/// The other calls.
+/// The calls other than list calls, with the scripts that check the coder.
 const CALLS: &[Call] = &[
     Call {
         name: "encode_symbol",
@@ -139,7 +144,7 @@ fn holds(coder: &Small) -> bool {
     coder.state() == 300 && coder.bulk().as_slice() == [7u8].as_slice()
 }
 
-/// Exports a coder, and exports `copy` if there was no memory. Returns the test's error, or `DONE`.
+/// Exports a coder, or exports `copy` if there is no memory. Returns the test's error, or `DONE`.
 fn export_or_copy(coder: Small, copy: Small, is_binary: bool, name: &'static str) -> &'static str {
     if !(holds(&coder) & holds(&copy)) {
         return OTHER;

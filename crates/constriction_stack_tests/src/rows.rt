@@ -1,4 +1,4 @@
-//! Tests of the worked rows. The heads and words were computed by hand.
+//! Tests of worked examples: scripts that check exact heads and words, which are computed by hand.
 
 use crate::coders::{small, small_over, wide};
 use std::test::Fail;

@@ -28,7 +28,9 @@ fn go_over_slice(words: &[u8], scripts: &Scripts) -> Option<&'static str> {
     }
 }
 
-/// Runs scripts with a coder over reversed words, then reversed once and twice. Returns the first act that failed.
+/// Runs scripts with a coder over reversed words, and again after each of two reversals of its backend.
+///
+/// Returns the first act that failed.
 fn go_over_reversed(words: Vec<u8>, scripts: &Scripts) -> Option<&'static str> {
     match AnsCoder::<u8, u16, Reverse<Cursor<u8, Vec<u8>>>>::from_reversed_compressed(words) {
         Ok(mut coder) => {
@@ -77,7 +79,7 @@ fn ans_seekable_and_reversed(rt: HostRuntime) -> Result<(), Fail> {
     said(go_over_reversed(words, &scripts))
 }
 
-/// Returns whether an import is refused if the second word can't be read, and hands back the iterator at its end.
+/// Returns whether an import fails if the second word can't be read. The import must hand back an iterator at its end.
 fn an_error_ends_words() -> bool {
     let words = [Ok(5u8), Err('e')].into_iter();
     match AnsCoder::<u8, u16, FallibleIteratorReadWords<_>>::from_reversed_compressed_iter(words) {
@@ -86,7 +88,7 @@ fn an_error_ends_words() -> bool {
     }
 }
 
-/// Returns whether an import of words in binary form is refused if the second word can't be read.
+/// Returns whether an import of words in binary form fails if the second word can't be read.
 ///
 /// The head has room for the second word.
 fn an_error_ends_binary_words() -> bool {

@@ -1,4 +1,4 @@
--- The answers of look-ups.
+-- The possible results of look-ups.
 use Rattle.std.specs.Prelude.{◌≡◌, ◌⊎◌, ℕ, ◌<◌, ◌≤◌, ⊤, List, [], ◌∷◌, Result, MatchResult, length, slice_index, take}
 use Rattle.std.specs.declared.vec.Vec.{Vec}
 use Rattle.constriction_base.specs.Models.{Model, items_of}
@@ -39,12 +39,13 @@ HoldsEach w s model words index (place ∷ places) [] = ⊥
 HoldsEach w s model words index (place ∷ places) (chunk ∷ chunks) =
     (place < length index) × HoldsChunk w s model words (entry_in index place) chunk × HoldsEach w s model words index places chunks
 
--- The store has a chunk at this place, and a list has no room for it.
+-- The store holds a chunk at this place, but there is no memory to add the chunk to a list.
 abbrev pub HasNoRoom : ℕ → ℕ → Model ℕ → List ℕ → List Entry → ℕ → ChunkError → Type 0
 HasNoRoom w s model words index i refusal =
     (refusal ≡ Memory) × (i < length index) × ((chunk : List ℕ) × HoldsChunk w s model words (entry_in index i) chunk)
 
--- The look-ups at the first places return chunks. The next one fails, or a list has no room for its chunk.
+-- The look-ups at the first `k` places return chunks. The next look-up fails, or there is no memory to add its chunk to
+-- a list.
 abbrev pub FailsFirst : ℕ → ℕ → Model ℕ → List ℕ → List Entry → List ℕ → ChunkError → Type 0
 FailsFirst w s model words index places refusal =
     (k : ℕ) × (chunks : List (List ℕ)) × (k < length places) × HoldsEach w s model words index (take k places) chunks
@@ -62,7 +63,7 @@ CannotLookUp chunks places NoSuchChunk = (k : ℕ) × (k < length places) × (le
 CannotLookUp chunks places Invalid = ⊥
 CannotLookUp chunks places Memory = 0 < length places
 
--- Chunks don't come back from a store of them, with this error.
+-- A round trip of chunks through a store fails with this error.
 abbrev pub HasNoChunks : Model ℕ → List (List ℕ) → List ℕ → ThroughStore → Type 0
 HasNoChunks model chunks places (Build refusal) = BuildFails model chunks refusal
 HasNoChunks model chunks places (LookUp refusal) = CannotLookUp chunks places refusal

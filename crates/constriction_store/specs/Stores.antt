@@ -68,7 +68,7 @@ HoldsChunk w s model words entry symbols =
 abbrev pub HoldsNoSymbol : ℕ → ℕ → Model ℕ → List ℕ → Run → Type 0
 HoldsNoSymbol w s model words run = 2 ^ model.precision ≤ offset w s words run / (run.range / 2 ^ model.precision)
 
--- The words hold no complete chunk at the entry: after fewer symbols than it counts, no symbol is read.
+-- The words hold no complete chunk at the entry: after fewer symbols than the entry states, no symbol can be decoded.
 abbrev pub HoldsNoChunk : ℕ → ℕ → Model ℕ → List ℕ → Entry → Type 0
 HoldsNoChunk w s model words entry =
     (symbols : List ℕ) × (run : Run) × FindsAll w s words (items_of model symbols) (run_at entry) run

@@ -98,7 +98,7 @@ where
     Ok(())
 }
 
-/// Encodes `chunks` with a new encoder, and returns their index.
+/// Encodes `chunks` in order with a new encoder, and returns the index, which has an entry for each chunk.
 fn encode_chunks<
     Word: WordOf<State>,
     State: BitArray,

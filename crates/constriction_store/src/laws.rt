@@ -97,7 +97,8 @@ pub enum ThroughStore {
 ///
 /// # Errors
 ///
-/// The errors of [`Store::build`], and the errors of [`Store::chunk`] except `Invalid`.
+/// - `Build(error)`: [`Store::build`] returned `error`.
+/// - `LookUp(error)`: [`look_up`] returned `error`, which is never `Invalid`.
 pub fn chunks_in_any_order<
     Word: WordOf<State>,
     State: BitArray,
@@ -137,7 +138,8 @@ where
 ///
 /// # Errors
 ///
-/// The errors of [`Store::build`], and the errors of [`Store::chunk`] except `Invalid`.
+/// - `Build(error)`: [`Store::build`] returned `error`.
+/// - `LookUp(error)`: [`look_up`] returned `error`, which is never `Invalid`.
 pub fn chunks_through_parts<
     Word: WordOf<State>,
     State: BitArray,

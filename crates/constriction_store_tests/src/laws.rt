@@ -1,4 +1,4 @@
-//! Tests of the laws of stores, and of their functions that build a store and look up chunks.
+//! Tests that the laws of stores can be called, and that their round trips return the chunks or the expected error.
 
 use crate::stores::{Halves, chunks_of, halves};
 use constriction_store::laws::{
@@ -9,7 +9,7 @@ use constriction_store::{BuildError, ChunkError};
 use std::alloc::Global;
 use std::test::Fail;
 
-/// The store and the chunks found by look-ups, or the error of a call.
+/// The result of a round trip: the store and the chunks that look-ups find, or the error of a call.
 type Through = Result<(Halves, Vec<Vec<usize>>), ThroughStore>;
 
 /// Returns whether `found` has exactly the two chunks `first` and `second`.
@@ -20,7 +20,7 @@ fn are(found: &[Vec<usize>], first: &[usize], second: &[usize]) -> bool {
     }
 }
 
-/// Returns whether the calls succeeded, and the look-ups found exactly the chunks `first` and `second`.
+/// Returns whether all calls succeed, and the look-ups find exactly the chunks `first` and `second`.
 fn came_back(through: Through, first: &[usize], second: &[usize]) -> bool {
     match through {
         Ok((_, found)) => are(found.as_slice(), first, second),
@@ -28,7 +28,7 @@ fn came_back(through: Through, first: &[usize], second: &[usize]) -> bool {
     }
 }
 
-/// Returns the error of the calls, or `None` if they succeeded.
+/// Returns the error of a round trip, or `None` if all its calls succeed.
 fn refusal_of(through: Through) -> Option<ThroughStore> {
     through.err()
 }

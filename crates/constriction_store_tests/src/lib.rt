@@ -6,8 +6,8 @@
 //! `tests/cases/constriction_store_tests` has tests that run without a proof, with `tests/unproved`. They cover each
 //! word width, and texts.
 //!
-//! The expected values were computed separately, with one growing number. The helpers of [`stores`] have no contract,
-//! and make the calls of a store for all tests.
+//! The expected values come from a separate computation with an integer of unlimited size. The helpers of [`stores`]
+//! have no contract, and make the calls of a store for all tests.
 #![tactic(auto)]
 
 #[cfg(test)]

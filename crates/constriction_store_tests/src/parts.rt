@@ -1,10 +1,10 @@
-//! A test of a store made from the parts of another store.
+//! Tests that a store made from the parts of another store has the same words and chunks.
 
 use crate::stores::{Halves, from_parts, gives_all, three};
 use constriction_store::Store;
 use std::test::Fail;
 
-/// Takes a store apart, and makes a store from the parts.
+/// Takes a store apart, and makes a store from the parts. Returns `None` if that call fails.
 fn again(store: Halves) -> Option<Halves> {
     let (words, index, table) = store.into_parts();
     Store::from_parts(words, index, table).ok()

@@ -1,15 +1,15 @@
-//! A test of a store with requests for memory refused, one at a time.
+//! Tests a store whose requests for memory are refused, one at a time.
 //!
-//! `tests/refused-memory` refuses each request for memory of this test, one at a time. The test then fails with the
-//! name of the call that made the request, if the call reported that there was no memory, and succeeded when it was
-//! made again.
+//! `tests/refused-memory` runs the test once for each of its requests for memory, and refuses this request. The call
+//! that made the request has to report the error, and has to succeed when it is made again. The test then fails with
+//! the name of the call.
 
 use crate::stores::{Halves, chunks_of, halves};
 use constriction_store::{BuildError, ChunkError};
 use std::alloc::{AllocError, Global};
 use std::test::Fail;
 
-/// Looks up the first chunk. Returns whether it is as expected, or an error if there was no memory.
+/// Looks up the first chunk. Returns whether it is the expected chunk, or an error if there is no memory.
 fn looks_up(alloc: Global, store: &Halves) -> Result<bool, AllocError> {
     match store.chunk(alloc, 0) {
         Ok(found) => Ok(found.as_slice() == [1usize, 0, 1, 0, 1].as_slice()),
@@ -18,7 +18,9 @@ fn looks_up(alloc: Global, store: &Halves) -> Result<bool, AllocError> {
     }
 }
 
-/// Looks up the first chunk, and tries again if memory was refused. In this case fails with the error `chunk`.
+/// Looks up the first chunk, and checks it. If memory is refused, the call repeats the look-up.
+///
+/// If the second look-up succeeds, the call fails with the error `chunk`.
 fn look_up(alloc: Global, store: &Halves) -> Result<(), Fail> {
     match looks_up(alloc, store) {
         Ok(true) => Ok(()),
@@ -29,7 +31,7 @@ fn look_up(alloc: Global, store: &Halves) -> Result<(), Fail> {
 
 /// Builds a store of `chunks`, and looks up its first chunk.
 ///
-/// If memory is refused for the build, tries again, and fails with the error `build`.
+/// If memory is refused for the build, the call repeats it. If this succeeds, the call fails with the error `build`.
 fn build(alloc: Global, chunks: &[Vec<usize>]) -> Result<(), Fail> {
     match Halves::build(alloc, chunks, halves(alloc)?) {
         Ok(store) => look_up(alloc, &store),
@@ -41,7 +43,7 @@ fn build(alloc: Global, chunks: &[Vec<usize>]) -> Result<(), Fail> {
     }
 }
 
-/// Builds a store of `chunks` after a refusal, and looks up its first chunk. Fails if there is no store.
+/// Builds a store of `chunks` after a refusal, and looks up its first chunk. Fails if the build is refused again.
 fn build_again(alloc: Global, chunks: &[Vec<usize>]) -> Result<(), Fail> {
     match Halves::build(alloc, chunks, halves(alloc)?) {
         Ok(store) => look_up(alloc, &store),

@@ -1,4 +1,4 @@
-//! Tests of the worked rows.
+//! Tests that stores have the expected words and chunks, and that calls return the expected errors.
 
 use crate::stores::{
     Halves, chunks_of, from_parts, gives, gives_all, refusal_of, refuses, store_of, three,
@@ -105,7 +105,7 @@ fn store_of_one_symbol_too_many(rt: HostRuntime) -> Result<(), Fail> {
     Ok(())
 }
 
-/// Makes a store with one chunk of one symbol at `place`. Returns the error of its look-up, if there is one.
+/// Makes a store with one chunk of one symbol at `place`. Returns the error of its look-up, or `None`.
 fn one_symbol(alloc: Global, words: &[u32], place: usize) -> Result<Option<ChunkError>, Fail> {
     match from_parts(alloc, words, &[(place, 0, u64::MAX, 1)])? {
         Some(store) => Ok(refuses(alloc, &store, 0)),
@@ -113,7 +113,7 @@ fn one_symbol(alloc: Global, words: &[u32], place: usize) -> Result<Option<Chunk
     }
 }
 
-/// Makes the store of row `store_program` from its words and its index.
+/// Makes the store of the test `store_program` from its words and its index.
 fn three_from_parts(alloc: Global) -> Result<Halves, Fail> {
     let index = [
         (0, 0, u64::MAX, 2),

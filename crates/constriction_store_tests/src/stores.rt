@@ -1,4 +1,4 @@
-//! The stores that tests begin with, and helpers that make their calls.
+//! Helpers that build the stores of the tests, and make the calls of a store.
 
 use constriction_base::weights::{TableError, WeightTable};
 use constriction_queue::RangeCoderState;
@@ -44,7 +44,7 @@ pub fn store_of_lists(alloc: Global, lists: &[&[usize]]) -> Result<Halves, Fail>
     store_of(alloc, chunks.as_slice())
 }
 
-/// Builds the store of row `store_program`.
+/// Builds the store of the test `store_program`, which has three chunks.
 pub fn three(alloc: Global) -> Result<Halves, Fail> {
     store_of_lists(alloc, &[&[1, 0], &[], &[1]])
 }

@@ -154,7 +154,7 @@ fn show_wide(rt: &impl Print, name: &str, bits: &Bits<'_>) -> io::Result<()> {
     show(rt, name, sum)
 }
 
-/// Prints the lines of the stack coder.
+/// Makes stack coders in each form, decodes, and prints a line for each form.
 fn of_stack(rt: &impl Print, models: &Models<'_>) -> io::Result<()> {
     let compressed = Made::Stack(stack::Form::Compressed);
     show_words(rt, "stack, compressed", models, compressed)?;
@@ -179,7 +179,7 @@ fn of_stack(rt: &impl Print, models: &Models<'_>) -> io::Result<()> {
     Ok(())
 }
 
-/// Prints the lines of the range coder.
+/// Makes range decoders in each form, decodes, and prints a line for each form.
 fn of_range(rt: &impl Print, models: &Models<'_>) -> io::Result<()> {
     let compressed = Made::Range(range::Form::Compressed);
     show_words(rt, "range, compressed", models, compressed)?;
@@ -202,9 +202,9 @@ fn of_range(rt: &impl Print, models: &Models<'_>) -> io::Result<()> {
     Ok(())
 }
 
-/// Prints the lines of stores with one chunk, for several entries.
+/// Looks up the chunk of stores with one chunk, for several entries, and prints a line for each kind of case.
 ///
-/// The positions lie before, at and past the end of the words. The intervals are intervals of encoders and others.
+/// The positions lie before, at and past the end of the words. One of the intervals is too short for an entry.
 fn of_stores(rt: &impl Print, models: &Models<'_>) -> io::Result<()> {
     'intervals: for (lower, range) in [(0u16, 65535u16), (33024, 65280), (1, 300), (0, 255)] {
         'places: for place in 0..4usize {
@@ -225,7 +225,7 @@ fn of_stores(rt: &impl Print, models: &Models<'_>) -> io::Result<()> {
     Ok(())
 }
 
-/// Prints the lines of the chain coder.
+/// Makes chain coders in each form, decodes or encodes, and prints a line for each form.
 fn of_chain(rt: &impl Print, models: &Models<'_>) -> io::Result<()> {
     let compressed = Made::Chain(chain::Form::Compressed);
     show_words(rt, "chain, compressed", models, compressed)?;
@@ -260,7 +260,7 @@ const FORMS: [(&str, bits::Form); 4] = [
     ("stack of symbols", bits::Form::StackOfSymbols),
 ];
 
-/// Prints the lines of the bit coders, over 8-bit words and over 32-bit words.
+/// Decodes with the bit coders over 8-bit and over 32-bit words, and prints a line for each form and width.
 fn of_bits(rt: &impl Print, models: &Models<'_>) -> io::Result<()> {
     let tree = models.tree;
     'bytes: for (name, form) in FORMS {
@@ -272,7 +272,7 @@ fn of_bits(rt: &impl Print, models: &Models<'_>) -> io::Result<()> {
     Ok(())
 }
 
-/// Prints the lines of all coders.
+/// Decodes with all coders, and prints their lines.
 fn of_all(rt: &impl Print, models: &Models<'_>) -> io::Result<()> {
     of_stack(rt, models)?;
     of_range(rt, models)?;

@@ -1,4 +1,4 @@
-//! `Decode`: decoders, with single steps and iterators of steps.
+//! `Decode`, the trait of decoders. Its calls decode one symbol, or return an iterator that decodes a list of symbols.
 
 ghost use Rattle.std.specs.Prelude.{◌≡◌, Result};
 ghost use Rattle.std.specs.Bool.{OnFalse};
@@ -51,7 +51,8 @@ pub trait Decode<const PRECISION: usize>: Code {
 
     /// Decodes a symbol under a model.
     ///
-    /// The coder makes the step of the decoded symbol's interval in the model's table.
+    /// The coder finds an entry of the model's table, makes the entry's step as `decodes` allows, and returns the
+    /// entry's symbol.
     ///
     /// # Errors
     ///

@@ -1,4 +1,4 @@
-//! `Encode`: encoders, with single steps and lists of steps.
+//! `Encode`, the trait of encoders. Its calls encode one symbol or a list of symbols.
 
 ghost use Rattle.std.specs.Prelude.{◌≡◌, ◌+◌, ◌<◌, ◌≤◌, ℕ, Result, Err};
 ghost use Rattle.std.specs.Bool.{OnFalse};

@@ -3,7 +3,7 @@
 //! The iterators are lazy: they decode a symbol only when `next` is called. They return one result for each model, and
 //! continue after an error. After an iterator is dropped, its decoder is positioned after the symbols returned so far.
 //! The fields are public, because contracts name the decoder and the models that are left. The methods of `Decode` that
-//! return the iterators are `final`: as plain default methods they would make every implementation of `Decode` fail.
+//! return the iterators are `final`: if they were plain default methods, no impl of `Decode` could be proved.
 //!
 //! - [`decode_symbols`]: one symbol for each model.
 //! - [`try_decode_symbols`]: one symbol for each model, where an item may be an error instead of a model.

@@ -15,8 +15,8 @@
 //! - [`encoding`]: `Encode` for single steps and lists of symbols, and `EncodeReverse` for lists from the last symbol
 //!   to the first.
 //! - [`decoding`]: `Decode` for single steps and for iterators of symbols.
-//! - [`iterators`]: the iterators.
-//! - [`conversions`]: `IntoDecoder` and `AsDecoder`, from an encoder to a decoder.
+//! - [`iterators`]: the iterators that the calls of `Decode` return.
+//! - [`conversions`]: `IntoDecoder` turns an encoder into a decoder, and `AsDecoder` lends an encoder's data to one.
 //! - [`errors`]: the error of calls that take models or symbols as `Result`s.
 //!
 //! Code that works with any coder states what it requires of the coder:

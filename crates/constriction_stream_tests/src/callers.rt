@@ -38,7 +38,7 @@ where
     }
 }
 
-/// Encodes symbols with one model. The contract describes which symbols are encoded.
+/// Encodes symbols with one model, in order. If a symbol fails, exactly the symbols before it are encoded.
 pub fn encode_some<C, M>(
     coder: &mut C,
     symbols: &[M::Symbol],
@@ -95,7 +95,7 @@ where
     count
 }
 
-/// Encodes two symbols with one model, by a list call of pairs.
+/// Encodes two symbols with one model, as two pairs in one call of `encode_symbols`.
 pub fn encode_two<C, M>(
     coder: &mut C,
     first: &M::Symbol,
@@ -181,7 +181,7 @@ where
     coder.encode_iid_symbols_reverse(symbols, model)
 }
 
-/// Encodes a symbol. The error is that of an impossible symbol exactly if the model has no entry for `symbol`.
+/// Encodes a symbol. Returns the error for an impossible symbol exactly if the model has no entry for `symbol`.
 pub fn encode_exactly<C, M>(
     coder: &mut C,
     symbol: &M::Symbol,

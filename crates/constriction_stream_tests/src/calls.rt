@@ -23,7 +23,7 @@ pub enum Put {
     Impossible,
     /// There was no memory.
     Refused,
-    /// An item was this error.
+    /// The list had this error in place of a symbol and its model.
     Bad(u8),
     /// The pile takes no more symbols, so the call was not made.
     Full,
@@ -38,7 +38,7 @@ pub enum Took {
     Empty,
     /// The pile refused the decode with another error.
     Refused,
-    /// There was this error in place of the model.
+    /// The iterator of models returned this error in place of a model.
     Bad(u8),
     /// There was no further model.
     End,

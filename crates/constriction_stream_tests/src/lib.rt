@@ -1,5 +1,4 @@
-//! Tests of the coder traits, with a coder that is a pile of quantiles, and with callers that know a coder by its
-//! traits alone.
+//! Tests of the coder traits, with a pile of quantiles as the coder, and with callers that are generic over coders.
 //!
 //! The contracts of `constriction_stream` are proved there for all coders. These tests check what no contract can
 //! state: list calls and iterators stop and go on where a reader expects, and they can succeed. The tests are a
@@ -8,8 +7,8 @@
 //! `tests/cases/constriction_stream_tests` has tests that run without a proof, with `tests/unproved`. They cover lists
 //! and iterators that stop at a fault, and the items that they request from their callers' iterators.
 //!
-//! [`calls`] has functions without a contract for the calls that cost much to prove, so that the proof of a helper
-//! doesn't use the contracts of these calls.
+//! [`calls`] wraps calls whose contracts are expensive in proofs, in functions without a contract. So the proof of a
+//! helper doesn't use these contracts.
 #![tactic(auto)]
 
 #[cfg(test)]

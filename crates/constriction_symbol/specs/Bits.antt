@@ -22,13 +22,13 @@ pub record IsStackWords (w : ℕ) (bits : List Bool) (words : List ℕ) : Type 0
   pub fewest : zeros < w
   pub is : bits_of_words w words ≡ bits ++ true ∷ replicate zeros false
 
--- The word ends a stack with these bits: it has the bits, a 1, and zeros above it.
+-- The word ends a stack: from the lowest bit to the highest, it has these bits, a 1, and zeros.
 pub record TopWord (w : ℕ) (bits : List Bool) (word : ℕ) : Type 0 where
   pub zeros : ℕ
   pub fewest : zeros < w
   pub is : bits_of w word ≡ bits ++ true ∷ replicate zeros false
 
--- The words hold the bits of a stack, where no words hold no bits.
+-- The words hold the bits of a stack. An empty list of words holds no bits.
 abbrev pub HasStackWords : ℕ → List Bool → List ℕ → Type 0
 HasStackWords w bits [] = bits ≡ []
 HasStackWords w bits (v ∷ vs) = IsStackWords w bits (v ∷ vs)
@@ -39,11 +39,11 @@ pub record BitsValue (B : Type 0) : Type 0 where
   pub last : List Bool
   pub backend : B
 
--- The bits of a backend's words, from the word to be read last to the word to be read first, and then other bits.
+-- The bits of a backend's words, from the word to be read last to the word to be read first, and then `last`.
 abbrev pub bits_above : {W : Type 0} → ℕ → (W → ℕ) → List W → List Bool → List Bool
 bits_above w number words last = bits_of_words w (map number (reverse words)) ++ last
 
--- The bits given, and behind them those of a backend's words in reading order.
+-- The bits `last`, and then the bits of a backend's words in reading order.
 abbrev pub bits_behind : {W : Type 0} → ℕ → (W → ℕ) → List Bool → List W → List Bool
 bits_behind w number last words = last ++ bits_of_words w (map number words)
 
@@ -53,7 +53,7 @@ abbrev pub WritesBits : {W B E : Type 0} → ℕ → (W → ℕ) → (B → W �
 WritesBits {W} w number write bits backend r backend' =
     (word : W) × (bits_of w (number word) ≡ bits) × write backend word r backend'
 
--- A bit is appended to the last word. A full last word is written first, and the bit begins the next one. If that write
+-- A bit is appended to the last word. A full last word is written first, and the bit begins the next word. If the write
 -- is refused, the last word stays.
 abbrev pub PutsLast : {W B E : Type 0} → ℕ → (W → ℕ) → (B → W → Result (Unit {0}) E → B → Type 0) → List Bool → B → Bool
     → Result (Unit {0}) E → List Bool → B → Type 0
@@ -74,7 +74,7 @@ PutsBit old bit (Ok _) new = new ≡ old ++ bit ∷ []
 PutsBit old bit (Err _) new = new ≡ old
 
 -- The last bit of the last word is removed. If the last word is empty, a word is read, and its last bit is removed. If
--- no word is left, or the read is refused, only the read's own change happens.
+-- no word is left, or the read is refused, the last word stays empty.
 abbrev pub TakesLast : {W B E : Type 0} → ℕ → (W → ℕ) → (B → Result (Option W) E → B → Type 0) → List Bool → B
     → Option (Result Bool E) → List Bool → B → Type 0
 TakesLast {W} w number reads last backend (Some (Ok bit)) last' backend' =
@@ -85,7 +85,8 @@ TakesLast w number reads last backend None last' backend' =
 TakesLast w number reads last backend (Some (Err e)) last' backend' =
     (last ≡ []) × (last' ≡ []) × reads backend (Err e) backend'
 
--- The first bit of the current word is removed. If the current word is empty, the next word is read.
+-- The first bit of the current word is removed. If the current word is empty, the next word is read first. If no word
+-- is left, or the read is refused, the current word stays empty.
 abbrev pub TakesFirst : {W B E : Type 0} → ℕ → (W → ℕ) → (B → Result (Option W) E → B → Type 0) → List Bool → B
     → Option (Result Bool E) → List Bool → B → Type 0
 TakesFirst {W} w number reads last backend (Some (Ok bit)) last' backend' =
@@ -96,8 +97,8 @@ TakesFirst w number reads last backend None last' backend' =
 TakesFirst w number reads last backend (Some (Err e)) last' backend' =
     (last ≡ []) × (last' ≡ []) × reads backend (Err e) backend'
 
--- Bits are appended to the last word. If they don't all fit, the first of them fill it, it is written, and the others
--- (at least one) begin the next. If that write is refused, the first of them stay.
+-- Bits are appended to the last word. If not all of them fit, the first bits fill the last word, and it is written. The
+-- other bits (at least one) begin the next word. If the write is refused, the filled word stays.
 abbrev pub PutsBits : {W B E : Type 0} → ℕ → (W → ℕ) → (B → W → Result (Unit {0}) E → B → Type 0) → List Bool → B
     → List Bool → Result (Unit {0}) E → List Bool → B → Type 0
 PutsBits w number write last backend bits (Ok _) last' backend' =
@@ -109,20 +110,20 @@ PutsBits w number write last backend bits (Err e) last' backend' =
     × (length (last ++ front) ≡ w)
     × (last' ≡ last ++ front) × WritesBits w number write (last ++ front) backend (Err e) backend'
 
--- The next bit is given, or no bit is left; an error leaves the bits unchanged.
+-- A read gives the next bit, or finds no bit left. An error leaves the bits unchanged.
 abbrev pub GivesBit : {E : Type 0} → List Bool → Option (Result Bool E) → List Bool → Type 0
 GivesBit old (Some (Ok bit)) new = old ≡ bit ∷ new
 GivesBit old None new = (old ≡ []) × (new ≡ [])
 GivesBit old (Some (Err _)) new = new ≡ old
 
--- A bit is popped off a stack.
+-- A read takes the last bit off a stack. If `is_list` holds, the coder's bits change as in `GivesBit`.
 abbrev pub PopsBit : {W B E : Type 0} → ℕ → (W → ℕ) → Type 0 → (B → Result (Option W) E → B → Type 0) → BitsValue B
     → Option (Result Bool E) → BitsValue B → Type 0
 PopsBit w number is_list reads old item new =
     TakesLast w number reads old.last old.backend item new.last new.backend
     × (is_list → GivesBit (reverse old.bits) item (reverse new.bits))
 
--- A bit is taken from a queue.
+-- A read takes the first bit from a queue. If `is_list` holds, the coder's bits change as in `GivesBit`.
 abbrev pub TakesBit : {W B E : Type 0} → ℕ → (W → ℕ) → Type 0 → (B → Result (Option W) E → B → Type 0) → BitsValue B
     → Option (Result Bool E) → BitsValue B → Type 0
 TakesBit w number is_list reads old item new =
@@ -133,17 +134,17 @@ TakesBit w number is_list reads old item new =
 abbrev pub AreZeros : List Bool → Type 0
 AreZeros bits = bits ≡ replicate (length bits) false
 
--- The padded bits are the bits, and fewer zeros than a word has bits.
+-- The padded bits are the bits and then fewer than w zeros.
 abbrev pub PadsTo : ℕ → List Bool → List Bool → Type 0
 PadsTo w bits padded = (zeros : ℕ) × (zeros < w) × (padded ≡ bits ++ replicate zeros false)
 
--- A word is written that begins with these bits and has zeros behind them.
+-- A word is written. Its lowest bits are these bits (at least one), and all other bits are 0.
 abbrev pub WritesPadded : {W B E : Type 0} → ℕ → (W → ℕ) → (B → W → Result (Unit {0}) E → B → Type 0) → List Bool → B
     → Result (Unit {0}) E → B → Type 0
 WritesPadded {W} w number write bits backend r backend' =
     (word : W) × PadsTo w bits (bits_of w (number word)) × write backend word r backend'
 
--- A stack is ended: a 1 is appended, and the last word is written. The answer of a refused write is its error.
+-- A stack is ended: a 1 is appended, and the last word is written. If a write is refused, the answer is its error.
 abbrev pub ClosesStack : {W B E : Type 0} → ℕ → (W → ℕ) → (B → W → Result (Unit {0}) E → B → Type 0) → List Bool → B
     → Result B E → Type 0
 ClosesStack {B = B} w number write last backend (Ok all) =
@@ -153,7 +154,7 @@ ClosesStack {B = B} w number write last backend (Err e) =
     ((left : B) × PutsLast w number write last backend true (Err e) last left)
     ⊎ ((top : List Bool) × (between left : B) × PutsLast w number write last backend true (Ok tt) top between × WritesPadded w number write top between (Err e) left)
 
--- A queue is ended: its last word is written if it has bits. The answer of a refused write is its error.
+-- A queue is ended: its last word is written if it has bits. If the write is refused, the answer is its error.
 abbrev pub ClosesQueue : {W B E : Type 0} → ℕ → (W → ℕ) → (B → W → Result (Unit {0}) E → B → Type 0) → List Bool → B
     → Result B E → Type 0
 ClosesQueue w number write last backend (Ok all) =
@@ -161,8 +162,8 @@ ClosesQueue w number write last backend (Ok all) =
 ClosesQueue {B = B} w number write last backend (Err e) =
     (last ≡ [] → ⊥) × (left : B) × WritesPadded w number write last backend (Err e) left
 
--- The decoder's backend is made from the words that end a queue of bits. If the coder has no bits outside its backend,
--- these words are in that backend.
+-- The decoder's backend is made from the backend that ending the coder's queue leaves. If the coder has no bits outside
+-- its backend, ending the queue leaves the backend unchanged.
 abbrev pub ReadsClosed : {W B E D : Type 0} → ℕ → (W → ℕ) → (B → List W) → (B → W → Result (Unit {0}) E → B → Type 0)
     → (B → D → Type 0) → BitsValue B → D → Type 0
 ReadsClosed {B = B} w number words write becomes coder decoder =

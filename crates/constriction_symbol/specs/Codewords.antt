@@ -15,7 +15,7 @@ use Rattle.constriction_symbol.specs.declared.codebooks.SymbolCodeError.TheVaria
 abbrev pub Answer : Type 0 → Type 0
 Answer E = Result (Unit {0}) (CoderError DefaultEncoderFrontendError E)
 
--- The emitter f is called at each bit in order, up to and including the first call that fails. It is then `last`.
+-- The emitter f is called with each bit in order, up to and including the first call that fails. Then it is `last`.
 abbrev pub Emits : {F E : Type 0} → Mut F (Bool × Unit {0}) (Result (Unit {0}) E)
     → F → List Bool → Answer E → F → Type 0
 Emits g f [] r last = (r ≡ Ok tt) × (f ≡ last)
@@ -27,37 +27,37 @@ Emits {F} {E} g f (b ∷ bs) r last =
 abbrev pub LacksMemory : {A E : Type 0} → Type 0 → (A → E → Type 0) → E → Type 0
 LacksMemory {A} wants gives e = wants × ((a : A) × gives a e)
 
--- Memory is needed for the codeword of a symbol, in the chosen one of prefix and suffix form.
+-- The chosen form (prefix or suffix) of a symbol's codeword needs memory, and the error is as in `LacksMemory`.
 abbrev pub LacksMemoryFor : {A K S E : Type 0} → (Type 0 → Type 0 → Type 0) → (K → S → Type 0) → (K → S → Type 0)
     → (A → E → Type 0) → K → S → E → Type 0
 LacksMemoryFor chosen prefix suffix gives codebook symbol =
     LacksMemory (chosen (prefix codebook symbol) (suffix codebook symbol)) gives
 
--- The bits of a codeword are emitted. None is if the symbol has no codeword, or if memory was needed and not available.
+-- The bits of a codeword are emitted. No bit is emitted without a codeword, or without memory that is needed.
 abbrev pub EmitsCodeword : {F E : Type 0} → Mut F (Bool × Unit {0}) (Result (Unit {0}) E) → (E → Type 0) → F
     → Option (List Bool) → Answer E → F → Type 0
 EmitsCodeword g wants f None r last = (r ≡ Err (Frontend ImpossibleSymbol)) × (f ≡ last)
 EmitsCodeword {F} {E} g wants f (Some bits) r last =
     Emits g f bits r last ⊎ ((e : E) × wants e × (r ≡ Err (Backend e)) × (f ≡ last))
 
--- The write of one bit of a codeword was refused: exactly the bits before it were written, one by one.
+-- The write of one bit of a codeword is refused: exactly the bits before it are written, one by one.
 pub record RefusedAt {C E : Type 0} (bits : C → List Bool) (puts : C → Bool → Result (Unit {0}) E → C → Type 0)
     (old : C) (code : List Bool) (e : E) (new : C) : Type 0 where
-  -- The bits before the refused bit, that bit, and those behind it.
+  -- The bits before the refused bit, that bit, and the bits behind it.
   pub front : List Bool
   pub bit : Bool
   pub back : List Bool
   pub whole : code ≡ front ++ bit ∷ back
-  -- The stream that refused the bit. The bits before it lead there one by one.
+  -- The stream that refuses the bit. Writing the bits before the refused bit, one by one, leads to this stream.
   pub mid : C
   pub before : StepsAll puts old front mid
-  -- The write of that bit answers the error, and leaves the new stream.
+  -- The write of the refused bit returns the error, and leaves the new stream.
   pub refused : puts mid bit (Err e) new
-  -- The new stream has exactly the bits before it in addition.
+  -- The new stream has the old bits, and then exactly the bits before the refused bit.
   pub begun : bits new ≡ bits old ++ front
 
--- The stream appends a codeword as if bit by bit. If a bit is refused, the stream has the bits before it. If memory was
--- needed and not available, the stream is unchanged.
+-- The stream appends a codeword as if bit by bit. If a bit is refused, only the bits before it are appended. If memory
+-- is needed and not available, the stream is unchanged.
 abbrev pub WritesEachBit : {C E : Type 0} → (C → List Bool) → (C → Bool → Result (Unit {0}) E → C → Type 0)
     → (E → Type 0) → C → List Bool → Answer E → C → Type 0
 WritesEachBit bits puts wants old code (Ok _) new = (bits new ≡ bits old ++ code) × StepsAll puts old code new
@@ -71,12 +71,13 @@ abbrev pub WritesCodeword : {C E : Type 0} → (C → List Bool) → (C → Bool
 WritesCodeword bits puts wants old None r new = (r ≡ Err (Frontend ImpossibleSymbol)) × (new ≡ old)
 WritesCodeword bits puts wants old (Some code) r new = WritesEachBit bits puts wants old code r new
 
--- The form of a codeword, if there is one.
+-- The codeword in the given form, or `None` if there is no codeword.
 abbrev pub formed : (List Bool → List Bool) → Option (List Bool) → Option (List Bool)
 formed form None = None
 formed form (Some bits) = Some (form bits)
 
--- The stream appends the codeword of a lent symbol by the codebook beside it, or (below) by one codebook.
+-- The stream appends the codeword of a symbol that an item lends. Each symbol has its own codebook beside it, or
+-- (below) all symbols have one codebook.
 abbrev pub WritesPair : {C L K S E : Type 0} → (C → List Bool) → (C → Bool → Result (Unit {0}) E → C → Type 0)
     → (K → S → E → Type 0) → (K → S → Option (List Bool)) → (List Bool → List Bool) → (L → S)
     → C → L × K → Answer E → C → Type 0
@@ -88,7 +89,7 @@ abbrev pub WritesSymbol : {C L S E : Type 0} → (C → List Bool) → (C → Bo
 WritesSymbol bits puts wants codeword form lent old item r new =
     WritesCodeword bits puts (wants (lent item)) old (formed form (codeword (lent item))) r new
 
--- The codeword is the lowest bits of a number, first bit highest. They are fewer than w, with zeros above them.
+-- The codeword is the `count` lowest bits of a number, first bit highest. All higher bits are 0, and 0 < count < w.
 pub record IsLowBits (w : ℕ) (codeword : Option (List Bool)) (number count : ℕ) : Type 0 where
   pub some : 0 < count
   pub part : count < w
@@ -101,12 +102,12 @@ pub record BeginsTopBits (w all number : ℕ) (codeword : Option (List Bool)) (c
   pub part : count < all
   pub is : codeword ≡ Some (top_bits w count number)
 
--- No codeword begins the bits.
+-- The bits begin with no codeword.
 abbrev pub NoneBegins : {S : Type 0} → (S → Option (List Bool)) → List Bool → Type 0
 NoneBegins {S} codeword bits =
     (symbol : S) (code tail : List Bool) → codeword symbol ≡ Some code → bits ≡ code ++ tail → ⊥
 
--- No codeword begins the bits, whatever follows them.
+-- The bits begin with no codeword, whatever bits follow them.
 abbrev pub NoneFits : {S : Type 0} → (S → Option (List Bool)) → List Bool → Type 0
 NoneFits codeword bits = (rest : List Bool) → NoneBegins codeword (bits ++ rest)
 
@@ -125,7 +126,7 @@ EndsAfter {I} next old bits new = (last : I) × GivesBits next old bits last × 
 abbrev pub FailsAfter : {I E : Type 0} → (I → Option (Result Bool E) → I → Type 0) → I → List Bool → E → I → Type 0
 FailsAfter {I} next old bits e new = (last : I) × GivesBits next old bits last × next last (Some (Err e)) new
 
--- The bits end, or their source returns an error, after bits that have the property.
+-- After bits for which `reads_on` holds, the source ends or returns an error.
 abbrev pub StopsWithin : {I V E : Type 0} → (I → Option (Result Bool E) → I → Type 0) → (List Bool → Type 0) → I
     → CoderError (SymbolCodeError V) E → I → Type 0
 StopsWithin next reads_on old (Frontend OutOfCompressedData) new =
@@ -133,8 +134,8 @@ StopsWithin next reads_on old (Frontend OutOfCompressedData) new =
 StopsWithin next reads_on old (Frontend (InvalidCodeword e)) new = ⊥
 StopsWithin next reads_on old (Backend e) new = (bits : List Bool) × reads_on bits × FailsAfter next old bits e new
 
--- A decode reads the bits of a codeword and returns its symbol. An error is the end or an error of the source after
--- bits after which the codebook reads on, or follows bits that are invalid.
+-- A decode reads the bits of a codeword and returns its symbol. A decode fails if the source ends or returns an error
+-- while the codebook reads on, or if the bits read are invalid.
 abbrev pub ReadsSymbol : {I S V E : Type 0} → (I → Option (Result Bool E) → I → Type 0) → (S → Option (List Bool))
     → (List Bool → Type 0) → (List Bool → V → Type 0)
     → I → Result S (CoderError (SymbolCodeError V) E) → I → Type 0
@@ -147,8 +148,8 @@ ReadsSymbol next codeword reads_on is_invalid old (Err (Frontend (InvalidCodewor
 ReadsSymbol next codeword reads_on is_invalid old (Err (Backend e)) new =
     (bits : List Bool) × reads_on bits × FailsAfter next old bits e new
 
--- A decode of bits that begin with the codeword of a symbol returns it, or a symbol of the same meaning, and reads
--- exactly its codeword. Otherwise the source returned an error. The codebook itself refuses nothing.
+-- A decode of bits that begin with a symbol's codeword reads exactly the codeword, and returns a symbol that means the
+-- same. It fails only if the source returns an error.
 abbrev pub ComesBack : {S V E : Type 0} → (S → S → Type 0) → S → List Bool → Result S (CoderError (SymbolCodeError V) E)
     → List Bool → Type 0
 ComesBack same symbol rest (Ok t) unread = same t symbol × (unread ≡ rest)

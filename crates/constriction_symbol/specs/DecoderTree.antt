@@ -10,7 +10,7 @@ abbrev pub tree_of_pairs : List (List ℕ) → Tree
 tree_of_pairs nodes =
     tree_at (length nodes + length nodes) (length nodes + 1) (map as_pair nodes) (length nodes + length nodes)
 
--- The nodes are those of this tree, which has each symbol once.
+-- The list of children holds this tree, in which each symbol occurs exactly once.
 pub record HoldsTree (nodes : List (List ℕ)) (tree : Tree) : Type 0 where
   pub fits : 2 * length nodes + 1 < 2 ^ 64
   pub at : IsTreeAt (length nodes + 1) (map as_pair nodes) (length nodes + length nodes) tree
@@ -29,7 +29,7 @@ pub record IsPlace (nodes : List (List ℕ)) (bits : List Bool) (place : Place) 
   pub leads : LeadsTo nodes (take place.taken bits) place.index
   pub whole : (place.index < length nodes + 1) ⊎ (place.taken ≡ length bits)
 
--- The entry at each number says where the bits below its highest 1 lead, highest first.
+-- The entry at each number is the place of the number's bits below its highest 1, highest first.
 abbrev pub HasPlaces : List (List ℕ) → List Place → Type 0
 HasPlaces nodes places = (number : ℕ) (bits : List Bool) → number < length places → HasBelowOne bits number
     → IsPlace nodes bits (get_or places number (record { index = 0; taken = 0 }))

@@ -23,11 +23,11 @@ pub record HasBelowOne (bits : List Bool) (number : ℕ) : Type 0 where
   pub is : number ≡ low + 2 ^ count
   pub reads : bits ≡ reverse (bits_of count low)
 
--- The number has one bit more than `above`, below the others; or it is 0, which stands for no codeword.
+-- The number is `above` with `bit` appended as the lowest bit, or 0, which stands for no codeword.
 abbrev pub OneBitMore : ℕ → ℕ → ℕ → Type 0
 OneBitMore above bit number = (number ≡ 0) ⊎ ((0 < above) × (number ≡ 2 * above + bit))
 
--- Each number holds the bits of the climb from its node to the root, or is 0.
+-- Each node's number is a 1 followed by the bits from the root to the node, or 0.
 pub record HasCodewords (nodes numbers : List ℕ) : Type 0 where
   pub len : length numbers ≡ length nodes
   pub each : (index : ℕ) → index < length nodes

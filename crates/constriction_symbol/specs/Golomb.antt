@@ -6,11 +6,11 @@ use Rattle.std.specs.Int.Digits.{digits_of}
 abbrev pub binary : ℕ → List Bool
 binary n = map (λ d. d == 1) (digits_of 2 n)
 
--- The codeword of n: the bits of n + 1, behind zeros, one fewer than these bits.
+-- The codeword of n: zeros, and then the bits of n + 1. There is one zero fewer than n + 1 has bits.
 abbrev pub golomb : ℕ → List Bool
 golomb n = replicate (length (binary (n + 1)) - 1) false ++ binary (n + 1)
 
--- The number whose bits are those of n and then these, highest first.
+-- The number whose bits, highest first, are the bits of n and then the given bits.
 abbrev pub number_after : ℕ → List Bool → ℕ
 number_after n [] = n
 number_after n (b ∷ bs) = number_after (2 * n + (if b then 1 else 0)) bs
@@ -26,7 +26,7 @@ WantsBit b bits =
     ((count : ℕ) × (count ≤ b) × (bits ≡ replicate count false))
     ⊎ ((count : ℕ) × (tail : List Bool) × (count ≤ b) × (length tail < count) × (bits ≡ zeros_one count tail))
 
--- The reader stops with an error after these bits: more zeros than b, or b zeros, a 1, and b bits that aren't all 0.
+-- The reader stops with an error after these bits: b + 1 zeros, or b zeros, a 1, and b bits that aren't all 0.
 abbrev pub IsInvalid : ℕ → List Bool → Type 0
 IsInvalid b bits =
     (bits ≡ replicate (b + 1) false)

@@ -20,7 +20,7 @@ binary_digit n d b some digit is =
     let step : digits_of 2 (2 * n + d) ≡ digits_of 2 n ++ d ∷ [] = rw (half, low) at (digits_of_step 2 (2 * n + d) (omega arith) (omega (arith, some))) in
     ap (map (λ e. e == 1)) step ∙ (map_push (λ e. e == 1) (digits_of 2 n) d ∙ ap (λ x. map (λ e. e == 1) (digits_of 2 n) ++ x ∷ []) is)
 
--- The number after one more digit.
+-- For n above 0, the bits of 2 * n (plus 1 if b is set) are the bits of n and then b.
 binary_more : (n : ℕ) (b : Bool) → 0 < n → binary (2 * n + (if b then 1 else 0)) ≡ binary n ++ b ∷ []
 binary_more n true some = binary_digit n 1 true some (omega arith) refl
 binary_more n false some = binary_digit n 0 false some (omega arith) refl
@@ -33,7 +33,7 @@ binary_after n (b ∷ bs) some = binary_after (2 * n + (if b then 1 else 0)) bs 
     above true = omega arith
     above false = omega (arith, some)
 
--- Zeros leave the number 0.
+-- If the number after some bits is 0, then n is 0, and all these bits are 0.
 pub no_bits : (n : ℕ) (bs : List Bool) → number_after n bs ≡ 0 → (n ≡ 0) × (bs ≡ replicate (length bs) false)
 no_bits n [] is = (is, refl)
 no_bits n (true ∷ bs) is = let rest = no_bits (2 * n + 1) bs is in absurd (omega (arith, rest.0))
@@ -54,7 +54,7 @@ pub after_one : (fuel m : ℕ) → m ≤ fuel → 0 < m → (tail : List Bool) �
 after_one zero m within some = absurd (omega (arith, within, some))
 after_one (suc fuel) m within some = halved m (m / 2) refl some (λ half. after_one fuel (m / 2) (omega (arith, within, some)) half)
 
--- The number after more bits is n, shifted by their count, plus their own number.
+-- The number after some bits is n, shifted left by the count of these bits, plus the number that these bits make alone.
 pub number_above : (n : ℕ) (bits : List Bool) → number_after n bits ≡ n * 2 ^ length bits + number_after 0 bits
 number_above n [] = omega (arith, pow-zero 2)
 number_above n (b ∷ bs) =
@@ -71,7 +71,7 @@ golomb_shape n =
     let one : suc (length found.0) - 1 ≡ length found.0 = omega arith in
     (found.0, rw (bits, one) refl, found.1)
 
--- The zeros and the 1 are known from the bits that they begin.
+-- If two equal lists are each zeros, a 1 and a tail, they have equally many zeros and the same tail.
 pub same_zeros : (j k : ℕ) (xs ys : List Bool) → zeros_one j xs ≡ zeros_one k ys → (j ≡ k) × (xs ≡ ys)
 same_zeros zero zero xs ys is = (refl, cc)
 same_zeros zero (suc k) xs ys is = absurd cc
@@ -88,7 +88,7 @@ only_zeros zero (suc k) ys is = cc
 only_zeros (suc j) zero ys is = cc
 only_zeros (suc j) (suc k) ys is = let rest : replicate j false ≡ zeros_one k ys = cc in only_zeros j k ys rest
 
--- Zeros that begin the bits are at most those before the 1.
+-- If bits begin with j zeros, at least j zeros precede their first 1.
 pub fewer_zeros : (j k : ℕ) (xs ys : List Bool) → replicate j false ++ xs ≡ zeros_one k ys → j ≤ k
 fewer_zeros zero k xs ys is = omega arith
 fewer_zeros (suc j) zero xs ys is = absurd cc
@@ -99,7 +99,7 @@ fewer_zeros (suc j) (suc k) xs ys is =
 pub zeros_one_then : (k : ℕ) (tail rest : List Bool) → zeros_one k tail ++ rest ≡ zeros_one k (tail ++ rest)
 zeros_one_then k tail rest = append_assoc (replicate k false) (true ∷ tail) rest
 
--- Two beginnings of equal length are equal.
+-- Two beginnings of one list are equal if they have equal length.
 pub same_front : (xs ys ms ns : List Bool) → length xs ≡ length ys → xs ++ ms ≡ ys ++ ns → xs ≡ ys
 same_front [] [] ms ns len is = refl
 same_front [] (y ∷ ys) ms ns len is = absurd (omega (arith, len))
@@ -110,7 +110,7 @@ same_front (x ∷ xs) (y ∷ ys) ms ns len is =
     let same = same_front xs ys ms ns (omega (arith, len)) rest in
     cc
 
--- Bits that begin with a codeword have its zeros and its bits.
+-- If k zeros, a 1 and `more` begin with a codeword, the codeword has k zeros, and `more` begins with its last k bits.
 begun : (n : ℕ) (bits more tail : List Bool) (k : ℕ) → zeros_one k more ≡ golomb n ++ tail → (front : List Bool) × (length front ≡ k) × (number_after 1 front ≡ n + 1) × (more ≡ front ++ tail)
 begun n bits more tail k is =
     let shape = golomb_shape n in
@@ -137,7 +137,7 @@ wanted_more b n bits tail (inr (count, more, within, fewer, zeros)) is =
     let front = begun n [] more tail count (sym zeros ∙ is) in
     omega (arith, front.1, fewer, ap length front.3, length-append front.0 tail)
 
--- The codeword of a number of b bits has at most b zeros.
+-- The codeword of a number below 2 ^ b has at most b zeros before its first 1.
 pub zeros_within : (b n : ℕ) (front : List Bool) → n + 1 ≤ 2 ^ b → number_after 1 front ≡ n + 1 → length front ≤ b
 zeros_within b n front fits is =
     let above = number_above 1 front in
@@ -149,7 +149,7 @@ zeros_within b n front fits is =
         let no : b < k → ⊥ = λ more. let up : 2 ^ b < 2 ^ k = pow-lt more in omega (arith, up, low) in
         omega (arith, no)
 
--- No codeword begins invalid bits, whatever follows them.
+-- Invalid bits begin with no codeword, whatever bits follow them.
 pub invalid_bits : (b n : ℕ) (bits rest tail : List Bool) → n < 2 ^ b → IsInvalid b bits → bits ++ rest ≡ golomb n ++ tail → ⊥
 invalid_bits b n bits rest tail fits (inl zeros) is =
     let shape = golomb_shape n in

@@ -13,6 +13,6 @@ lender g = g.inner
 abbrev pub written : {Word S A WordNonZero : Type 0} → CoderGuard Word S A WordNonZero → ℕ
 written g = g.count
 
--- What a guard's drop leaves behind its reference: the first of the fields that it returns.
+-- The guard's reference to the coder at the end of the guard's drop: the first of the guard's two fields.
 abbrev pub lent_back : {A B : Type 0} → A × B → A
 lent_back exit = exit.0

@@ -6,7 +6,7 @@ use Rattle.constriction_symbol.specs.Bits.{BitsValue, bits_above}
 abbrev pub bits_without : {W A : Type 0} → ℕ → (W → ℕ) → ℕ → BitsValue (Vec W A) → List Bool
 bits_without w number count coder = bits_above w number (drop count (reverse coder.backend.items)) coder.last
 
--- All bits, and those of the last word, are unchanged.
+-- The coder's bits, and its bits outside the backend, are unchanged.
 abbrev pub SameBits : {B : Type 0} → BitsValue B → BitsValue B → Type 0
 SameBits old new = (new.bits ≡ old.bits) × (new.last ≡ old.last)
 
@@ -18,6 +18,6 @@ spare_words words = vec_capacity words - vec_len words
 abbrev pub LacksEnd : {W A : Type 0} → ℕ → BitsValue (Vec W A) → Type 0
 LacksEnd w coder = (spare_words coder.backend < 2) × ((length coder.last ≡ w → ⊥) → spare_words coder.backend ≡ 0)
 
--- The vector has no room for the last word of a queue, which has bits.
+-- The last word of a queue has bits, and the vector has no room for this word.
 abbrev pub LacksRest : {W A : Type 0} → BitsValue (Vec W A) → Type 0
 LacksRest coder = (coder.last ≡ [] → ⊥) × (vec_capacity coder.backend ≤ vec_len coder.backend)

@@ -39,11 +39,11 @@ merged (suc n) next (x ∷ y ∷ set) = merged n (next + 1) (put_in (united x y 
 merged (suc n) next (x ∷ []) = x ∷ []
 merged (suc n) next [] = []
 
--- The trees left of these weights: one, if there is a weight.
+-- The trees that are left after merging these weights: one tree if there is a weight, else none.
 abbrev pub merge : List ℕ → List Tree
 merge weights = map (λ x. x.tree) (merged (length weights) (length weights) (leaves_from 0 weights))
 
--- The codeword in a node, from the codeword in its child at this bit.
+-- The codeword with `bit` in front, or `None` if there is no codeword.
 abbrev pub prefixed : Bool → Option (List Bool) → Option (List Bool)
 prefixed bit None = None
 prefixed bit (Some bits) = Some (bit ∷ bits)
@@ -105,7 +105,7 @@ pub record Book : Type 0 where
 abbrev pub book_of : Tree → Book
 book_of tree = record { symbols = length (leaves tree); codeword = path tree }
 
--- The codewords are those of the tree of these weights, one weight for each symbol.
+-- The book has one symbol for each weight, and the codewords of the tree of these weights.
 abbrev pub IsHuffman : List ℕ → Book → Type 0
 IsHuffman weights book =
     (book.symbols ≡ length weights) × ((symbol : ℕ) → book.codeword symbol ≡ huffman weights symbol)
@@ -122,7 +122,7 @@ IsTreeAt n pairs index (Node lesser other) =
     × ((children n pairs index).1 < index)
     × IsTreeAt n pairs (children n pairs index).0 lesser × IsTreeAt n pairs (children n pairs index).1 other
 
--- The tree at an index, with at most this many levels.
+-- The tree at an index, built down at most `fuel` levels.
 abbrev pub tree_at : ℕ → ℕ → List (ℕ × ℕ) → ℕ → Tree
 tree_at zero n pairs index = Leaf index
 tree_at (suc fuel) n pairs index =
@@ -136,7 +136,7 @@ IsNeither index pair = (pair.0 ≡ index → ⊥) × (pair.1 ≡ index → ⊥)
 abbrev pub IsRoot : List (ℕ × ℕ) → ℕ → Type 0
 IsRoot pairs index = All (IsNeither index) pairs
 
--- The pair is a union after the given ones: two different roots below its index.
+-- The pair can be the next union after those in `before`: it joins two different roots with lower indices.
 pub record IsUnion (n : ℕ) (before : List (ℕ × ℕ)) (pair : ℕ × ℕ) : Type 0 where
   pub lesser_below : pair.0 < n + length before
   pub other_below : pair.1 < n + length before
@@ -144,7 +144,7 @@ pub record IsUnion (n : ℕ) (before : List (ℕ × ℕ)) (pair : ℕ × ℕ) : 
   pub lesser_root : IsRoot before pair.0
   pub other_root : IsRoot before pair.1
 
--- Each pair is a union after those before it.
+-- Each pair is a union after the pairs before it.
 abbrev pub AreUnions : ℕ → List (ℕ × ℕ) → Type 0
 AreUnions n pairs = (j : ℕ) → j < length pairs → IsUnion n (take j pairs) (get_or pairs j (0, 0))
 
@@ -165,7 +165,7 @@ pub record IsMerged (weights : List ℕ) (pairs : List (ℕ × ℕ)) (tree : Tre
   pub root : IsRoot pairs (length weights + length pairs - 1)
   pub at : IsTreeAt (length weights) pairs (length weights + length pairs - 1) tree
 
--- The bits from the root to an index, found by climbing at most this many levels. The entry of a node is twice its
+-- The bits from the root to an index, found by climbing at most `fuel` levels. The entry of a node is twice its
 -- parent's index, plus 1 for the other child. The root's entry is 0.
 abbrev pub climbed : ℕ → List ℕ → ℕ → List Bool
 climbed zero nodes index = []
@@ -173,7 +173,7 @@ climbed (suc fuel) nodes index =
     if get_or nodes index 0 == 0 then []
     else climbed fuel nodes (get_or nodes index 0 / 2) ++ (get_or nodes index 0 % 2 == 1) ∷ []
 
--- Each entry is 0, or its half is an index above its own and below the bound.
+-- Each entry is 0, or half of it (rounded down) is an index above the entry's own index and below the bound.
 abbrev pub GoesUp : ℕ → List ℕ → Type 0
 GoesUp bound nodes =
     (index : ℕ) → (get_or nodes index 0 ≡ 0) ⊎ ((index < get_or nodes index 0 / 2) × (get_or nodes index 0 / 2 < bound))
@@ -185,12 +185,12 @@ pub record IsParents (n : ℕ) (pairs : List (ℕ × ℕ)) (nodes : List ℕ) : 
   pub roots : (index : ℕ) → IsRoot pairs index → get_or nodes index 0 ≡ 0
   pub up : GoesUp (n + length pairs) nodes
 
--- The place of the first entry with this value, or the number of entries.
+-- The place of the first entry with this value, or the number of entries if there is none.
 abbrev pub found : ℕ → List ℕ → ℕ
 found value [] = 0
 found value (entry ∷ entries) = if entry == value then 0 else suc (found value entries)
 
--- The tree at an index of a list of parents, with at most this many levels.
+-- The tree at an index of a list of parents, built down at most `fuel` levels.
 abbrev pub tree_in : ℕ → List ℕ → ℕ → Tree
 tree_in zero nodes index = Leaf index
 tree_in (suc fuel) nodes index =

@@ -10,7 +10,7 @@ use Rattle.constriction_symbol.specs.Codewords.{NoneBegins}
 pub leaf_path : (u s : ℕ) (bits : List Bool) → path (Leaf u) s ≡ Some bits → (u ≡ s) × (bits ≡ [])
 leaf_path u s bits is = let known = cond_some (u == s) [] bits is in (eqb-true u s known.0, sym known.1)
 
--- The codeword in a node is that in a child, behind the bit that leads there.
+-- A codeword in a node is the bit that leads to a child, and then a codeword in this child.
 pub node_path : (x y : Option (List Bool)) (bits : List Bool) → or_else (prefixed false x) (prefixed true y) ≡ Some bits
     → ((rest : List Bool) × (x ≡ Some rest) × (bits ≡ false ∷ rest)) ⊎ ((rest : List Bool) × (x ≡ None) × (y ≡ Some rest) × (bits ≡ true ∷ rest))
 node_path (Some rest) y bits is = inl (rest, refl, cc)
@@ -26,7 +26,7 @@ path_is_subtree (Node lesser other) s bits is =
       | inr found ↦ rw found.3 (path_is_subtree other s found.0 found.2)
     ]
 
--- More bits lead on from the tree reached.
+-- If bits lead to a tree, the bits after them lead on from this tree.
 pub subtree_append : (t u : Tree) (bits tail : List Bool) → subtree t bits ≡ Some u → subtree t (bits ++ tail) ≡ subtree u tail
 subtree_append t u [] tail is = ap (λ v. subtree v tail) (same_Some _ _ is)
 subtree_append (Leaf s) u (bit ∷ bits) tail is = absurd cc
@@ -38,7 +38,7 @@ pub below_leaf : (s : ℕ) (tail : List Bool) (u : Tree) → subtree (Leaf s) ta
 below_leaf s [] u is = (refl, sym (same_Some _ _ is))
 below_leaf s (bit ∷ tail) u is = absurd cc
 
--- If a codeword begins bits that lead to a tree, the tree is its leaf.
+-- If bits that begin with a codeword lead to a tree, no bits follow the codeword, and the tree is its symbol's leaf.
 pub begun_by : (t u : Tree) (s : ℕ) (code tail : List Bool) → path t s ≡ Some code → subtree t (code ++ tail) ≡ Some u → (tail ≡ []) × (u ≡ Leaf s)
 begun_by t u s code tail known is = below_leaf s tail u (sym (subtree_append t (Leaf s) code tail (path_is_subtree t s code known)) ∙ is)
 
@@ -54,6 +54,6 @@ inner_begins_none t bits (lesser, other, at) s code tail known is =
     let same = (begun_by t (Node lesser other) s code tail known (ap (subtree t) (sym is) ∙ at)).1 in
     cc
 
--- Equal symbols have one path.
+-- Equal symbols have the same path.
 pub same_path : (t : Tree) (s u : ℕ) → s ≡ u → path t s ≡ path t u
 same_path t s u is = ap (path t) is

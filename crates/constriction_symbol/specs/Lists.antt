@@ -11,7 +11,7 @@ AreCodewords codeword (item ∷ items) bits =
     (first : List Bool) × (rest : List Bool) × (codeword item ≡ Some first) × (bits ≡ first ++ rest)
     × AreCodewords codeword items rest
 
--- The codeword of a symbol by the codebook beside it.
+-- The codeword of a pair's symbol in the pair's codebook.
 abbrev pub of_pair : {K S : Type 0} → (K → S → Option (List Bool)) → S × K → Option (List Bool)
 of_pair codeword pair = codeword pair.1 pair.0
 
@@ -38,10 +38,10 @@ abbrev pub ReadsPairs : {I K S V E : Type 0} → (I → Option (Result Bool E) �
 ReadsPairs {E = E} next codeword reads_on is_invalid =
     InTurn (λ pair old new. ReadsSymbol {E = E} next (codeword pair.1) (reads_on pair.1) (is_invalid pair.1) old (Ok pair.0) new)
 
--- The symbols are the same, or mean the same, by one codebook.
+-- The symbols of two pairs mean the same in the second pair's codebook.
 abbrev pub IsSamePair : {K S : Type 0} → (K → S → S → Type 0) → S × K → S × K → Type 0
 IsSamePair same found pair = same pair.1 found.0 pair.0
 
--- The symbols are the same, or mean the same, each by its own codebook.
+-- The symbols at the same place of both lists mean the same in the codebook at this place.
 abbrev pub AreSameBy : {K S : Type 0} → (K → S → S → Type 0) → List K → List S → List S → Type 0
 AreSameBy same codebooks found symbols = AreEach (IsSamePair same) (zip found codebooks) (zip symbols codebooks)

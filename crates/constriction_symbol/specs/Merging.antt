@@ -46,7 +46,7 @@ pub record FitTree {P : Type 0} (number : P → ℕ) (bits most : ℕ) (weights 
   pub few : length weights ≤ most
   pub fits : sum_by number weights < 2 ^ bits
 
--- The weights give this error. Each error excludes the conditions of those before it.
+-- The weights give this error. Each error excludes the conditions of the errors before it.
 abbrev pub MakeNoTree : {P E : Type 0} → (P → ℕ) → ℕ → ℕ → List P → HuffmanError E → Type 0
 MakeNoTree number bits most weights Empty = weights ≡ []
 MakeNoTree number bits most weights TooManySymbols = (0 < length weights) × (most < length weights)
@@ -55,7 +55,7 @@ MakeNoTree number bits most weights WeightOverflow =
 MakeNoTree number bits most weights (Iterator e) = ⊥
 MakeNoTree number bits most weights Memory = FitTree number bits most weights
 
--- The weights of an iterator of `Result`s give this error.
+-- Collecting the weights of an iterator of `Result`s stops with this error, or the collected weights give it.
 abbrev pub RefusesGiven : {I P E : Type 0} → (I → Type 0) → (I → Option (Result P E) → I → Type 0) → (P → ℕ) → ℕ → ℕ
     → HuffmanError E → Type 0
 RefusesGiven {P = P} gives next number bits most e =
@@ -94,7 +94,7 @@ as_pair indices = (get_or indices 0 0, get_or indices 1 0)
 abbrev pub ArePairs : List ℕ → List (List ℕ) → Type 0
 ArePairs weights pairs = (tree : Tree) × IsMerged weights (map as_pair pairs) tree
 
--- The weight and the index of a tree, and (below) those of a list of trees.
+-- The weight and the index of a tree, and (below) of each tree of a list.
 abbrev pub key_of : {P Z : Type 0} → (P → ℕ) → Weighed P Z → ℕ × ℕ
 key_of number item = (number item.weight, item.index)
 

@@ -2,7 +2,7 @@
 use Rattle.std.specs.Prelude.{ℕ, ◌<◌, ◌≤◌, List, [], ◌∷◌, All, ⊤}
 use Rattle.constriction_symbol.specs.Huffman.{IsPairLe}
 
--- Each pair is at most all that follow it, by weight and then by index.
+-- Each pair is at most each pair that follows it, by weight and then by index.
 abbrev pub AreRising : List (ℕ × ℕ) → Type 0
 AreRising [] = ⊤
 AreRising (p ∷ ps) = All (IsPairLe p) ps × AreRising ps

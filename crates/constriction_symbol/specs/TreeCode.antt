@@ -9,14 +9,14 @@ abbrev pub listed : Tree → List ℕ
 listed (Leaf s) = suc s ∷ []
 listed (Node lesser other) = listed lesser ++ (listed other ++ 0 ∷ [])
 
--- The stack of trees after one number.
+-- The stack of trees after one number: 0 joins the two top trees, and another number pushes a leaf.
 abbrev pub stacked : ℕ → List Tree → List Tree
 stacked (suc s) stack = Leaf s ∷ stack
 stacked zero [] = []
 stacked zero (t ∷ []) = t ∷ []
 stacked zero (other ∷ lesser ∷ stack) = Node lesser other ∷ stack
 
--- The stack of trees after a list of numbers.
+-- The stack of trees after a list of numbers, each applied as in `stacked`.
 abbrev pub unlisted : List ℕ → List Tree → List Tree
 unlisted [] stack = stack
 unlisted (n ∷ ns) stack = unlisted ns (stacked n stack)

@@ -68,7 +68,7 @@ pub trait EncoderCodebook: Codebook {
     ///
     /// # Errors
     ///
-    /// The errors of [`EncoderCodebook::encode_symbol_prefix`].
+    /// Returns the errors of [`EncoderCodebook::encode_symbol_prefix`].
     fn encode_symbol_suffix<E: From<AllocError>, F: FnMut(bool) -> Result<(), E>>(
         &self,
         symbol: &Self::Symbol,
@@ -116,7 +116,7 @@ pub trait BitOrder: Semantics {
     ///
     /// # Errors
     ///
-    /// The errors of [`EncoderCodebook::encode_symbol_prefix`].
+    /// Returns the errors of [`EncoderCodebook::encode_symbol_prefix`].
     fn emit_symbol<C: EncoderCodebook, E: From<AllocError>, F: FnMut(bool) -> Result<(), E>>(
         codebook: &C,
         symbol: &C::Symbol,
@@ -172,7 +172,7 @@ impl BitOrder for Stack {
     }
 }
 
-/// The error of a codebook that read no symbol.
+/// The reason why a codebook can't decode a symbol from the bits.
 #[derive(Debug, Drop, Error)]
 #[error_bound(InvalidCodeword: Display)]
 pub enum SymbolCodeError<InvalidCodeword> {
@@ -242,10 +242,10 @@ pub trait DecoderCodebook: Codebook {
         None
     }
 
-    // If the codebook reads on after bits, no codeword begins them.
+    // Bits after which the codebook reads on begin with no codeword.
     ghost on_law: { (c : Self) (bits : List Bool) → reads_on c bits → NoneBegins (Self.codeword c) bits };
 
-    // No codeword begins invalid bits, whatever bits follow them.
+    // Invalid bits begin with no codeword, whatever bits follow them.
     ghost invalid_law: { (c : Self) (bits : List Bool) (e : Self.InvalidCodeword) →
         is_invalid c bits e → NoneFits (Self.codeword c) bits };
 }

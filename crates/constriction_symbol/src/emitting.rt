@@ -1,4 +1,6 @@
 //! Functions that pass zeros, or the bits of a word, to `emit`.
+//!
+//! Each function stops at the first error of `emit`, and returns the error as `Backend`.
 
 ghost use Rattle.std.specs.Prelude.{◌≤◌, ◌∷◌, ◌++◌, true, false, [], replicate, reverse};
 ghost use Rattle.constriction_symbol.specs.Bits.{bits_of};
@@ -47,7 +49,7 @@ pub fn emit_down<Word: BitArray, E, F: FnMut(bool) -> Result<(), E>>(
     Ok(())
 }
 
-/// Emits the lowest `count` bits of `word`, lowest first. Bits above the highest bit of `word` are 0.
+/// Emits the lowest `count` bits of `word`, lowest first. If `count` exceeds `Word::BITS`, zeros follow.
 pub fn emit_up<Word: BitArray, E, F: FnMut(bool) -> Result<(), E>>(
     word: Word,
     count: u32,
@@ -88,7 +90,7 @@ pub fn emit_lone<E, F: FnMut(bool) -> Result<(), E>>(
     emit_zeros(count, emit)
 }
 
-/// Emits `bit`.
+/// Passes `bit` to `emit`, and returns the error of `emit` as `Backend`.
 pub fn emit_bit<E, F: FnMut(bool) -> Result<(), E>>(
     bit: bool,
     emit: &mut F,

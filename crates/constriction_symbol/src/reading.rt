@@ -94,7 +94,7 @@ pub trait ReadBitStream<S: Semantics> {
         }
     }
 
-    // If `is_list` holds, a read returns the first unread bit.
+    // If `is_list` holds, a read returns the first unread bit, `None` if no bit is unread, or an error.
     ghost list_law: { is_list → (old : Self) (item : Option (Result Bool Self.ReadError)) (new : Self) →
         gives old item new → GivesBit (unread old) item (unread new) };
 }

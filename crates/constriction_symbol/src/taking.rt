@@ -15,6 +15,11 @@ use constriction_words::BitArray;
 pub type Refusal<V, E> = CoderError<SymbolCodeError<V>, E>;
 
 /// Reads the next bit.
+///
+/// # Errors
+///
+/// - `Frontend(OutOfCompressedData)` if no bit is left.
+/// - `Backend(error)` if the source returns this error in place of a bit.
 #[inline]
 pub fn next_bit<V, E, I: Iterator<Item = Result<bool, E>>>(
     source: &mut I,

@@ -1,8 +1,8 @@
 //! Streams of bits for encoding symbols.
 //!
-//! In contracts, `PutsLast`, `PutsBits`, `ClosesStack` and `ClosesQueue` of `specs/Bits.antt` name the word of each
-//! write. Their argument `write` is `IsWrite`, which relates the backend before a write, the word, the answer, and the
-//! backend after the write.
+//! In contracts, `PutsLast`, `PutsBits`, `ClosesStack` and `ClosesQueue` of `specs/Bits.antt` say which word each write
+//! passes to the backend. Their argument `write` is `IsWrite`, which relates the backend before a write, the word, the
+//! answer, and the backend after the write.
 
 ghost use Rattle.constriction_base.specs.Backends.{IsWrite};
 ghost use Rattle.constriction_symbol.specs.Bits.{PutsBit, PutsOnto};
@@ -21,10 +21,10 @@ use constriction_stream::encoding::Lent;
 use constriction_words::BitArray;
 use std::alloc::AllocError;
 
-/// A stream of bits that encodes symbols. Each symbol appends its codeword.
+/// A stream of bits that encodes a symbol by appending its codeword.
 ///
-/// A queue stores codewords in prefix form, a stack in suffix form. Writing a codeword has the effect of writing its
-/// bits one by one.
+/// A queue stores codewords in prefix form (first bit first), a stack in suffix form (last bit first). Writing a
+/// codeword has the effect of writing its bits one by one.
 ///
 /// An implementor defines the list of bits (`bits`) and what a write may return (`puts`). It proves that each call
 /// follows these definitions.

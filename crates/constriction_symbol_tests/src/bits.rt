@@ -1,4 +1,4 @@
-//! Bits as texts of `0` and `1`, written to streams and read from them.
+//! Helpers that write bits to streams and read bits from streams. Texts of `0` and `1` stand for the bits.
 
 use constriction_base::backends::Semantics;
 use constriction_symbol::codebooks::BitOrder;

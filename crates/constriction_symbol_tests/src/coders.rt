@@ -1,4 +1,4 @@
-//! Coders made from words, and words exported from coders.
+//! Helpers that make coders from words, and export words from coders.
 
 use crate::bits::gives;
 use crate::codewords::{Put, Took, puts, takes};

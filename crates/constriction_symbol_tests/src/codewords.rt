@@ -1,4 +1,4 @@
-//! Symbols written to streams and read from streams as Exp-Golomb codewords.
+//! Helpers that write symbols to streams, and read symbols from streams, as Exp-Golomb codewords.
 
 use constriction_base::backends::Semantics;
 use constriction_base::errors::CoderError;
@@ -39,7 +39,7 @@ where
 pub enum Took {
     /// All symbols were read.
     All,
-    /// Another symbol was read.
+    /// A symbol other than the expected one was read.
     Other,
     OutOfData,
     Invalid,

@@ -58,7 +58,7 @@ fn is_code(tree: &EncoderHuffmanTree, symbol: usize, code: u32, count: u32) -> b
         && matches!(suffix_of(tree, symbol), Coded::Bits(bits, len) if bits == code && len == count)
 }
 
-/// Encodes a symbol and decodes it. Returns whether it is the same, and no bit is left.
+/// Encodes a symbol and decodes it. Returns whether the decoded symbol is the same, and no bit is left.
 pub fn comes_back(
     coder: &mut StackCoder<u8>,
     encoder: &EncoderHuffmanTree,
@@ -137,14 +137,16 @@ fn huffman_ties(rt: HostRuntime) {
 
 const DEEP: [(u32, u32); 5] = [(14, 4), (15, 4), (6, 3), (2, 2), (0, 1)];
 
-/// Checks the codewords `1110 1111 110 10 0`, which cost 25.
+/// Checks that the weights 1, 1, 2, 3, 5 have the codewords `1110 1111 110 10 0`, which cost 25.
 #[test]
 fn huffman_deep(rt: HostRuntime) {
     let weights = [1u8, 1, 2, 3, 5];
     assert!(rt; are_codes(rt.alloc(), &weights, &DEEP) && cost_of_codes(&weights, &DEEP) == 25);
 }
 
-/// Checks the codewords `00 01 11 100 101`, the codewords of two weights, and the codeword of one weight.
+/// Checks that the weights 2, 2, 4, 1, 1 have the codewords `00 01 11 100 101`.
+///
+/// Also checks that the weights 2, 1 have the codewords `1 0`, and that a single weight has the empty codeword.
 #[test]
 fn huffman_lines(rt: HostRuntime) {
     assert!(rt;

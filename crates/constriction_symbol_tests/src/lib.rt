@@ -6,9 +6,9 @@
 //! `tests/unproved`. They cover each word width, other backends, clones, texts, forgotten guards and callers'
 //! iterators.
 //!
-//! The expected words come from a separate model of the definitions (lists of bits, and the grammar). Helpers without a
-//! contract make the calls, most of them on any stream of bits ([`bits`], [`codewords`]). A test makes the values and
-//! asserts once.
+//! The expected words come from a separate model of the definitions (lists of bits, and the Exp-Golomb grammar).
+//! Helpers without a contract make the calls, most of them on any stream of bits ([`bits`], [`codewords`]). A test
+//! makes the values and asserts once.
 #![tactic(auto)]
 
 #[cfg(test)]

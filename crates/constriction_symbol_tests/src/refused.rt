@@ -1,10 +1,9 @@
-//! Tests of bit coders over vectors, Huffman trees and reversed codewords with requests for memory refused, one at a
-//! time.
+//! Tests of coders over vectors, Huffman trees and reversed codewords, with one request for memory refused at a time.
 //!
-//! `tests/refused-memory` runs these tests once for each request for memory that they make, and refuses it. A test then
-//! fails with the name of the call that made the request, if the call reported that there was no memory, left the coder
-//! as it must, and succeeded when it was made again. If no request is refused, a test passes. The expected words come
-//! from lists of bits, and not from this library.
+//! `tests/refused-memory` runs these tests once for each request for memory that they make, and refuses this request.
+//! The call that made the request must report that there is no memory, leave the coder as its contract says, and
+//! succeed when it is made again. The test then fails with the call's name. If no request is refused, a test passes.
+//! The expected words come from lists of bits, and not from this library.
 
 use crate::bits::{gives, writes};
 use crate::codewords::Put;
@@ -84,8 +83,9 @@ fn len_of<S: Semantics>(coder: &SymbolCoder<u8, S>) -> Option<usize> {
     }
 }
 
-/// Returns the bits that a refused call didn't write, or `None` if it wrote too few bits or all bits. `len` is the
-/// coder's number of bits after the call.
+/// Returns the bits that a refused call didn't write, or `None` if it wrote too few bits or all bits.
+///
+/// `len` is the coder's number of bits after the call.
 fn rest_of(len: Option<usize>, (_, _, before, bits, whole): Row) -> Option<&'static [u8]> {
     match len?.checked_sub(before.len()) {
         Some(held) if (whole <= held) & (held < bits.len()) => bits.get(held..),

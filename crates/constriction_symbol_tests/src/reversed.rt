@@ -1,4 +1,6 @@
-//! A codebook with reversed codewords. Reversing up to two words of bits takes no memory. Reversing more bits may fail.
+//! A codebook that finds its codeword from the last bit to the first, for tests of `reversed_codeword`.
+//!
+//! Reversing up to 128 bits takes no memory. Reversing more bits may fail.
 
 ghost use Rattle.constriction_symbol.specs.Codewords.{Emits};
 ghost use Rattle.constriction_symbol.specs.Reversed.{IsLongerThan};

@@ -31,7 +31,7 @@ fn is_refused(words: Vec<u32>, back: &[u32]) -> bool {
     }
 }
 
-/// Checks exports and imports of stacks with one bit, no bit and 32 bits.
+/// Checks exports and imports of stacks with 0 to 32 bits, and that an import refuses a last word of 0.
 ///
 /// The bits of `[12]` are 0, 0, 1. The last bit is read first.
 #[test]

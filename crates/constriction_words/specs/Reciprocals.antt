@@ -6,6 +6,6 @@ use Rattle.constriction_words.specs.declared.reciprocal.Reciprocal.{Reciprocal}
 abbrev pub GivesQuotients : ℕ → ℕ → ℕ → ℕ → ℕ → Type 0
 GivesQuotients bits p multiplier addend shift = (x : ℕ) → x < 2 ^ bits → (x * multiplier + addend) / 2 ^ (bits + shift) ≡ x / p
 
--- The value is the reciprocal of p: p is above 0, and the value gives the quotient by p of each number of 64 bits.
+-- `r` is the reciprocal of p, and p is above 0. The parts of `r` give the quotient by p of each number below 2 ^ 64.
 abbrev pub IsReciprocalOf : Reciprocal → ℕ → Type 0
 IsReciprocalOf r p = (0 < p) × GivesQuotients 64 p r.multiplier r.addend r.shift

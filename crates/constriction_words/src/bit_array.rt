@@ -41,7 +41,7 @@ mod of_usize;
 /// 200u8.wrapping_plus(100) // 44, as the sum is 256 + 44
 /// ```
 pub trait BitArray: Copy + Drop {
-    // `BITS`, for contracts.
+    // The number of bits of the type, as a natural number for contracts.
     ghost BITS: { ℕ };
 
     /// The number of bits of the type, from 8 to 128.

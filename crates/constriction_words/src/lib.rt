@@ -13,7 +13,8 @@
 //! - The number of a `NonZero` is above 0.
 //! - A word that is `WordOf<T>` is no wider than `T`.
 //!
-//! For example, this function computes the mean of two words without their sum, and its contract has no condition:
+//! For example, this function computes the mean of two words, rounded down. It never adds the two words, because their
+//! sum may not fit the type. Therefore its contract has no condition:
 //!
 //! ```
 //! fn mean<Word: BitArray>(first: Word, second: Word) -> Word

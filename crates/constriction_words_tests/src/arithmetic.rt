@@ -1,4 +1,4 @@
-//! The methods with preconditions, as functions that return `None` if the precondition doesn't hold.
+//! The methods of `BitArray` with preconditions, as functions that return `None` if the precondition doesn't hold.
 
 ghost use Rattle.std.specs.Prelude.{◌≡◌, ◌+◌, ◌-◌, ◌*◌, ◌/◌, ◌%◌, ◌^◌, ◌<◌, ◌≤◌, MatchOption};
 

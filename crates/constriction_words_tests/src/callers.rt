@@ -1,11 +1,11 @@
-//! Generic callers without preconditions: the bounds of words show that all results fit.
+//! Generic callers without preconditions: all results fit, because each word is below `2^BITS`.
 
 ghost use Rattle.std.specs.Prelude.{◌≡◌, ◌+◌, ◌/◌, ◌^◌, ◌<◌};
 
 use constriction_words::BitArray;
 use num_traits::{PrimInt, WrappingAdd, WrappingSub};
 
-/// Returns the mean of two words, rounded down. The bounds of the words alone show that the sums fit.
+/// Returns the mean of two words, rounded down. All sums fit, because each word is below `2^BITS`.
 fn mean<Word: BitArray>(first: Word, second: Word) -> Word
     ensures { Word.number result ≡ (Word.number first + Word.number second) / 2 }
 {
@@ -16,9 +16,9 @@ fn mean<Word: BitArray>(first: Word, second: Word) -> Word
         .plus(odd)
 }
 
-/// Returns a number of bits that the word fits, by methods of `BitArray` and of `PrimInt`.
+/// Returns a number of bits that `word` fits, computed with methods of `BitArray` and of `PrimInt`.
 ///
-/// The bound of words says that each word fits `BITS` bits.
+/// Each word fits `BITS` bits, because it is below `2^BITS`.
 fn enough_bits<Word: BitArray + PrimInt>(word: Word) -> u32
     ensures { Word.number word < 2 ^ result }
 {

@@ -1,5 +1,6 @@
-//! Tests of words: each method of `BitArray` and `WordOf` at boundary values of 8 bits, and small generic callers
-//! without preconditions. The expected values were computed separately.
+//! Tests of each method of `BitArray` and `WordOf` at boundary values of 8 bits.
+//!
+//! Small generic callers without preconditions are tested too. The expected values were computed separately.
 //!
 //! The contracts of `constriction_words` are proved there for all values. These tests check what no contract can state:
 //! the definitions have the values that a reader expects, the machine's operations return the proved values, and a

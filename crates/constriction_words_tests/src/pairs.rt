@@ -1,4 +1,4 @@
-//! Tests of the methods of two words.
+//! Tests of the methods that take two words.
 
 use crate::arithmetic::{difference, product, quotient, quotient_by, remainder, sum};
 use constriction_words::BitArray;

@@ -1,4 +1,4 @@
-//! Tests of the methods of one word.
+//! Tests of the methods that take one word.
 
 use crate::arithmetic::{index, shifted, through_nonzero};
 use constriction_words::BitArray;

@@ -1,4 +1,4 @@
-//! A test of words within wider words.
+//! A test of widening words, and of narrowing wider words.
 
 use constriction_words::{BitArray, WordOf};
 

@@ -1,2 +1,2 @@
--- The condition that a chain coder fits in memory, which generic code that holds one requires.
+-- The condition that a chain coder fits in memory. Generic code that holds a chain coder requires it.
 pub use Rattle.constriction_chain.specs.Fits.{CoderFits}

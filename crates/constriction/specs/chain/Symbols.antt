@@ -1,2 +1,2 @@
--- Coding symbols, each under its model, on a chain coder's state.
+-- Decoding and encoding symbols on a chain coder's state, each symbol under its model.
 pub use Rattle.constriction_chain.specs.Symbols.{TakesOff, PutsBack, TakesOffAll, PutsBackAll, IsModelAt, AreModelsAt}

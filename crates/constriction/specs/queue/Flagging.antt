@@ -1,2 +1,2 @@
--- Symbols that a switch gives, before its flag or behind it.
+-- Symbols that a switch decodes, before and after its flag.
 pub use Rattle.constriction_laws.specs.queue.Flagging.{GivesFlagged, StopsFlagged, flagged_behind}

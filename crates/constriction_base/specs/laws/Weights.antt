@@ -7,19 +7,19 @@ use Rattle.std.proofs.lemmas.List.{get_or_default, get_or_past, length-map}
 use Rattle.std.proofs.lemmas.List.Sums.{sum_by-cons}
 use Rattle.constriction_base.specs.Tables.{Has, Follow, AreDistinct, IsTable, IsRising, table_from, table_of, weights_between}
 
--- Where no interval is as long as all numbers, there are at least two.
+-- If every interval is shorter than `high`, there are at least two intervals.
 pub at_least_two : {S : Type 0} (high : ℕ) (es : List (S × ℕ × ℕ)) → 0 < high → Follow 0 es high → ((s : S) (l p : ℕ) → Has es s l p → p < high) → 2 ≤ length es
 at_least_two high [] some f shorter = absurd (omega (arith, f, some))
 at_least_two high (e ∷ []) some f shorter = absurd (omega (arith, f.1, f.2, shorter e.0 e.1 e.2 (inl refl)))
 at_least_two high (e ∷ next ∷ es) some f shorter = omega arith
 
--- A fact about the weights behind the first is a fact about the whole list.
+-- A symbol keeps its weight p if another weight, that of symbol s, is put in front of the list.
 later : (s x p w : ℕ) (ws : List ℕ) → (s + 1 ≤ x) × (x - (s + 1) < length ws) × (0 < p) × (p ≡ get_or ws (x - (s + 1)) 0) → (s ≤ x) × (x - s < length (w ∷ ws)) × (0 < p) × (p ≡ get_or (w ∷ ws) (x - s) 0)
 later s x p w ws h =
     let behind : x - s ≡ suc (x - (s + 1)) = omega (arith, h.0) in
     (omega (arith, h.0), rw behind (omega (arith, h.1)), h.2, rw behind h.3)
 
--- Each entry comes from a weight above 0.
+-- The length of each entry's interval is the weight of the entry's symbol, and is above 0.
 pub has_only : (s low : ℕ) (ws : List ℕ) (x l p : ℕ) → Has (table_from s low ws) x l p → (s ≤ x) × (x - s < length ws) × (0 < p) × (p ≡ get_or ws (x - s) 0)
 has_only s low [] x l p h = absurd h
 has_only s low (zero ∷ ws) x l p h =
@@ -90,7 +90,7 @@ starts_make_table number precision starts some rising =
     let any : 0 < length (map number starts) = omega (arith, length-map starts number, some) in
     weights_make_table precision (weights_between (map number starts) (2 ^ precision)) (omega (arith, rising.first, sum_between (map number starts) (2 ^ precision) rising.rising any))
 
--- Where the last interval is shorter than all numbers, every interval between rising starts is.
+-- If the last of the intervals between rising starts is shorter than `limit`, every interval is shorter than `limit`.
 shorter : (starts : List ℕ) (high limit k l p : ℕ) → IsRising starts high → high ≤ limit → high - get_or starts (length starts - 1) 0 < limit
     → Has (table_of (weights_between starts high)) k l p → p < limit
 shorter starts high limit k l p rising within last entry =
@@ -105,7 +105,8 @@ shorter starts high limit k l p rising within last entry =
           omega (arith, weight, weight_at starts high k inside, ends_at starts high k end, rw place at last))
     ]
 
--- Where the precision is all bits of a word, no interval has all numbers, since its length would not fit.
+-- If the precision is all bits of a word, there are at least two entries. A single interval of all numbers would have a
+-- length that doesn't fit a word.
 pub two_entries : {W : Type 0} (number : W → ℕ) (precision bits : ℕ) (starts : List W) → 0 < length starts
     → IsRising (map number starts) (2 ^ precision) → 2 ^ precision - get_or (map number starts) (length starts - 1) 0 < 2 ^ bits
     → precision ≡ bits → 2 ≤ length (table_of (weights_between (map number starts) (2 ^ precision)))

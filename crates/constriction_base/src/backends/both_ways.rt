@@ -1,4 +1,4 @@
-//! The same words, read from either end.
+//! Backends that hold the same words as a stack and as a queue.
 //!
 //! `Holds` doesn't include the law of `BothWays`, because the law is false for a cursor. A cursor's position separates
 //! its stack from its queue. A coder that only lends its words to a decoder needs no `BothWays`, because the decoder

@@ -12,8 +12,8 @@ use crate::backends::semantics::Stack;
 
 /// A backend for writing. Its words form a stack: each write puts a word on top.
 ///
-/// The errors that a call may return depend only on the backend before the call and, for `prepare`, on the number of
-/// words that the caller asks for.
+/// The errors that a call may return depend only on the backend before the call. For `prepare`, they also depend on the
+/// number of words that the caller asks for.
 ///
 /// An implementor chooses:
 ///

@@ -1,7 +1,8 @@
 //! Hints: where the search for a quantile's symbol begins and ends, by the quantile's high bits.
 //!
-//! The number of buckets is a power of two. It is more than twice and at most four times the number of symbols up to
-//! the last symbol with a weight above 0, but never above `2 ^ PRECISION` or 2^63.
+//! All quantiles with the same high bits form a bucket. The number of buckets is a power of two, and never above
+//! `2 ^ PRECISION` or 2^63. Let `n` be the number of symbols up to the last symbol with a weight above 0. Within these
+//! limits, there are more than `2 * n` and at most `4 * n` buckets.
 
 ghost use Rattle.std.specs.Prelude.{◌≡◌, ◌+◌, ◌-◌, ◌*◌, ◌^◌, ◌<◌, ◌≤◌, ◌⊎◌, length, map, slice_index, IfOk};
 ghost use Rattle.constriction_base.specs.Tables.{IsRising};

@@ -6,7 +6,7 @@ ghost use Rattle.constriction_base.specs.Tables.{Sums, IsLastSymbol};
 use constriction_words::BitArray;
 use std::alloc::{AllocError, Global};
 
-/// Returns the number whose binary form is `count` ones.
+/// Returns the number whose binary form is `count` ones. The caller proves that `count` is from 1 to `Word::BITS`.
 pub fn ones<Word: BitArray>(count: usize) -> Word
     requires { (1 ≤ count) × (count ≤ Word.BITS) }
     ensures { Word.number result + 1 ≡ 2 ^ count }
@@ -16,7 +16,8 @@ pub fn ones<Word: BitArray>(count: usize) -> Word
 
 /// Returns the number of weights up to and including the last nonzero weight.
 ///
-/// Returns `None` if the weights don't add up to `2 ^ PRECISION`.
+/// Returns `None` if the weights don't add up to `2 ^ PRECISION`. The caller proves that `PRECISION` is at least 1 and
+/// at most `Probability::BITS`.
 pub fn known_symbols<Probability: BitArray, const PRECISION: usize>(
     weights: &[Probability],
 ) -> Option<usize>
@@ -50,6 +51,8 @@ pub fn known_symbols<Probability: BitArray, const PRECISION: usize>(
 }
 
 /// Returns the start of each weight's interval, followed by the sum of all weights.
+///
+/// The caller proves that this sum fits `Probability`, and that the number of weights plus 1 is below `2 ^ 64`.
 pub fn starts_of<Probability: BitArray>(
     alloc: Global,
     weights: &[Probability],

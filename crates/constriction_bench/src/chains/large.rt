@@ -28,7 +28,7 @@ fn coder_back(alloc: Global, remainders: &[u32]) -> Option<DefaultChainCoder> {
 
 /// Copies the words of the coder's remainders, with both heads on top, to `out`, as many as fit.
 ///
-/// Returns how many these are, or 0 if there is no memory.
+/// Returns the total number of words, or 0 if there is no memory.
 fn give_remainders(coder: DefaultChainCoder, out: &mut [u32]) -> usize {
     match coder.into_remainders() {
         Ok((_, remainders)) => copy_out(&remainders, out),
@@ -38,7 +38,7 @@ fn give_remainders(coder: DefaultChainCoder, out: &mut [u32]) -> usize {
 
 /// Copies the coder's compressed words in binary form to `out`, as many as fit.
 ///
-/// Returns how many these are, or 0 if the coder has no binary form or there is no memory.
+/// Returns the total number of words, or 0 if the coder has no binary form or there is no memory.
 fn give_words(coder: DefaultChainCoder, out: &mut [u32]) -> usize {
     match coder.into_binary() {
         Ok((_, words)) => copy_out(&words, out),

@@ -1,4 +1,6 @@
-//! Encoding and decoding with codebooks, over 32-bit words. A function sets `needed` only for `NoSpace`.
+//! Encoding and decoding with codebooks, over 32-bit words.
+//!
+//! A function sets `needed` only if its call returns `NoSpace`.
 
 ghost use Rattle.std.specs.Prelude.{map};
 ghost use Rattle.constriction_c.specs.Large.{large_word};

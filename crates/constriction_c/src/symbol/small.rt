@@ -1,5 +1,7 @@
 // Written by tools/sizes from large.rt.
-//! Encoding and decoding with codebooks, over 16-bit words. A function sets `needed` only for `NoSpace`.
+//! Encoding and decoding with codebooks, over 16-bit words.
+//!
+//! A function sets `needed` only if its call returns `NoSpace`.
 
 ghost use Rattle.std.specs.Prelude.{map};
 ghost use Rattle.constriction_c.specs.Small.{small_word};

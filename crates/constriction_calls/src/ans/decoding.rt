@@ -126,7 +126,7 @@ fn decode_by<
     (new_head, left)
 }
 
-/// Decodes a symbol with `model`. This never fails, because a cursor refuses no read.
+/// Decodes a symbol with `model`. The call can't fail, because reading from a cursor never fails.
 #[inline]
 fn decode_next<
     'a,

@@ -105,7 +105,7 @@ pub fn encode_intervals_reverse<
     intervals_by_rows::<_, _, P, PRECISION>(alloc, head, words, len, lefts, ps)
 }
 
-/// Encodes intervals as [`encode_intervals_reverse`] does, with a row of three weights for each interval.
+/// Encodes intervals as [`encode_intervals_reverse`] does: each as symbol 1 of its own row of three weights.
 ///
 /// # Errors
 ///
@@ -139,7 +139,7 @@ fn intervals_by_rows<Word: WordOf<State>, State: BitArray, P: WordOf<Word>, cons
     }
 }
 
-/// Encodes symbols from the last to the first onto `head`, without words below it. Returns the new words and the head.
+/// Encodes symbols from the last to the first onto a state of `head` alone. Returns the new words and the new head.
 ///
 /// Returns `None` if a model has no entry for its symbol, or if there is no memory.
 #[inline(never)]

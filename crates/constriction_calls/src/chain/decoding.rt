@@ -228,7 +228,8 @@ fn take_symbols<
 ///
 /// # Errors
 ///
-/// The errors of [`append`]. After an error nothing has changed.
+/// The errors of [`append`]: `NoSpace(needed)` or `NoMemory`, if `remainders` is too short. A call that fails changes
+/// nothing.
 fn end_taking<'a, Word: WordOf<State>, State: BitArray, const PRECISION: usize>(
     coder: Taking<'a, Word, State, PRECISION>,
     heads: &mut ChainHeads<Word, State>,

@@ -84,7 +84,9 @@ pub fn encode_reverse<
     )
 }
 
-/// Encodes as [`encode_reverse`] does, with the buffer `room` for the new words, at most one for each symbol.
+/// Encodes symbols as [`encode_reverse`] does, and collects the new words in the buffer `room`.
+///
+/// Each symbol writes at most one word, so `room` needs one word for each symbol.
 ///
 /// # Errors
 ///
@@ -198,7 +200,7 @@ pub fn encode_intervals_reverse<
     )
 }
 
-/// Encodes intervals as [`encode_intervals_reverse`] does, with a row of three weights for each interval.
+/// Encodes intervals as [`encode_intervals_reverse`] does: each as symbol 1 of its own row of three weights.
 ///
 /// # Errors
 ///
@@ -261,7 +263,9 @@ fn intervals_by_rows<Word: WordOf<State>, State: BitArray, P: WordOf<Word>, cons
 ///
 /// # Errors
 ///
-/// `ImpossibleSymbol` exactly if a model has no entry for its symbol. Otherwise `OutOfData` or `NoMemory`.
+/// - `ImpossibleSymbol` exactly if a model has no entry for its symbol.
+/// - `OutOfData` if the coder needs a word of remainders, and no word is left.
+/// - `NoMemory` if there is no memory, or if `is_room` is false.
 fn put_by<
     'a,
     Word: WordOf<State>,
@@ -351,7 +355,8 @@ fn put_symbols<
 ///
 /// # Errors
 ///
-/// The errors of [`append`]. After an error nothing has changed.
+/// The errors of [`append`]: `NoSpace(needed)` or `NoMemory`, if `compressed` is too short. A call that fails changes
+/// nothing.
 fn end_putting<'a, Word: WordOf<State>, State: BitArray, const PRECISION: usize>(
     coder: Putting<'a, Word, State, PRECISION>,
     heads: &mut ChainHeads<Word, State>,

@@ -22,7 +22,7 @@ type Putting<'a, Word, State, const PRECISION: usize> = ChainCoder<
     PRECISION,
 >;
 
-/// A coder without words, which collects the words of its heads.
+/// A chain coder that has no words below its heads, and writes the words of its heads to new vectors.
 type Bare<Word, State, const PRECISION: usize> = ChainCoder<
     Word,
     State,
@@ -179,7 +179,7 @@ pub fn into_compressed<Word: WordOf<State>, State: BitArray, const PRECISION: us
     }
 }
 
-/// Exports the binary form: appends to the compressed words the remainders head's bits below its leading 1.
+/// Exports the binary form: appends the remainders head's bits below its leading 1 to the compressed words.
 ///
 /// The call increases `compressed_len` by the number of words that it writes. [`from_binary`] imports the first
 /// `compressed_len` words. The call doesn't use the remainders below the head.

@@ -20,7 +20,7 @@ use constriction_stream::encoding::Encode;
 use constriction_words::{BitArray, WordOf};
 use std::alloc::Global;
 
-/// Encodes symbols in order, each under its own model of a list.
+/// Encodes symbols in order, each under its own model of `list`. Returns the words written and the encoder's numbers.
 ///
 /// Returns `None` if a model has no entry for its symbol, or if there is no memory.
 #[inline(never)]
@@ -188,7 +188,7 @@ pub fn encode_intervals<
     intervals_by_rows::<_, _, P, PRECISION>(alloc, encoder, buffer, len, lefts, ps)
 }
 
-/// Encodes intervals as [`encode_intervals`] does, with a row of three weights for each interval.
+/// Encodes intervals as [`encode_intervals`] does: each as symbol 1 of its own row of three weights.
 ///
 /// # Errors
 ///

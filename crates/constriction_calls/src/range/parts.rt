@@ -57,7 +57,8 @@ pub struct DecoderParts<State> {
 
 /// Makes an encoder with an empty backend from the caller's numbers. The call needs no memory.
 ///
-/// Returns `None` exactly if no encoder has the numbers, or if the encoder can't count `count` further symbols.
+/// Returns `None` exactly if no encoder has the numbers, or if `parts.held + count` is above `2^64 - 18`. The number of
+/// symbols that the caller can then encode is at least `count`.
 pub fn encoder_for<Word: WordOf<State>, State: BitArray>(
     alloc: Global,
     parts: EncoderParts<Word, State>,

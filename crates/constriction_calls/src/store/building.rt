@@ -19,7 +19,7 @@ use constriction_store::{MOST_SYMBOLS, Store};
 use constriction_words::{BitArray, WordOf};
 use std::alloc::Global;
 
-/// Returns whether the lengths of a caller's lists make a store.
+/// Returns whether a caller's lists have the lengths that a store needs.
 ///
 /// The sum of `lengths` has to be `symbols`, and `symbols` at most [`MOST_SYMBOLS`]. Each list of the index has to be
 /// as long as `lengths`. `positions`, `lowers` and `ranges` are the lengths of these lists.

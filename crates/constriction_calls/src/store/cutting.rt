@@ -20,7 +20,9 @@ pub fn add_up(lengths: &[usize], count: usize) -> bool
     left == 0
 }
 
-/// Cuts the symbols into chunks of these lengths, in order. The caller proves that there are enough symbols.
+/// Cuts `symbols` into chunks in order, and returns the chunks. Chunk `i` has `lengths[i]` symbols.
+///
+/// The caller proves that there are enough symbols.
 ///
 /// # Errors
 ///

@@ -97,7 +97,8 @@ pub fn decode_stack<Word: BitArray, C: Codes>(
 ///
 /// # Errors
 ///
-/// `OutOfData`, `InvalidData` and `NoMemory`. `NoMemory` is also returned if the backend refuses a read.
+/// `OutOfData`, `InvalidData` and `NoMemory`, as [`crate::symbol`] lists them. The call also returns `NoMemory` if the
+/// backend refuses a read.
 fn read_symbols<S: Semantics, R: ReadBitStream<S>, C: DecoderCodebook>(
     alloc: Global,
     stream: &mut R,

@@ -101,10 +101,10 @@ pub fn encode_stack<Word: BitArray, C: Codes>(
     }
 }
 
-/// Returns the words of a queue, from the word of bit `bit` on, and the bit after the last codeword.
+/// Encodes symbols as a queue of bits that begins with the first `bit` bits of `words`.
 ///
-/// The queue begins with the bits of `words` below `bit`. Returns `None` if the weights make no tree, if a symbol has
-/// no codeword, or if there is no memory.
+/// Returns the words of the queue from the word that has bit `bit` on, and the bit after the last codeword. Returns
+/// `None` if the weights make no tree, if a symbol has no codeword, or if there is no memory.
 fn words_from<Word: BitArray, C: Codes>(
     alloc: Global,
     codes: &C,

@@ -74,7 +74,7 @@ fn make_tree<P: BitArray>(weights: &[P], most: usize) -> bool
     !weights.is_empty() && weights.len() <= most && total_fits(weights)
 }
 
-/// Returns whether all symbols are below a bound.
+/// Returns whether all symbols are below `bound`.
 fn are_below(symbols: &[usize], bound: usize) -> bool
     ensures { IsTrue result ↔ All (λ s. s < bound) symbols.now }
 {

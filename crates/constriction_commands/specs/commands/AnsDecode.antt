@@ -1,4 +1,4 @@
--- What `ans-decode` answers a text, and which fault it gives when.
+-- The output of the command `ans-decode` for an input text, and the condition under which each fault comes.
 use Rattle.std.specs.Prelude.{◌≡◌, ℕ, List, length, reverse}
 use Rattle.constriction_base.specs.Models.{items_of}
 use Rattle.constriction_base.specs.Readings.{BeginsHigh}
@@ -10,7 +10,7 @@ use Rattle.constriction_commands.specs.Coding.{of_24_bits, EndsWithZero}
 use Rattle.constriction_commands.specs.declared.fault.Fault.{Fault}
 use Rattle.constriction_commands.specs.declared.fault.Fault.TheVariants.{ZeroWord}
 
--- The answer is the line of the symbols decoded from the state that the words make.
+-- The answer is a line of the symbols that a coder decodes after importing the words.
 pub record IsAnsDecoded (text answer : List ℕ) : Type 0 where
   pub table : List (ℕ × ℕ × ℕ)
   pub count : ℕ
@@ -23,7 +23,7 @@ pub record IsAnsDecoded (text answer : List ℕ) : Type 0 where
   pub counted : length symbols ≡ count
   pub printed : answer ≡ line_of symbols
 
--- The command fails: the text gives no words, or the last of them is 0.
+-- The command fails: the text gives no table, count and words, or the last word is 0.
 abbrev pub AnsDecodeFails : List ℕ → Fault → Type 0
 AnsDecodeFails text (ZeroWord error) = (table : List (ℕ × ℕ × ℕ)) × (count : ℕ) × (words : List ℕ) × GivesWords text table count words × EndsWithZero words
 AnsDecodeFails text fault = NoWords text fault

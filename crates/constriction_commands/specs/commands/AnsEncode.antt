@@ -1,4 +1,4 @@
--- What `ans-encode` answers a text.
+-- The output of the command `ans-encode` for an input text.
 use Rattle.std.specs.Prelude.{◌≡◌, ℕ, List, reverse}
 use Rattle.constriction_base.specs.Models.{items_of}
 use Rattle.constriction_stack.specs.Ans.{AnsState, empty, exported}
@@ -7,7 +7,7 @@ use Rattle.constriction_commands.specs.Lines.{line_of}
 use Rattle.constriction_commands.specs.Inputs.{GivesSymbols}
 use Rattle.constriction_commands.specs.Coding.{of_24_bits}
 
--- The answer is the line of the words of the encoded symbols, top word last.
+-- The answer is a line of the words that a new coder exports after it encodes the symbols, with the top word last.
 pub record IsAnsEncoded (text answer : List ℕ) : Type 0 where
   pub table : List (ℕ × ℕ × ℕ)
   pub symbols : List ℕ

@@ -1,4 +1,4 @@
--- What `chain-split` answers a text, and which fault it gives when.
+-- The output of the command `chain-split` for an input text, and the condition under which each fault comes.
 use Rattle.std.specs.Prelude.{◌≡◌, ℕ, ◌^◌, ◌<◌, ◌⊎◌, List, [], ◌∷◌, ◌++◌, length, reverse, ⊤}
 use Rattle.std.specs.Int.Digits.{digits_of}
 use Rattle.constriction_base.specs.Tables.{AtEntry}
@@ -12,15 +12,15 @@ use Rattle.constriction_commands.specs.Coding.{EndsWithZero}
 use Rattle.constriction_commands.specs.declared.fault.Fault.{Fault}
 use Rattle.constriction_commands.specs.declared.fault.Fault.TheVariants.{NoChain, OutOfData, OutOfMemory}
 
--- The words stand for this state of a chain coder: the words read first, from the last one on, are the digits of the
--- remainders' head, and no bits are left over.
+-- The words stand for this state of a chain coder, with no bits left over.
+-- The words are read from the last one on. The words read first are the digits of the remainders head.
 pub record IsChainOf (words : List ℕ) (state : ChainState) : Type 0 where
   pub whole : state.h ≡ 1
   pub none : state.remainders ≡ []
   pub chain : IsChain 32 64 24 state
   pub are : reverse words ≡ digits_of (2 ^ 32) state.r ++ state.compressed
 
--- The words stand for no chain coder: the last one is 0, there is none, or there is only one, which is below 2 ^ 8.
+-- The words stand for no chain coder: the last word is 0, there is no word, or the only word is below 2 ^ 8.
 abbrev pub IsNoChain : List ℕ → Type 0
 IsNoChain words = EndsWithZero words ⊎ (words ≡ []) ⊎ ((word : ℕ) × (word < 2 ^ 8) × (words ≡ word ∷ []))
 
@@ -28,7 +28,7 @@ IsNoChain words = EndsWithZero words ⊎ (words ≡ []) ⊎ ((word : ℕ) × (wo
 abbrev pub ChainDecodes : List (ℕ × ℕ × ℕ) → List ℕ → ChainState → ChainState → Type 0
 ChainDecodes table symbols old new = InTurn (λ symbol from to. AtEntry 24 table symbol (λ step. IsDecode 32 64 step from to)) symbols old new
 
--- The answer is three lines: the symbols, the words left, and the remainders below both heads.
+-- The answer is three lines: the symbols, the words left, and the remainders with both heads on top.
 pub record IsChainSplit (text answer : List ℕ) : Type 0 where
   pub table : List (ℕ × ℕ × ℕ)
   pub count : ℕ
@@ -46,14 +46,14 @@ pub record IsChainSplit (text answer : List ℕ) : Type 0 where
   pub suffix_is : reverse suffix ≡ remainder_words 32 last
   pub printed : answer ≡ (line_of symbols ++ line_of prefix) ++ line_of suffix
 
--- Decoding `count` symbols fails: before the last of them the coder needs a word, and none is left.
+-- Decoding `count` symbols fails: after fewer symbols, the coder needs a word, and no word is left.
 abbrev pub ChainFails : List (ℕ × ℕ × ℕ) → ℕ → ChainState → Fault → Type 0
 ChainFails table count first (OutOfData error) =
     (symbols : List ℕ) × (last : ChainState) × ChainDecodes table symbols first last × (length symbols < count) × NeedsWord 32 24 last.h × (last.compressed ≡ [])
 ChainFails table count first OutOfMemory = ⊤
 ChainFails table count first fault = ⊥
 
--- The command fails: the text gives no words, they stand for no coder, or they end.
+-- The command fails: the text gives no table, count and words, the words stand for no coder, or the words run out.
 abbrev pub ChainSplitFails : List ℕ → Fault → Type 0
 ChainSplitFails text NoChain = (table : List (ℕ × ℕ × ℕ)) × (count : ℕ) × (words : List ℕ) × GivesWords text table count words × IsNoChain words
 ChainSplitFails text (OutOfData error) =

@@ -1,4 +1,4 @@
--- What `golomb` answers a text, and which fault it gives when.
+-- The output of the command `golomb` for an input text, and the condition under which each fault comes.
 use Rattle.std.specs.Prelude.{◌≡◌, ℕ, ◌-◌, ◌^◌, Some, List, [], ◌∷◌, ◌++◌, map, flat_map, ⊤}
 use Rattle.std.specs.List.{join_with_byte}
 use Rattle.constriction_base.specs.Steps.{AreWords}
@@ -10,11 +10,11 @@ use Rattle.constriction_commands.specs.Inputs.{IsBad}
 use Rattle.constriction_commands.specs.declared.fault.Fault.{Fault}
 use Rattle.constriction_commands.specs.declared.fault.Fault.TheVariants.{BadNumber, OutOfMemory}
 
--- The line of the codewords of numbers, with a space between each two.
+-- The line of the numbers' codewords as digits, separated by spaces, with a line feed at the end.
 abbrev pub golomb_line : List ℕ → List ℕ
 golomb_line numbers = join_with_byte 32 (map (λ n. digits (golomb n)) numbers) ++ 10 ∷ []
 
--- The answer is the line of codewords, and the line of the words of a queue of bits that holds them in order.
+-- The answer is a line of the codewords, and a line of the words of a queue of bits that holds the codewords.
 pub record IsGolomb (text answer : List ℕ) : Type 0 where
   pub numbers : List ℕ
   pub words : List ℕ
@@ -23,7 +23,7 @@ pub record IsGolomb (text answer : List ℕ) : Type 0 where
   pub fit : AreWords 32 words
   pub printed : answer ≡ golomb_line numbers ++ line_of words
 
--- The command fails: the line is bad, or there is no memory.
+-- The command fails: line 1 is no list of 32-bit numbers, or there is no memory.
 abbrev pub GolombFails : List ℕ → Fault → Type 0
 GolombFails text BadNumber = IsBad (numbers_of (2 ^ 32 - 1) (first_line text))
 GolombFails text OutOfMemory = ⊤

@@ -1,4 +1,4 @@
--- What `range-decode` answers a text, and which fault it gives when.
+-- The output of the command `range-decode` for an input text, and the condition under which each fault comes.
 use Rattle.std.specs.Prelude.{◌≡◌, ℕ, List, length}
 use Rattle.constriction_base.specs.Models.{items_of}
 use Rattle.constriction_queue.specs.Range.{Run, initial}
@@ -10,7 +10,7 @@ use Rattle.constriction_commands.specs.Ranges.{ReadingFails}
 use Rattle.constriction_commands.specs.declared.fault.Fault.{Fault}
 use Rattle.constriction_commands.specs.declared.fault.Fault.TheVariants.{InvalidData}
 
--- The answer is the line of the symbols decoded from the words, with zero words behind them.
+-- The answer is a line of the symbols decoded from the words, followed by zero words.
 pub record IsRangeDecoded (text answer : List ℕ) : Type 0 where
   pub table : List (ℕ × ℕ × ℕ)
   pub count : ℕ
@@ -22,7 +22,7 @@ pub record IsRangeDecoded (text answer : List ℕ) : Type 0 where
   pub counted : length symbols ≡ count
   pub printed : answer ≡ line_of symbols
 
--- The command fails: the text gives no words, or they hold fewer symbols.
+-- The command fails: the text gives no table, count and words, or the words encode fewer symbols.
 abbrev pub RangeDecodeFails : List ℕ → Fault → Type 0
 RangeDecodeFails text (InvalidData error) =
     (table : List (ℕ × ℕ × ℕ)) × (count : ℕ) × (words : List ℕ) × GivesWords text table count words × ReadingFails words table count (InvalidData error)

@@ -1,4 +1,4 @@
--- What `range-encode` answers a text.
+-- The output of the command `range-encode` for an input text.
 use Rattle.std.specs.Prelude.{◌≡◌, ℕ, List}
 use Rattle.constriction_base.specs.Models.{items_of}
 use Rattle.constriction_queue.specs.Range.{Run, initial, sealed}
@@ -7,7 +7,7 @@ use Rattle.constriction_commands.specs.Inputs.{GivesSymbols}
 use Rattle.constriction_commands.specs.Coding.{of_24_bits}
 use Rattle.constriction_queue.specs.Symbols.{NarrowsAll}
 
--- The answer is the line of the sealed words of the encoded symbols.
+-- The answer is a line of the sealed words of a new encoder after it encodes the symbols.
 pub record IsRangeEncoded (text answer : List ℕ) : Type 0 where
   pub table : List (ℕ × ℕ × ℕ)
   pub symbols : List ℕ

@@ -1,4 +1,4 @@
--- What `store` answers a text, and which fault it gives when.
+-- The output of the command `store` for an input text, and the condition under which each fault comes.
 use Rattle.std.specs.Prelude.{◌≡◌, ℕ, ◌<◌, ◌≤◌, List, ◌++◌, ⊤, flat_map, length}
 use Rattle.std.specs.List.{AllByRecursion, Any}
 use Rattle.constriction_base.specs.Models.{items_of}
@@ -21,22 +21,22 @@ most_stored = 1048576
 abbrev pub joined : List (List ℕ) → List ℕ
 joined chunks = flat_map (λ chunk. chunk) chunks
 
--- The words are those of a new encoder after the symbols of all chunks, sealed so that any words may follow.
+-- A new encoder writes these words for the symbols of all chunks, with a seal that any words may follow.
 pub record AreWordsOf (table : List (ℕ × ℕ × ℕ)) (chunks : List (List ℕ)) (words : List ℕ) : Type 0 where
   pub few : count_of chunks ≤ most_stored
   pub run : Run
   pub encoded : NarrowsAll 32 64 (items_of (of_24_bits table) (joined chunks)) (initial 64) run
   pub delimited : SelfDelimits 32 64 run words
 
--- There is a chunk at each of these places.
+-- Each of these numbers is the index of a chunk, counted from 0.
 abbrev pub AreThere : List (List ℕ) → List ℕ → Type 0
 AreThere chunks places = AllByRecursion (λ place. place < length chunks) places
 
--- The line of the chunk at each of these places.
+-- The lines of the chunks with these indices.
 abbrev pub lines_at : List (List ℕ) → List ℕ → List ℕ
 lines_at chunks places = flat_map (λ place. line_of (chunk_in chunks place)) places
 
--- The answer is the line of the words of the chunks, and then a line for each chunk looked up.
+-- The answer is a line of the store's words, and then a line for each chunk looked up.
 pub record IsStored (text answer : List ℕ) : Type 0 where
   pub table : List (ℕ × ℕ × ℕ)
   pub places : List ℕ
@@ -54,7 +54,7 @@ StoringFails table chunks (Encoder error) = (count_of chunks ≤ most_stored) ×
 StoringFails table chunks OutOfMemory = ⊤
 StoringFails table chunks fault = ⊥
 
--- Looking up chunks fails: a place is past the last chunk.
+-- Looking up chunks fails: an index is past the last chunk.
 abbrev pub LookingUpFails : ℕ → List ℕ → Fault → Type 0
 LookingUpFails count places NoSuchChunk = Any (λ place. count ≤ place) places
 LookingUpFails count places OutOfMemory = ⊤
@@ -65,7 +65,7 @@ abbrev pub GivesRefused : List ℕ → Fault → Type 0
 GivesRefused text fault =
     (table : List (ℕ × ℕ × ℕ)) × (places : List ℕ) × (chunks : List (List ℕ)) × GivesChunks text table places chunks × StoringFails table chunks fault
 
--- The command fails: the text gives no chunks, storing them fails, or a place is past the last chunk.
+-- The command fails: the text gives no chunks, storing the chunks fails, or an index is past the last chunk.
 abbrev pub StoreFails : List ℕ → Fault → Type 0
 StoreFails text TooManySymbols = GivesRefused text TooManySymbols
 StoreFails text (Encoder error) = GivesRefused text (Encoder error)

@@ -18,7 +18,7 @@ use constriction_stack::coder::words::CompressedDataEndsWithZeroWord;
 use constriction_stream::decoding::Decode;
 use std::alloc::Global;
 
-/// Decodes `count` symbols under `model`.
+/// Decodes `count` symbols under `model`. Returns `OutOfMemory` if there is no memory for the symbols.
 fn decode<M: DecoderModel<PRECISION, Symbol = usize, Probability = u32>>(
     alloc: Global,
     model: &M,

@@ -18,6 +18,8 @@ use constriction_stream::encoding::Encode;
 use std::alloc::Global;
 
 /// Encodes `symbols` so that the first symbol is decoded first, and returns the words.
+///
+/// Returns a fault if a symbol is impossible, or if there is no memory.
 fn encode<M: EncoderModel<PRECISION, Symbol = usize, Probability = u32>>(
     alloc: Global,
     model: &M,

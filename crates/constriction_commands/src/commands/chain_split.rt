@@ -18,7 +18,7 @@ use constriction_chain::{BackendError, DefaultChainCoder};
 use constriction_stream::decoding::Decode;
 use std::alloc::{AllocError, Global};
 
-/// Creates a chain coder from `words`.
+/// Creates a chain coder from `words`. Returns `NoChain` if there are too few words, or if the last word is 0.
 fn coder_of(alloc: Global, words: Vec<u32>) -> Result<DefaultChainCoder, Fault>
     ensures ok { IfOk result (λ coder. IsChainOf (map (λ word. word % 2 ^ 32) words.items) coder.state) }
     ensures err { IfErr result (λ fault. (fault ≡ NoChain) × IsNoChain (map (λ word. word % 2 ^ 32) words.items)) }
@@ -31,6 +31,8 @@ fn coder_of(alloc: Global, words: Vec<u32>) -> Result<DefaultChainCoder, Fault>
 }
 
 /// Decodes `count` symbols under `model`.
+///
+/// Returns `OutOfData` if a decode needs a word and none is left, or `OutOfMemory` if there is no memory.
 fn decode<M: DecoderModel<PRECISION, Symbol = usize, Probability = u32>>(
     alloc: Global,
     model: &M,

@@ -12,6 +12,8 @@ use constriction_symbol::huffman::{EncoderHuffmanTree, HuffmanError};
 use std::alloc::{AllocError, Global};
 
 /// Builds the Huffman tree of the symbols 0, 1, .. with the weights `weights`.
+///
+/// Returns a fault if there are no weights or too many, if their sum has more than 64 bits, or if there is no memory.
 fn make_tree(alloc: Global, weights: &[usize]) -> Result<EncoderHuffmanTree, Fault>
     ensures ok { IfOk result (λ tree. IsHuffman weights.now (book_of tree)) }
     ensures err { IfErr result (TreeFails weights.now) }

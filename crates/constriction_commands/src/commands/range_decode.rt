@@ -33,6 +33,8 @@ fn decoder_of(words: &[u32]) -> Decoder<'_>
 }
 
 /// Decodes `count` symbols under `model` from `words`. After the last word, the decoder reads zero words.
+///
+/// Returns `InvalidData` if the words encode fewer symbols, or `OutOfMemory` if there is no memory for the symbols.
 fn decode<M: DecoderModel<PRECISION, Symbol = usize, Probability = u32>>(
     alloc: Global,
     model: &M,

@@ -22,6 +22,8 @@ use std::alloc::Global;
 type Chunks = Store<u32, u64, Table, PRECISION>;
 
 /// Builds the store of `chunks` under `table`.
+///
+/// Returns a fault if there are too many symbols, if a symbol is impossible, or if there is no memory.
 fn store_of(alloc: Global, chunks: &[Vec<usize>], table: Table) -> Result<Chunks, Fault>
     ensures words { IfOk result (λ store. AreWordsOf (entries table) (lists_of chunks.now) store.words) }
     ensures held { IfOk result (λ store. HoldsChunks 32 64 (model_of store.model) store.words store.index
@@ -39,6 +41,8 @@ fn store_of(alloc: Global, chunks: &[Vec<usize>], table: Table) -> Result<Chunks
 }
 
 /// Looks up the chunks with the indices `places`, and appends a line of symbols for each chunk to `lines`.
+///
+/// Returns `NoSuchChunk` if an index is past the last chunk, or `OutOfMemory` if there is no memory.
 fn push_chunks(
     alloc: Global,
     lines: &mut Vec<u8>,

@@ -16,7 +16,12 @@ use std::alloc::Global;
 /// The count is parsed as a 32-bit number, like the words. A greater count is a `bad number`, even if it fits 32 bits.
 const MOST: u32 = 16_777_216;
 
-/// Removes the first of `numbers`, which is the count of symbols, and returns it.
+/// Removes the first number from `numbers`, and returns it as the count of symbols.
+///
+/// # Errors
+///
+/// - `NoCount` if `numbers` is empty.
+/// - `BadNumber` if the count is above `MOST`.
 fn take_count(numbers: &mut Vec<u32>) -> Result<u32, Fault>
     ensures ok { IfOk result (λ count. (numbers.old.items ≡ count ∷ numbers.new.items) × (count ≤ most)) }
     ensures err { IfErr result (λ fault. ((fault ≡ NoCount) × (numbers.old.items ≡ []))
@@ -34,6 +39,9 @@ fn take_count(numbers: &mut Vec<u32>) -> Result<u32, Fault>
 }
 
 /// Parses line 1 as the weights of a table, and line 2 as a count of symbols followed by words.
+///
+/// Returns a fault if a line is no list of numbers, if the count is missing or above `MOST`, if the weights make no
+/// table, or if there is no memory.
 pub fn table_and_words(alloc: Global, text: &[u8]) -> Result<(Table, u32, Vec<u32>), Fault>
     ensures ok { IfOk result
         (λ given. GivesWords text.now (⟦<Table as EntropyModel<PRECISION>>⟧.table given.0) given.1 given.2.items) }

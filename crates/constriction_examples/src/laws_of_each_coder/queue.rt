@@ -6,7 +6,7 @@ ghost use Rattle.std.specs.Prelude.{[], ◌∷◌};
 
 use constriction::laws::queue::words::sealed_words_are_read;
 
-/// If two steps are encoded from the initial interval and sealed, reading the words returns these two steps.
+/// Reading the sealed words of two steps, encoded from the initial interval, returns these two steps.
 pub fn two_steps_are_read()
     ensures { (first second : Step) → IsStep 32 first → IsStep 32 second →
         ReadAs 32 64 (sealed 32 64 (run 32 64 (first ∷ second ∷ []) (initial 64))) (first ∷ second ∷ []) (initial 64) }

@@ -1,4 +1,4 @@
--- A row of weights as a model: the laws that its impls cite.
+-- Laws of a row of weights as a model, for the implementations of the model traits.
 use Rattle.std.proofs.Common.{◌≡◌, ℕ, ◌<◌, ◌≤◌, ◌^◌, ◌-◌, List, [], ◌∷◌, zero, suc, length, get_or, map, arith, pow_pos, ap}
 use Rattle.constriction_base.specs.Tables.{table_of}
 use Rattle.constriction_base.specs.laws.Weights.{at_least_two, has_only, weights_make_table}
@@ -10,7 +10,7 @@ below_bits number bits law [] k = pow_pos bits
 below_bits number bits law (w ∷ ws) zero = law w
 below_bits number bits law (w ∷ ws) (suc k) = below_bits number bits law ws k
 
--- Where the precision is all bits of a word, there are at least two symbols, since a single weight would not fit.
+-- If the precision is the width of a word, the table has at least two symbols, because a single weight wouldn't fit.
 pub two_weights : {W : Type 0} (number : W → ℕ) (bits : ℕ) → ((x : W) → number x < 2 ^ bits) → (precision : ℕ) (ws : List W) → IsTotal precision (map number ws) → precision ≡ bits → 2 ≤ length (table_of (map number ws))
 two_weights number bits law precision ws total all =
     let table = weights_make_table precision (map number ws) total in

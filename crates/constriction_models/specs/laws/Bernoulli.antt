@@ -1,11 +1,11 @@
--- Two symbols make a table.
+-- The entries of false and true make a table.
 use Rattle.std.specs.Prelude.{ℕ, ◌-◌, ◌^◌, ◌<◌, ◌≤◌, length, [], ◌∷◌, Bool, true, false}
 use Rattle.std.proofs.Common.{refl, inl, inr, arith, ap}
 use Rattle.std.proofs.lemmas.Bool.{true≢false}
 use Rattle.constriction_base.specs.Tables.{Has, IsTable}
 use Rattle.constriction_models.specs.Bernoulli.{bernoulli}
 
--- The second symbol isn't the first.
+-- The symbol false has no entry in a list that has only the entry of true.
 apart : (at weight : ℕ) (l p : ℕ) → Has ((true, at, weight) ∷ []) false l p → ⊥
 apart at weight l p (inl same) = true≢false (ap (λ (e : Bool × ℕ × ℕ). e.0) same)
 apart at weight l p (inr none) = absurd none

@@ -57,13 +57,13 @@ uniform_impossible precision count s past = cut_impossible (λ k. k) (even_start
 pub uniform_interval : (precision count k : ℕ) → 2 ≤ count → count ≤ 2 ^ precision → k < count → IsProperInterval (even_start (2 ^ precision) count k) (even_start (2 ^ precision) count (k + 1)) (2 ^ precision)
 uniform_interval precision count k some room inside = cut_interval (even_start (2 ^ precision) count) count (2 ^ precision) k (even_is_cut (2 ^ precision) count (omega arith) room) some inside
 
--- A symbol of at most the quotient begins at or below the quantile.
+-- If k is at most the quantile divided by the equal share, the interval of symbol k begins at or below the quantile.
 pub even_low : (all count q k : ℕ) → k < count → k ≤ q / (all / count) → even_start all count k ≤ q
 even_low all count q k inside before =
     let part : ℕ = all / count in
     omega (arith, even_inside all count k inside, mul-le-mul_right part before, div-mul-le_self q part)
 
--- A symbol of at least the quotient ends above the quantile.
+-- If k is at least the quantile divided by the equal share, the interval of symbol k ends above the quantile.
 pub even_high : (all count q k : ℕ) → 0 < count → count ≤ all → q < all → q / (all / count) ≤ k → q < even_start all count (k + 1)
 even_high all count q k some room inside behind =
     elim (cases_lt (k + 1) count) [

@@ -14,17 +14,17 @@ pub indexed_two : (precision : ℕ) (below : ℤ → ℕ) (min : ℤ) (count : �
 unfolding indexed
 indexed_two precision below min count some = omega (arith, length-cut (λ (k : ℕ). k) (start_of precision below min count) 0 count)
 
--- The entry of an index.
+-- Index k has the entry that begins at its start and ends at the start of index k + 1.
 pub indexed_has : (precision : ℕ) (below : ℤ → ℕ) (min : ℤ) (count k l p : ℕ) → k < count → l ≡ start_of precision below min count k → p ≡ start_of precision below min count (k + 1) - l → Has (indexed precision below min count) k l p
 unfolding indexed
 indexed_has precision below min count k l p inside begins long = cut_entry (λ k. k) (start_of precision below min count) count k k l p inside refl begins long
 
--- A number of at least the count has no entry.
+-- An index that isn't below `count` has no entry.
 pub indexed_impossible : (precision : ℕ) (below : ℤ → ℕ) (min : ℤ) (count k : ℕ) → count ≤ k → Impossible (indexed precision below min count) k
 unfolding indexed
 indexed_impossible precision below min count k past = cut_impossible (λ k. k) (start_of precision below min count) count k (λ j inside is. omega (arith, is))
 
--- The entry of a symbol is that of its index.
+-- Symbol s has an index, and the entry of this index has the start l and the length p.
 pub record IsPlaced (precision : ℕ) (below : ℤ → ℕ) (min : ℤ) (count : ℕ) (s : ℤ) (l p : ℕ) : Type 0 where
   pub place : ℕ
   pub is_symbol : symbol_of min place ≡ s

@@ -8,7 +8,7 @@ use Rattle.std.proofs.lemmas.Int.{ints}
 use Rattle.constriction_models.specs.Interpolation.{rises_from, AreValues, interpolated, value_at, value_above, value_beyond, located, scaled}
 use Rattle.constriction_models.specs.Quantized.{IsDistribution}
 
--- No number of such a list is below `low`.
+-- No number of a list that rises from `low` is below `low`.
 pub rises_above : (low : ℕ) (xs : List ℕ) (k : ℕ) → rises_from low xs ≡ true → k < length xs → low ≤ slice_index xs k
 unfolding rises_from
 rises_above low [] k up inside = absurd (omega arith)
@@ -20,7 +20,7 @@ rises_above low (x ∷ xs) (suc k) up inside =
     let first : low ≤ x = leb-true low x parts.0 in
     omega (arith, rises_above x xs k parts.1 (omega arith))
 
--- No number of such a list is below an earlier one.
+-- No number of a list that rises from `low` is below an earlier number.
 pub rises_along : (low : ℕ) (xs : List ℕ) (i j : ℕ) → rises_from low xs ≡ true → i ≤ j → j < length xs → slice_index xs i ≤ slice_index xs j
 unfolding rises_from
 rises_along low [] i j up order inside = absurd (omega arith)
@@ -50,7 +50,7 @@ same_step : (values : List ℕ) (first second p q : ℕ) → first ≡ second �
 unfolding interpolated
 same_step values first second p q e h = rw e (omega (arith, part_grows (slice_index values (second + 1) - slice_index values second) p q h))
 
--- The value at a place never falls.
+-- A greater place never has a smaller value.
 pub value_rises : (values : List ℕ) (low high : ℕ) → AreValues values → low ≤ high → high < 134217728 → value_at values low ≤ value_at values high
 unfolding value_at
 value_rises values low high is order inside =
@@ -73,20 +73,20 @@ value_within values place is inside =
     let here = between_within values step (place % 65536) is in_table (omega arith) in
     omega (arith, here.1, rises_along 0 values (step + 1) 2048 is.rises (omega arith) (omega (arith, is.len)), is.last)
 
--- The two table values around a place.
+-- Two table values enclose each place. The first isn't above the second, and the second is at most 2 ^ 32.
 pub values_around : (values : List ℕ) (place : ℕ) → AreValues values → place < 134217728 → (place / 65536 + 1 < length values) × (slice_index values (place / 65536) ≤ slice_index values (place / 65536 + 1)) × (slice_index values (place / 65536 + 1) ≤ 4294967296)
 values_around values place is inside =
     let step : ℕ = place / 65536 in
     let in_table : step < 2048 = omega arith in
     (omega (arith, is.len), rises_along 0 values step (step + 1) is.rises (omega arith) (omega (arith, is.len)), omega (arith, rises_along 0 values (step + 1) 2048 is.rises (omega arith) (omega (arith, is.len)), is.last))
 
--- The product of a distance and a part of 65536 fits 64 bits.
+-- The product of a number up to 2 ^ 32 and a number below 65536 is at most 2 ^ 48, so it fits 64 bits.
 pub part_fits : (long part : ℕ) → long ≤ 4294967296 → part < 65536 → long * part ≤ 281474976710656
 part_fits long part short small =
     let most : part ≤ 65536 = omega arith in
     omega (arith, mul-le-mul_left long most)
 
--- The whole table has at most 2 ^ 27 65536ths of a step.
+-- The width of the table, converted by the rate, is at most 2 ^ 27 in 65536ths of a step.
 abbrev pub Fits : ℕ → ℕ → Type 0
 Fits wide rate = wide * rate ≤ 9223372036854775808
 
@@ -133,7 +133,7 @@ unfolding value_beyond
 beyond_within values wide rate (pos x) is fits = above_within values wide rate x is fits
 beyond_within values wide rate (negsuc x) is fits = omega arith
 
--- The values below the table, above it and within it.
+-- The value below the table is 0. The next two laws give the values above the table and within it.
 pub beyond_none : (values : List ℕ) (wide rate : ℕ) (z : ℤ) → z <ℤ pos 0 → value_beyond values wide rate z ≡ 0
 unfolding value_beyond
 beyond_none values wide rate (pos n) low = absurd (omega (arith, ints))
@@ -155,7 +155,7 @@ located_is_distribution values wide rate middle is fits = record {
   within = λ x. beyond_within values wide rate (x -ℤ middle +ℤ pos (wide / 2)) is fits;
 }
 
--- The whole table has this many steps, or slightly fewer because of the roundings.
+-- A table of `width` scales fits with the rate that `scaled` uses.
 pub scaled_fits : (width scale : ℕ) → Fits (width * scale) (9223372036854775808 / width / scale)
 scaled_fits width scale =
     let all : ℕ = 9223372036854775808 / width in

@@ -1,4 +1,5 @@
--- A mixture is a distribution function. One component alone is that component's, and weight 0 changes nothing.
+-- A mixture of distribution functions is a distribution function. A mixture of one component equals this component, and
+-- a component of weight 0 changes nothing.
 use Rattle.std.specs.Prelude.{◌≡◌, ℕ, ◌+◌, ◌*◌, ◌/◌, ◌<◌, ◌≤◌, List, [], ◌∷◌, ◌++◌, ℤ, ◌≤ℤ◌}
 use Rattle.std.specs.List.{sum_by}
 use Rattle.std.proofs.Common.{refl, ap, ◌∙◌, arith}
@@ -10,7 +11,7 @@ use Rattle.constriction_models.specs.declared.mixture.Component.{Component}
 use Rattle.constriction_models.specs.Quantized.{IsDistribution}
 use Rattle.constriction_models.specs.Mixtures.{Weighted, total_weight, weighted_sum, mixed, weighted}
 
--- The sums, over the components themselves.
+-- The sum of the products and the sum of the weights, both as sums over the list of components.
 pub sum_is : {D : Type 0} (below : D → ℤ → ℕ) (components : List (Component D)) (x : ℤ) → weighted_sum (weighted below components) x ≡ sum_by (λ (c : Component D). c.weight * below c.distribution x) components
 sum_is below [] x = refl
 sum_is {D} below (c ∷ cs) x =
@@ -52,7 +53,7 @@ mixed_is_distribution below components are some = record {
   within = λ x. div-le_of_le-mul (total_weight (weighted below components)) (sum_within below components are x);
 }
 
--- A mixture of one component is that component, to the last unit.
+-- A mixture of one component has exactly that component's distribution function.
 pub one_component : (part : Weighted) → 0 < part.weight → mixed (part ∷ []) ≡ part.below
 unfolding mixed
 one_component part some = fun_ext (λ place.
@@ -60,7 +61,7 @@ one_component part some = fun_ext (λ place.
     let total : 0 + part.weight ≡ part.weight = omega arith in
     rw sum (rw total (mul-div_right (part.below place) some)))
 
--- A component of weight 0 changes nothing, wherever it stands.
+-- A component of weight 0 doesn't change the mixture, whatever its position in the list.
 pub without_weight : (front back : List Weighted) (part : Weighted) → part.weight ≡ 0 → mixed (front ++ part ∷ back) ≡ mixed (front ++ back)
 unfolding mixed
 without_weight front back part none =

@@ -26,7 +26,7 @@ where
 {
     ghost can_seek = { λ decoder position. Backend.can_seek decoder.bulk position.0 };
 
-    // The backend can't go there, or a read was refused there.
+    // The backend refuses the seek, or a read of the new point fails.
     ghost seek_fails = { λ decoder position. Backend.seek_fails decoder.bulk position.0
         ⊎ ((moved rest : Backend) × (e : Backend.ReadError) × Backend.sought decoder.bulk position.0 moved
         × RefusesPoint Word.number Backend.ReadWords.own Word.BITS State.BITS moved e rest) };

@@ -21,7 +21,7 @@ use constriction_stream::decoding::Decode;
 use constriction_words::{BitArray, WordOf};
 use thiserror::Error;
 
-/// The error of a decode that the decoder itself refuses.
+/// The error of a decoder itself, as opposed to an error of its backend.
 #[derive(Debug, Clone, Copy, PartialEq, Eq, Error)]
 pub enum DecoderFrontendError {
     /// The words don't encode a symbol of any model with this precision.

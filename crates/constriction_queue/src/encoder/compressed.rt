@@ -137,7 +137,7 @@ impl<Word: WordOf<State>, State: BitArray, Backend: BoundedReadWords<Word, Stack
         Word::BITS as usize * self.num_words()
     }
 
-    /// Returns whether the encoder has written no word and encoded no symbol.
+    /// Returns whether the encoder has no symbols and its backend has no words.
     pub fn is_empty(&self) -> bool
         ensures { IsTrue result ↔ ((self.now.range + 1 ≡ 2 ^ State.BITS) × (self.now.words ≡ [])) }
     {
@@ -147,8 +147,8 @@ impl<Word: WordOf<State>, State: BitArray, Backend: BoundedReadWords<Word, Stack
 
 /// An iterator over an encoder's words in the order of [`RangeEncoder::into_compressed`].
 ///
-/// [`RangeEncoder::iter_compressed`] returns it. Contracts describe the iterator by the numbers of the words that are
-/// left.
+/// [`RangeEncoder::iter_compressed`] returns this iterator. Contracts describe the iterator by the list of the
+/// remaining words.
 ///
 /// # Examples
 ///
@@ -206,10 +206,10 @@ impl<Word: WordOf<State>, State: BitArray, Backend: Holds<Word, Stack> + Words<W
     /// seal. These are the words of `into_compressed` if the backend lends its words in the order in which they were
     /// written, as vectors and slices do. The trait [`crate::as_written::LendsAsWritten`] guarantees this order.
     pub fn iter_compressed(&self) -> RangeCompressedIter<'_, Word>
-        // The words that the backend lends, and then the sealed words without the words written.
+        // The words that the backend lends, and then the words that `into_compressed` would still write.
         ensures lent { result ≡ map Word.number (Backend.lent self.now.bulk)
             ++ drop (length self.now.words) (sealed_by Word.BITS State.BITS self.now) }
-        // The backend lends its words in the order in which they were written, as every `LendsAsWritten` does.
+        // If the backend lends its words in writing order (see `LendsAsWritten`), these are the exported words.
         ensures words { Backend.words self.now.bulk ≡ reverse (Backend.lent self.now.bulk) →
             result ≡ sealed_by Word.BITS State.BITS self.now }
     {

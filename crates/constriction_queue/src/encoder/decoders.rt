@@ -98,7 +98,7 @@ impl<
     }
 }
 
-/// Converts an encoder as [`RangeEncoder::into_decoder`] does.
+/// Converts an encoder into a decoder, as [`RangeEncoder::into_decoder`] does.
 impl<
     Word: WordOf<State>,
     State: BitArray,

@@ -129,8 +129,8 @@ impl<
 
     /// Returns whether the backend may be full.
     ///
-    /// If it returns `false` and no words are pending, the next step doesn't fail for lack of room. That step writes at
-    /// most one word.
+    /// If the call returns `false` and no words are pending, the next encode doesn't fail for lack of room. That encode
+    /// writes at most one word.
     #[inline]
     fn maybe_full(&self) -> bool
         ensures value { result ≡ Backend.seems_full self.now.bulk }

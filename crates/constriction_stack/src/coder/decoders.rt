@@ -355,7 +355,7 @@ impl<Word: WordOf<State>, State: BitArray, Backend: Holds<Word, Stack>> AnsCoder
     }
 }
 
-/// Converts a borrowed coder as [`AnsCoder::as_decoder`] does.
+/// Converts a borrowed coder into a decoder, as [`AnsCoder::as_decoder`] does.
 impl<'a, Word: WordOf<State>, State: BitArray, Backend: AsReadWords<'a, Word, Stack>> From<
     &'a AnsCoder<Word, State, Backend>,
 > for AnsCoder<Word, State, <Backend as AsReadWords<'a, Word, Stack>>::AsReadWords> {
@@ -384,7 +384,8 @@ impl<Word: WordOf<State>, State: BitArray, Backend: Holds<Word, Stack> + Pos> Po
 
     /// Returns the backend's position and the head.
     ///
-    /// The caller proves `can_tell` for the backend. It always holds for vectors and cursors.
+    /// The caller proves that the backend's `pos` can return its position (`can_tell`). This always holds for vectors
+    /// and cursors.
     fn pos(&self) -> (Backend::Position, State)
         requires { Backend.can_tell self.now.backend }
         ensures place { Backend.stands_at self.now.backend result.0 }

@@ -101,6 +101,8 @@ where
     Backend::ReadError: Drop,
 {
     /// Writes the head's words onto the backend, keeps the head, and returns how many words it wrote.
+    ///
+    /// If the backend refuses room or a write, the call removes the words that it wrote, unless a read fails.
     fn put_compressed(&mut self) -> Result<usize, Backend::WriteError>
         ensures coder { IsCoder Word.number Backend.Holds Word.BITS State.BITS self.old }
         ensures shows { OnOk result (ShowsExported Word.BITS self.old.state self.new.state) }
@@ -119,6 +121,9 @@ where
     }
 
     /// Writes the head's words below its leading 1 onto the backend, keeps the head, and returns how many it wrote.
+    ///
+    /// Returns `Frontend(())` exactly if the head is 0, or if its bit length minus 1 isn't a multiple of `Word::BITS`.
+    /// If the backend refuses room or a write, the call removes the words that it wrote, unless a read fails.
     fn put_binary(&mut self) -> Result<usize, CoderError<(), Backend::WriteError>>
         ensures coder { IsCoder Word.number Backend.Holds Word.BITS State.BITS self.old }
         ensures shows { OnOk result (ShowsBinary Word.BITS self.old.state self.new.state) }
@@ -226,7 +231,9 @@ where
     }
 }
 
-/// Writes the lowest `count` words of `head` onto `bulk`, lowest first. If a write fails, removes them again.
+/// Writes the lowest `count` words of `head` onto `bulk`, lowest first.
+///
+/// If a write fails, the call removes the words that it wrote, unless a read fails.
 fn show_words<Word: WordOf<State>, State: BitArray, Backend>(
     bulk: &mut Backend,
     head: State,

@@ -115,7 +115,9 @@ impl<
         }
     }
 
-    /// Returns whether the backend may be full. If it returns `false`, the next step doesn't fail for lack of room.
+    /// Returns whether the backend may be full.
+    ///
+    /// If the call returns `false`, the next encode doesn't fail for lack of room.
     #[inline]
     fn maybe_full(&self) -> bool
         ensures value { result ≡ Backend.seems_full self.now.backend }

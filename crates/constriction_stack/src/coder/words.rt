@@ -25,7 +25,8 @@ use thiserror::Error;
 
 /// The error for compressed words that end with a zero word.
 ///
-/// No coder in a normalized state exports these words: its last word is the highest word of the head, which isn't zero.
+/// A coder in a normalized state never exports such words: the last word of an export is the highest word of the head,
+/// which isn't zero.
 #[derive(Debug, Clone, Copy, PartialEq, Eq, Error)]
 #[error("Tried to decode from compressed data that ends with a zero word, which is invalid for an ANS coder.")]
 pub struct CompressedDataEndsWithZeroWord;
@@ -274,7 +275,8 @@ impl<Word: WordOf<State>, State: BitArray, Backend: BoundedReadWords<Word, Stack
 
 /// An iterator over a coder's words in the order of [`AnsCoder::into_compressed`], with the top word last.
 ///
-/// [`AnsCoder::iter_compressed`] returns it. Contracts describe the iterator by the numbers of the words that are left.
+/// [`AnsCoder::iter_compressed`] returns this iterator. Contracts describe the iterator by the list of the remaining
+/// words.
 ///
 /// # Examples
 ///
@@ -338,7 +340,7 @@ impl<Word: WordOf<State>, State: BitArray, Backend: Holds<Word, Stack> + Words<W
     pub fn iter_compressed(&self) -> AnsCompressedIter<'_, Word, State>
         ensures words { result ≡ map Word.number (Backend.lent self.now.backend)
             ++ reverse (digits_of (2 ^ Word.BITS) self.now.state.head) }
-        // The backend lends its words in the order in which they were written.
+        // If the backend lends its words in the order in which they were written, these are the exported words.
         ensures exported { Backend.words self.now.backend ≡ reverse (Backend.lent self.now.backend) →
             result ≡ reverse (exported Word.BITS self.now.state) }
     {

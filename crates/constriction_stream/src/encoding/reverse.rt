@@ -1,4 +1,4 @@
-//! `EncodeReverse`: lists of symbols that are encoded from the last to the first.
+//! `EncodeReverse`, the trait of encoders that encode a list from the last symbol to the first.
 
 ghost use Rattle.constriction_stream.specs.Symbols.{EncodesSymbol, EncodesPair};
 ghost use Rattle.constriction_stream.specs.Lists.{StepsUntilFault, GivesAtMost, LowersByItems, TriesItem};
@@ -12,12 +12,13 @@ use constriction_words::WordOf;
 /// An encoder that is a stack: the symbol encoded last is decoded first.
 ///
 /// If a list is encoded from the last symbol to the first, decoding returns the list in order. The trait has no members
-/// to implement and no laws, so a coder that is a stack implements it in one line.
+/// to implement, so a coder that is a stack implements it in one line. The trait has no laws either: no contract
+/// guarantees that an implementor is a stack.
 pub trait EncodeReverse<const PRECISION: usize>: Encode<PRECISION> {
     /// Encodes symbols from the last to the first, each under its own model, and stops at the first error.
     ///
-    /// Decoding then returns the symbols in the order of the list. Where `counts_symbols` holds, the caller proves that
-    /// `symbols_left` is at least the number of items.
+    /// A coder that is a stack then decodes the symbols in the order of the list. Where `counts_symbols` holds, the
+    /// caller proves that `symbols_left` is at least the number of items.
     ///
     /// # Errors
     ///
@@ -100,8 +101,8 @@ pub trait EncodeReverse<const PRECISION: usize>: Encode<PRECISION> {
 
     /// Encodes symbols from the last to the first, all under one model, and stops at the first error.
     ///
-    /// Decoding then returns the symbols in the order of the list. Where `counts_symbols` holds, the caller proves that
-    /// `symbols_left` is at least the number of symbols.
+    /// A coder that is a stack then decodes the symbols in the order of the list. Where `counts_symbols` holds, the
+    /// caller proves that `symbols_left` is at least the number of symbols.
     ///
     /// # Errors
     ///

@@ -1,4 +1,4 @@
-//! `DecodeIidSymbols`: a given number of symbols under one model.
+//! `DecodeIidSymbols`, an iterator that decodes a given number of symbols under one model.
 
 ghost use Rattle.std.specs.Prelude.{◌≡◌, IfSome, Some};
 ghost use Rattle.std.specs.Iterator.{UpTo, at_most};

@@ -1,4 +1,4 @@
-//! `DecodeSymbols`: one symbol for each model.
+//! `DecodeSymbols`, an iterator that decodes one symbol for each model.
 
 ghost use Rattle.std.specs.Prelude.{◌≡◌};
 ghost use Rattle.constriction_stream.specs.Symbols.{DecodesByModel};

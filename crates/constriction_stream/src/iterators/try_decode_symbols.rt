@@ -1,4 +1,4 @@
-//! `TryDecodeSymbols`: one symbol for each model, where an item may be an error instead of a model.
+//! `TryDecodeSymbols`, an iterator that decodes one symbol for each model. An item may instead be an error.
 
 ghost use Rattle.std.specs.Prelude.{◌≡◌};
 ghost use Rattle.constriction_stream.specs.Symbols.{DecodesByModel};
@@ -10,7 +10,7 @@ use constriction_base::errors::CoderError;
 use constriction_base::model::{DecoderModel, EntropyModel};
 use constriction_words::WordOf;
 
-/// An iterator that decodes one symbol for each model, where an item may be an error instead of a model.
+/// An iterator that decodes one symbol for each model. An item may instead be an error, which the iterator returns.
 ///
 /// [`Decode::try_decode_symbols`](crate::decoding::Decode::try_decode_symbols) returns it.
 ///

@@ -23,7 +23,7 @@ fn codeword_below(above: usize, bit: usize) -> usize
     2 * above + bit
 }
 
-/// Returns the number of each node's codeword, given the numbers that `parents_of` returns.
+/// Returns each node's codeword, stored as one number, given the list that `parents_of` returns.
 ///
 /// The number is a leading 1 followed by the codeword, first bit highest. It is 0 if the codeword has `usize::BITS`
 /// bits or more.

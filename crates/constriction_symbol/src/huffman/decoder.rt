@@ -236,7 +236,8 @@ impl DecoderCodebook for DecoderHuffmanTree {
 
     /// Looks up the codeword that the `count` highest bits of `bits` begin with.
     ///
-    /// Returns `None` if the codeword is empty, or has `count` bits or more.
+    /// Returns the codeword's symbol, and its length in bits. Returns `None` if the codeword is empty, or has `count`
+    /// bits or more.
     #[inline]
     fn symbol_at_once<Word: BitArray>(&self, bits: Word, count: u32) -> Option<(usize, u32)> {
         let place = place_of(&self.places, self.most, bits);

@@ -24,7 +24,7 @@ pub enum HuffmanError<E> {
     /// There is no weight.
     #[error("no weights")]
     Empty,
-    /// There are more weights than a tree can index.
+    /// There are more than `usize::MAX / 4` weights (for encoding), or more than `usize::MAX / 2` (for decoding).
     #[error("too many symbols")]
     TooManySymbols,
     /// The sum of the weights doesn't fit their type.

@@ -9,6 +9,8 @@ use constriction_base::errors::{CoderError, DefaultEncoderError};
 use std::alloc::{AllocError, Global};
 
 /// Returns twice the index of each node's parent, plus 1 if the node is the second child. The root has the number 0.
+///
+/// `pairs` has the two children of each inner node, the root last.
 pub fn parents_of(alloc: Global, pairs: &[[usize; 2]]) -> Result<Vec<usize>, AllocError>
     requires unions { AreUnions (length pairs.now + 1) (map as_pair pairs.now) }
     requires fits { 4 * length pairs.now + 4 < 2 ^ 64 }

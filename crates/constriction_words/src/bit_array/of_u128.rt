@@ -1,4 +1,4 @@
-// `BitArray` for `u128`.
+// Implements `BitArray` for `u128`. Its `quotient_by` is the default method, which divides.
 
 ghost use Rattle.std.specs.Prelude.{◌+◌, ◌-◌, ◌%◌, ◌^◌};
 ghost use Rattle.std.proofs.Common.{rules};

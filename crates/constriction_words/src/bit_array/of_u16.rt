@@ -1,4 +1,4 @@
-// `BitArray` for `u16`.
+// Implements `BitArray` for `u16`, with the operations of the primitive type and of `num_traits`.
 
 ghost use Rattle.std.specs.Prelude.{◌+◌, ◌-◌, ◌%◌, ◌^◌};
 ghost use Rattle.std.proofs.Common.{rules};

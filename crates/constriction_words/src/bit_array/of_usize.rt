@@ -1,4 +1,4 @@
-// `BitArray` for `usize`.
+// Implements `BitArray` for `usize`, with the operations of the primitive type and of `num_traits`.
 
 ghost use Rattle.std.specs.Prelude.{◌+◌, ◌-◌, ◌%◌, ◌^◌};
 ghost use Rattle.std.proofs.Common.{rules};
