@@ -1,4 +1,4 @@
--- The coders that words stand for, and the words that whole coders are written as.
+-- The states to which imports of words lead, and the words that whole coders export.
 use Rattle.std.specs.Prelude.{◌≡◌, ℕ, ◌^◌, List, [], ◌++◌}
 use Rattle.std.specs.Int.Digits.{digits_of}
 use Rattle.constriction_base.specs.Digits.{fixed_digits}
@@ -6,29 +6,32 @@ use Rattle.constriction_base.specs.Writing.{IsOneAbove}
 use Rattle.constriction_chain.specs.Chain.{ChainState, IsChain}
 use Rattle.constriction_chain.specs.Words.{remainder_words}
 
--- the words that a whole coder is exported as: those of the number of the remainders, above the compressed ones
+-- The words that a whole coder exports: the words of the remainders head without leading zeros, and then the compressed
+-- words.
 abbrev pub compressed_words : ℕ → ChainState → List ℕ
 compressed_words w x = digits_of (2 ^ w) x.r ++ x.compressed
 
--- the same in binary form: the words below the number's leading one, where these are whole words
+-- The words that a whole coder exports in binary form. The remainders head is a 1 above m words. These m words come
+-- first, and the compressed words follow.
 abbrev pub AreBinaryWords : ℕ → List ℕ → ChainState → Type 0
 AreBinaryWords w words x = (m : ℕ) × IsOneAbove w m x.r × (words ≡ fixed_digits (2 ^ w) m x.r ++ x.compressed)
 
--- a coder from which nothing was decoded yet: no bits are left over, and there are no remainders below the head
+-- The state of a coder right after an import of compressed words: no bits are left over, and there are no remainders
+-- below the head.
 pub record IsWhole (w s P : ℕ) (x : ChainState) : Type 0 where
   pub chain : IsChain w s P x
   pub h : x.h ≡ 1
   pub remainders : x.remainders ≡ []
 
--- the coder that compressed words stand for
+-- Importing the compressed words leads to the state x: it is whole, and its export is these words.
 abbrev pub FromCompressed : ℕ → ℕ → ℕ → List ℕ → ChainState → Type 0
 FromCompressed w s P words x = IsWhole w s P x × (words ≡ compressed_words w x)
 
--- the coder that words stand for in binary form
+-- Importing the words in binary form leads to the state x: it is whole, and its export in binary form is these words.
 abbrev pub FromBinary : ℕ → ℕ → ℕ → List ℕ → ChainState → Type 0
 FromBinary w s P words x = IsWhole w s P x × AreBinaryWords w words x
 
--- the coder that remainders stand for, over no compressed words
+-- Importing the words as remainders leads to the valid state x, which has no compressed words.
 pub record FromRemainders (w s P : ℕ) (words : List ℕ) (x : ChainState) : Type 0 where
   pub chain : IsChain w s P x
   pub compressed : x.compressed ≡ []

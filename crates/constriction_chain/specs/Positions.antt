@@ -1,8 +1,8 @@
--- Positions of the chain coder, as the laws of its calls cite them.
+-- A lemma that the laws about seeking a chain coder cite.
 use Rattle.std.specs.Prelude.{◌⊎◌}
 use Rattle.std.proofs.Common.{inl, inr}
 
--- where neither of two is, not one of them is
+-- If A is false and B is false, then "A or B" is false.
 pub neither : {A B : Type 0} → (A → ⊥) → (B → ⊥) → A ⊎ B → ⊥
 neither f g (inl a) = f a
 neither f g (inr b) = g b

@@ -1,4 +1,4 @@
--- What coding symbols, each under its model, does to a chain coder's state.
+-- The effect of encoding and decoding symbols, each under its own model, on a chain coder's state.
 use Rattle.std.specs.Prelude.{◌≡◌, ℕ, List}
 use Rattle.std.specs.List.{AllByRecursion}
 use Rattle.constriction_base.specs.Steps.{InTurn}
@@ -22,11 +22,11 @@ TakesOffAll w s items old new = InTurn (λ item. TakesOff w s item.model item.sy
 abbrev pub PutsBackAll : {S : Type 0} → ℕ → ℕ → List (Item S) → ChainState → ChainState → Type 0
 PutsBackAll w s items old new = InTurn (λ item. PutsBack w s item.model item.symbol) items old new
 
--- a model of the precision: its table cuts the numbers below two to it
+-- The model has the precision P, and its table partitions the numbers below 2 ^ P.
 pub record IsModelAt {S : Type 0} (P : ℕ) (model : Model S) : Type 0 where
   pub level : model.precision ≡ P
   pub lawful : IsTable model.precision model.table
 
--- each item's model is one of the precision
+-- Each item's model has the precision P and a lawful table.
 abbrev pub AreModelsAt : {S : Type 0} → ℕ → List (Item S) → Type 0
 AreModelsAt P items = AllByRecursion (λ item. IsModelAt P item.model) items

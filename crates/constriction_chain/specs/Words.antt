@@ -1,6 +1,5 @@
--- Words that chain coders are made of, and those that they are written as, in two forms: with the number of the
--- remainders as its words without leading zeros, and, in binary form, as the words below its leading one.
--- Words are listed in the order in which they are read.
+-- Imports and exports of chain coders in two forms. In the compressed form, the remainders head becomes its words
+-- without leading zeros. In binary form, it becomes the words below its leading 1. Words are listed in reading order.
 use Rattle.std.specs.Prelude.{◌≡◌, ◌⊎◌, ℕ, ◌^◌, ◌<◌, List, ◌∷◌, ◌++◌, map, Option, None, Some, Result, Ok, Err, IfNone, IfOk, IfSome}
 use Rattle.std.specs.Int.Digits.{digits_of, number_from_digits}
 use Rattle.constriction_base.specs.Digits.{fixed_digits}
@@ -15,22 +14,24 @@ use Rattle.constriction_chain.specs.Chain.{ChainState}
 
 -- ---- written
 
--- the words that a coder's remainders are exported as: the words of their number below the head of the compressed words
+-- The words of exported remainders: the compressed head, the words of the remainders head without leading zeros, and
+-- the words below.
 abbrev pub remainder_words : ℕ → ChainState → List ℕ
 remainder_words w x = x.h ∷ (digits_of (2 ^ w) x.r ++ x.remainders)
 
--- a coder has words in binary form: no bits are left over, and the number of the remainders is a one above words
+-- The coder has a binary form: no bits are left over, and the remainders head is a 1 above whole words.
 abbrev pub IsInBinary : ℕ → ChainState → Type 0
 IsInBinary w x = (x.h ≡ 1) × ((m : ℕ) × IsOneAbove w m x.r)
 
--- the words below a number's leading one could not be
+-- The backend refuses the words below the leading 1 of r with the error e.
 abbrev pub BinaryNotWritten : {W B E S : Type 0} → (W → ℕ) → holding.Ghosts B W S → writing.Ghosts B W E → ℕ → ℕ → B → E → Type 0
 BinaryNotWritten number holds writes w r old e =
     (m : ℕ) × IsOneAbove w m r × NotWritten number holds writes (fixed_digits (2 ^ w) m r) old e
 
 -- ---- read
 
--- a call that may find something: this holds of what it found; this holds where there was none
+-- For calls that may find a value: `IfFound` says that P holds for the value, if there is one. `OnNone` says that P
+-- holds if there is none.
 abbrev pub IfFound : {X E : Type 0} → Result (Option X) E → (X → Type 0) → Type 0
 IfFound answer P = IfOk answer (λ found. IfSome found P)
 
@@ -38,7 +39,7 @@ abbrev pub OnNone : {X E : Type 0} → Result (Option X) E → Type 0 → Type 0
 OnNone answer P = IfOk answer (λ found. IfNone found P)
 
 module _ {W B S E : Type 0} (number : W → ℕ) (holds : holding.Ghosts B W S) (reads : reading.Ghosts B W S E) (w : ℕ) where
-  -- words that reads gave, of which the first isn't 0, and the number that they are
+  -- Reads return words that form the number r. The first word isn't 0.
   pub record BeginsNonzero (old : B) (r : ℕ) (new : B) : Type 0 where
     pub words : List W
     pub given : Gives reads.reads old words new
@@ -46,26 +47,28 @@ module _ {W B S E : Type 0} (number : W → ℕ) (holds : holding.Ghosts B W S) 
     pub high : BeginsHigh (map number words)
     pub is : r ≡ number_from_digits (2 ^ w) (map number words)
 
-  -- these were too few, or a read was refused
+  -- The words read form a number below `bound`, and the next read returns this answer instead of a word.
   abbrev pub BeginsAndStops : ℕ → B → Result (Option W) E → B → Type 0
   BeginsAndStops bound old answer new = (x : ℕ) × (last : B) × BeginsNonzero old x last × (x < bound) × ReadsAs holds reads last answer new
 
-  -- no number of the remainders came of the words below a one: they are too few, and all were read; or a read was refused
+  -- An import in binary form gets no remainders head. Either all words are read, and there are too few. Or a read fails
+  -- with this error.
   abbrev pub TooFew : ℕ → ℕ → B → CoderError B E → Type 0
   TooFew bound from old (Frontend rest) = (n : ℕ) × StopsAt number holds reads w bound from old n (Ok None) rest
   TooFew bound from old (Backend e) = (rest : B) × (n : ℕ) × StopsAt number holds reads w bound from old n (Err e) rest
 
-  -- a word was read, and it is 0
+  -- The read returns a word, and the word is 0.
   abbrev pub ReadsZero : B → B → Type 0
   ReadsZero old rest = (word : W) × (number word ≡ 0) × ReadsAs holds reads old (Ok (Some word)) rest
 
-  -- none came of words without leading zeros: the first is 0, and was read; or they are too few, and all were read; or a
-  -- read was refused
+  -- An import gets no remainders head from words without leading zeros. The first word is 0, there are too few words,
+  -- or a read fails with this error.
   abbrev pub NoStart : ℕ → B → CoderError B E → Type 0
   NoStart bound old (Frontend rest) = ReadsZero old rest ⊎ BeginsAndStops bound old (Ok None) rest
   NoStart bound old (Backend e) = (rest : B) × BeginsAndStops bound old (Err e) rest
 
-  -- nor came both heads: the first word is missing, or 0, or its read was refused; or those behind it are no start
+  -- An import of remainders doesn't get both heads. The first word is missing or 0, its read fails, or the next words
+  -- give no remainders head.
   abbrev pub NoHeads : ℕ → B → CoderError B E → Type 0
   NoHeads bound old (Frontend rest) =
       ReadsAs holds reads old (Ok None) rest
@@ -75,13 +78,15 @@ module _ {W B S E : Type 0} (number : W → ℕ) (holds : holding.Ghosts B W S) 
       ((rest : B) × ReadsAs holds reads old (Err e) rest)
       ⊎ ((word : W) × (between : B) × (0 < number word) × ReadsAs holds reads old (Ok (Some word)) between × NoStart bound between (Backend e))
 
-  -- both heads came: the first word, and the number that those behind it begin with
+  -- An import of remainders gets both heads: the first word is the compressed head h, and the next words form the
+  -- remainders head r.
   abbrev pub ReadsHeads : B → ℕ → ℕ → B → Type 0
   ReadsHeads old h r new = (word : W) × (between : B) × (number word ≡ h) × ReadsAs holds reads old (Ok (Some word)) between × BeginsNonzero between r new
 
 -- ---- exports of a whole coder
 
--- a coder that could not be exported: it isn't whole, and comes back; or its words could not be written
+-- An export fails. Either `whole` doesn't hold, and the error returns the unchanged coder. Or the backend refuses the
+-- words with this error.
 abbrev pub NotExported : {V E : Type 0} → Type 0 → V → (E → Type 0) → CoderError V E → Type 0
 NotExported whole coder not_written (Frontend back) = (whole → ⊥) × (back ≡ coder)
 NotExported whole coder not_written (Backend e) = whole × not_written e

@@ -1,7 +1,7 @@
 //! Decoding and encoding on the heads and the backends. A decode has two halves, with a call of the model between them.
 //!
-//! The heads are two numbers here, and not a struct with a const parameter: in a function that is generic over two
-//! backends and a model, such a struct makes conditions too large for the checker.
+//! The heads are two numbers here, not a struct with a const parameter. In a function that is generic over two backends
+//! and a model, the struct would make the proof's conditions too large for the checker.
 
 ghost use Rattle.constriction_base.specs.Steps.{Step};
 ghost use Rattle.constriction_base.specs.Tables.{Covers};

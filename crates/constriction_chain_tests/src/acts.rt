@@ -63,8 +63,8 @@ enum Says {
 /// - These verbs compare words of a clone: `compressed` and `remainders` (raw parts), `prefix` and `suffix`
 ///   (`into_remainders`), `export` and `rest` (`into_compressed`), and `export-binary` (`into_binary`).
 /// - `heads` compares the two heads.
-/// - `whole` checks that the coder is whole, `full` that it may be full, `exhausted` that it may be exhausted, and
-///   `unfinished` that it isn't exhausted.
+/// - `whole` checks that the coder is whole. `full` checks that it may be full. `exhausted` checks that it may be
+///   exhausted, and `unfinished` that it isn't exhausted.
 const VERBS: &[(&str, Verb)] = &[
     ("import", Verb::Import(Form::Words)),
     ("import-binary", Verb::Import(Form::Binary)),

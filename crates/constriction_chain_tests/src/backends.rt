@@ -14,7 +14,7 @@ use linked_list_allocator::LocalHeap;
 use std::alloc::AllocError;
 use std::test::Fail;
 
-/// A coder of bytes over a buffer of compressed words, which can seek.
+/// A coder with 8-bit words that can seek. A cursor reads its compressed words from a buffer.
 type Seekable = ChainCoder<u8, u16, Cursor<u8, Vec<u8>>, Vec<u8>, 8>;
 
 /// Decodes a symbol, seeks back, and decodes it again. Returns whether all calls return what is expected.
@@ -40,7 +40,7 @@ fn chain_seek(rt: HostRuntime) -> Result<(), Fail> {
     Ok(())
 }
 
-/// A coder of bytes with its remainders in a separate heap.
+/// A coder with 8-bit words that takes memory for its remainders from a separate heap.
 type ToHeap<'a> = ChainCoder<u8, u16, Vec<u8>, Vec<u8, &'a LocalHeap>, 8>;
 
 /// Fills the heap. Returns whether a decode finds no memory for the remainders while the heap is full.

@@ -1,9 +1,11 @@
-//! Tests of the public calls that no worked row makes, each call once.
+//! Tests of the public calls that the worked examples of `rows` don't make, each call once.
 
 use crate::coders::fine;
 use std::test::Fail;
 
-/// Checks a clone, taking a coder apart and putting it together, and exports. A refused export answers `none`.
+/// Checks that clones, coders put together from their parts, and exports have the expected heads and words.
+///
+/// A refused export answers `none`.
 #[test]
 fn calls_of_a_coder(rt: HostRuntime) -> Result<(), Fail> {
     fine(
@@ -17,7 +19,9 @@ fn calls_of_a_coder(rt: HostRuntime) -> Result<(), Fail> {
     )
 }
 
-/// Checks list calls in both orders, with one table, pairs and items, up to the first fault, and each iterator.
+/// Checks list calls: encodes in both orders, decodes with each iterator, and stops at the first failing symbol.
+///
+/// The lists have one table for all symbols, pairs of a symbol and a table, or items that may be errors.
 #[test]
 fn calls_of_lists(rt: HostRuntime) -> Result<(), Fail> {
     fine(

@@ -37,7 +37,7 @@ pub const WEIGHTS: &[u8] = &[16, 240];
 /// The weights of a table, and a script.
 pub type Part<'a, Probability> = (&'a [Probability], &'static str);
 
-/// Returns the error of a test for the first act that failed, if there is one.
+/// Turns the text of a failed act into the error of a test. Without a failed act, the test passes.
 pub fn said(failed: Option<&'static str>) -> Result<(), Fail> {
     match failed {
         Some(act) => Err(Fail::from(act)),
@@ -45,7 +45,9 @@ pub fn said(failed: Option<&'static str>) -> Result<(), Fail> {
     }
 }
 
-/// Makes a coder of no words, with no bits left over and the remainders head `number`, if these heads are valid.
+/// Makes a coder without words and without bits left over, with the remainders head `number`.
+///
+/// Returns `None` if `number` isn't in the window of a remainders head.
 pub fn empty<Word, State, const PRECISION: usize>(
     alloc: Global,
     number: State,

@@ -1,9 +1,9 @@
 //! Tests of calls over vectors with requests for memory refused, one at a time.
 //!
-//! `tests/refused-memory` runs these tests once for each request for memory that they make, and refuses it. A test then
-//! fails with the name of the call that made the request, if the call reported that there was no memory, left the coder
-//! as it must, and succeeded when it was made again. A test fails with `Memory` if the test itself made the request. If
-//! no request is refused, a test passes.
+//! `tests/refused-memory` runs these tests once for each request for memory that they make, and refuses this request. A
+//! test then checks three facts about the call that makes the request. The call reports that there is no memory, leaves
+//! the coder in the expected state, and succeeds when it is made again. If all three hold, the test fails with the
+//! call's name. If the test itself makes the request, it fails with `Memory`. If no request is refused, a test passes.
 
 use crate::changes::{Either, Tables, change_by, follow_changes};
 use crate::coders::{Coarse, Fine, Table, WEIGHTS, empty};
@@ -77,7 +77,7 @@ fn makes(alloc: Global, coder: &mut Either, tables: &Tables, (name, act): Call) 
 
 /// Makes a call and checks the coder. Returns the error of the test, or `DONE`.
 ///
-/// If memory is refused, the function makes the rest of the call. The error is then the call's name.
+/// If memory is refused, the function checks the coder, makes the rest of the call, and returns the call's name.
 fn comes_of(
     alloc: Global,
     coder: &mut Either,
@@ -107,7 +107,7 @@ fn comes_of(
     }
 }
 
-/// Makes the calls of all groups, one after another, until the error of one isn't `DONE`.
+/// Makes the calls of all groups one after another. Returns the first error of a call as the error of the test.
 fn all_go(alloc: Global, coder: &mut Either, groups: &[(Case, &[Call])]) -> Result<(), Fail> {
     let tables = Tables {
         coarse: WeightTable::new(alloc, &[5, 11])?,
@@ -127,7 +127,7 @@ fn all_go(alloc: Global, coder: &mut Either, groups: &[(Case, &[Call])]) -> Resu
 /// The calls at a precision of 8 bits.
 ///
 /// There is no room for the word that an encode of one symbol writes. A list call has room for its first symbol. A
-/// decode asks for room first. If two symbols are decoded, there is room for the first.
+/// decode asks for room before it reads. If two symbols are decoded, there is room for the first.
 const CALLS: &[(Case, &[Call])] = &[
     (
         [

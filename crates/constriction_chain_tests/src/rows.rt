@@ -1,4 +1,4 @@
-//! Tests of the worked rows.
+//! Tests of worked examples: scripts that check exact values of symbols, heads and words.
 
 use crate::changes::{Either, Tables, decrease, follow_changes};
 use crate::coders::{Coarse, Part, WEIGHTS, coarse, empty, fine, said, small, wide};
@@ -91,8 +91,8 @@ fn chain_isolation(rt: HostRuntime) -> Result<(), Fail> {
 
 /// Checks the remainders head and the remainders at each change of the precision.
 ///
-/// The number 2249 is the number 8 above the word 201. The window at 4 bits of precision has 2249, and the window at 8
-/// bits has 8. Both windows have 18.
+/// 2249 is `8 * 256 + 201`: the number 8 above the word 201. The window at 4 bits of precision contains 2249, and the
+/// window at 8 bits contains 8. Both windows contain 18.
 #[test]
 fn chain_precision_changes(rt: HostRuntime) -> Result<(), Fail> {
     let tables = Tables {

@@ -1,6 +1,7 @@
--- Bounds on the number of words of a list of steps, in whole numbers. With k = s - w - P the bits of a state beyond a
--- word and a table of P bits, a step of probability p / 2 ^ P multiplies what a coder holds by at most 2 ^ P / p times
--- (2 ^ k + 1) / 2 ^ k: its information content, and a rounding.
+-- Bounds on the number of words that a list of steps needs, as inequalities between whole numbers. k = s - w - P is the
+-- number of spare bits: a head has s bits, a word w, and a table P. A step of probability p / 2 ^ P multiplies a
+-- coder's number by at most two factors. 2 ^ P / p is the step's information content. (2 ^ k + 1) / 2 ^ k is due to
+-- rounding.
 use Rattle.std.specs.Prelude.{◌≡◌, ℕ, ◌+◌, ◌-◌, ◌*◌, ◌<◌, ◌≤◌, ◌^◌, List, [], ◌∷◌, ⊤, length}
 use Rattle.std.specs.List.{AllByRecursion}
 use Rattle.constriction_base.specs.Steps.{Step, IsStep}
@@ -8,20 +9,20 @@ use Rattle.constriction_base.specs.Tables.{AtEntry}
 use Rattle.constriction_base.specs.Models.{Item}
 use Rattle.constriction_stack.specs.Ans.{AnsState, IsPush, IsPop, exported}
 
--- The product of a number for each item.
+-- The product of the numbers f e over all items e of the list.
 abbrev pub product : {E : Type 0} → (E → ℕ) → List E → ℕ
 product f [] = 1
 product f (e ∷ es) = f e * product f es
 
--- Two to the power of the spare bits of a state.
+-- 2 ^ k, where k is the number of spare bits of the step e.
 abbrev pub spare : ℕ → ℕ → Step → ℕ
 spare w s e = 2 ^ (s - w - e.precision)
 
--- The symbol's part of the table, in units of 1 / 2 ^ k.
+-- The weight p of the step, times 2 ^ k.
 abbrev pub share : ℕ → ℕ → Step → ℕ
 share w s e = e.p * spare w s e
 
--- The whole table in these units, and 1 more for each of its numbers.
+-- The sum of all weights, 2 ^ P, times 2 ^ k + 1.
 abbrev pub rounded_whole : ℕ → ℕ → Step → ℕ
 rounded_whole w s e = 2 ^ e.precision * (spare w s e + 1)
 
@@ -37,28 +38,29 @@ IsAllowed w (Decode e) = IsStep w e
 abbrev pub AreAllowed : ℕ → List Act → Type 0
 AreAllowed w acts = AllByRecursion (IsAllowed w) acts
 
--- An encode is a push. A decode is a pop whose head isn't low afterwards, so that no data ends.
+-- An encode is a push. A decode is a pop after which the head is at least 2 ^ (s - w).
 abbrev pub Acts : ℕ → ℕ → Act → AnsState → AnsState → Type 0
 Acts w s (Encode e) old new = IsPush w s e old new
 Acts w s (Decode e) old new = IsPop w s e old new × (2 ^ (s - w) ≤ new.head)
 
--- An encode counts the symbol's part, and a decode the whole table.
+-- The factor of an act on the lower side of the bound. It is the share for an encode, and 2 ^ P * 2 ^ k for a decode.
 abbrev pub net_share : ℕ → ℕ → Act → ℕ
 net_share w s (Encode e) = share w s e
 net_share w s (Decode e) = 2 ^ e.precision * spare w s e
 
--- An encode counts the whole table, and a decode the symbol's part, both rounded.
+-- The factor of an act on the upper side of the bound. It is the rounded whole for an encode, and p * (2 ^ k + 1) for a
+-- decode.
 abbrev pub net_whole : ℕ → ℕ → Act → ℕ
 net_whole w s (Encode e) = rounded_whole w s e
 net_whole w s (Decode e) = e.p * (spare w s e + 1)
 
--- Bounds the cost of these acts from one state to another: all words of the new one but one, compared with those of the
--- old one.
+-- Bounds the words of the new state by the words of the old state and one factor for each act. One word of the new
+-- state doesn't count.
 abbrev pub IsNetBounded : ℕ → ℕ → List Act → AnsState → AnsState → Type 0
 IsNetBounded w s acts old new =
     2 ^ (w * (length (exported w new) - 1)) * product (net_share w s) acts < 2 ^ (w * length (exported w old)) * product (net_whole w s) acts
 
--- The steps are those of the items, each an entry of its symbol's table.
+-- The steps and the items correspond in order. Each step is the entry of its item's symbol in the item's table.
 abbrev pub AreEntries : {S : Type 0} → List (Item S) → List Step → Type 0
 AreEntries [] [] = ⊤
 AreEntries [] (e ∷ es) = ⊥

@@ -1,4 +1,4 @@
--- Why lists of symbols weren't coded, or didn't come back.
+-- The reasons why lists of symbols weren't encoded or decoded.
 use Rattle.std.specs.Prelude.{◌≡◌, ℕ, ◌<◌, ◌≤◌, ⊤, List, ◌∷◌, ◌++◌, Result, Ok, Err, length, drop}
 use Rattle.std.specs.List.{zip}
 use Rattle.constriction_base.specs.Steps.{Step, InTurn}
@@ -10,8 +10,9 @@ use Rattle.constriction_laws.specs.declared.errors.Stopped.TheVariants.{Refused,
 use Rattle.constriction_laws.specs.declared.errors.RoundTripError.{RoundTripError}
 use Rattle.constriction_laws.specs.declared.errors.RoundTripError.TheVariants as trip
 
--- of symbols that have a model each so many came, by the first models, and the step by the next one was refused; of any decoder.
--- Where memory was missing, some came
+-- A list of decodes, one for each model, stops early on any decoder. `Refused(e)`: the first `taken` models gave
+-- symbols, and the decode under the next model fails with e. `NoMemory`: decodes under the first models of the list
+-- gave symbols.
 abbrev pub StopsAmong : {C S M E : Type 0} → (C → Step → Result (Unit {0}) E → C → Type 0) → (C → E → C → Type 0) → ℕ → (M → List (S × ℕ × ℕ)) → List M → ℕ → C → Stopped E → C → Type 0
 StopsAmong {C} {S} {M} {E} decodes halts precision table models taken old (Refused e) new = (given : List S) × (mid : C) × (model : M) × (rest : List M)
     × (length given ≡ taken) × (taken < length models) × (drop (length given) models ≡ model ∷ rest)
@@ -24,7 +25,7 @@ StopsAmong {C} {S} {M} decodes halts precision table models taken old NoMemory n
 abbrev pub HasImpossibleItem : {S : Type 0} → List (Item S) → Type 0
 HasImpossibleItem {S} items = (before after : List (Item S)) × (item : Item S) × (items ≡ before ++ item ∷ after) × Impossible item.model.table item.symbol
 
--- why symbols didn't come back, with what is known in each case; a refusal tells nothing
+-- For each error of a round trip, the reason that holds when a call returns it. `Refused` has no reason.
 abbrev pub Reasons : Type 0 → Type 0 → Type 0 → (ℕ → Type 0) → RoundTripError → Type 0
 Reasons impossible many invalid ended trip.ImpossibleSymbol = impossible
 Reasons impossible many invalid ended trip.TooManySymbols = many
@@ -32,19 +33,21 @@ Reasons impossible many invalid ended trip.InvalidData = invalid
 Reasons impossible many invalid ended (trip.OutOfData taken) = ended taken
 Reasons impossible many invalid ended trip.Refused = ⊤
 
--- what is known of a refusal
+-- The statement `known` holds if the error is `Refused`.
 abbrev pub IfRefused : Type 0 → RoundTripError → Type 0
 IfRefused known trip.Refused = known
 IfRefused known other = ⊤
 
--- memory or a word was refused: nothing else stops the call
+-- The only possible error is `Refused`: memory or a word was refused.
 abbrev pub OnlyRefused : RoundTripError → Type 0
 OnlyRefused e = e ≡ trip.Refused
 
--- nothing stops the call but a symbol that has no entry, and a refusal
+-- The only possible errors are `Refused` and `ImpossibleSymbol`. If the error is `ImpossibleSymbol`, the statement
+-- `impossible` holds.
 abbrev pub UnlessImpossible : Type 0 → RoundTripError → Type 0
 UnlessImpossible impossible e = Reasons impossible ⊥ ⊥ (λ taken. ⊥) e
 
--- nothing stops the call but words that hold no such list, and a refusal
+-- The only possible errors are `Refused` and `InvalidData`. If the error is `InvalidData`, the statement `invalid`
+-- holds.
 abbrev pub UnlessInvalid : Type 0 → RoundTripError → Type 0
 UnlessInvalid invalid e = Reasons ⊥ ⊥ invalid (λ taken. ⊥) e

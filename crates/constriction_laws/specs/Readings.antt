@@ -1,18 +1,19 @@
--- A function that tells the words of a backend or of an iterator.
+-- Functions that list the words of a backend or of an iterator.
 use Rattle.std.specs.Prelude.{◌≡◌, List, [], ◌∷◌, Bool, Option, None, Some, Result, Ok, Err, cond}
 use Rattle.constriction_base.specs.Backends.{Reads}
 
--- The function tells the words of each state of a backend: each read takes the first of them.
+-- The function lists the words of each state of a backend: each read takes the first word of the list.
 abbrev pub TellsWords : {W E B : Type 0} → (B → Result (Option W) E → B → Type 0) → (B → List W) → Type 0
 TellsWords {W} {E} {B} reads words = (old new : B) (answer : Result (Option W) E) → reads old answer new → Reads (words old) answer (words new)
 
--- The next item of an iterator over a list: its first word, the end, or an error, which leaves the list.
+-- The next item of an iterator over a list of words: the first word, the end of an empty list, or an error. An error
+-- leaves the list unchanged.
 abbrev pub GivesWord : {W E : Type 0} → List W → Option (Result W E) → List W → Type 0
 GivesWord old None new = old ≡ []
 GivesWord old (Some (Ok word)) new = old ≡ word ∷ new
 GivesWord old (Some (Err e)) new = new ≡ old
 
--- The function tells the words that each state of an iterator gives.
+-- The function lists the words that each state of an iterator will return.
 abbrev pub TellsItems : {I W E : Type 0} → (I → Option (Result W E) → I → Type 0) → (I → List W) → Type 0
 TellsItems {I} {W} {E} steps words = (old new : I) (item : Option (Result W E)) → steps old item new → GivesWord (words old) item (words new)
 

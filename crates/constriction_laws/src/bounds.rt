@@ -29,9 +29,9 @@ pub fn stack_bound()
 
 /// Bounds the number of words that a stack coder exports, if all symbols have the same precision.
 ///
-/// The coder started empty and encoded `steps`. The spare bits `k` are the same in all steps. If the coder exports `N`
-/// words for `n` symbols, then `w * (N - 1)` is at most the sum of three terms: `s - w`, the information content of all
-/// symbols in bits, and `n * log2(1 + 2^-k)`.
+/// The coder started empty and encoded `steps`. The spare bits `k` are the same in all steps. Suppose that the coder
+/// exports `N` words for `n` symbols. Then `w * (N - 1)` is at most the sum of three terms: `s - w`, the information
+/// content of all symbols in bits, and `n * log2(1 + 2^-k)`.
 pub fn stack_bound_at_one_precision()
     ensures { (w s precision : ℕ) (steps : List Step) (state : AnsState) → IsSizes w s → AreSteps w steps →
         AllByRecursion (λ e. e.precision ≡ precision) steps → InTurn (IsPush w s) steps empty state →

@@ -20,7 +20,7 @@ fn put_in(alloc: Global, tables: &[Table; 2]) -> bool {
     }
 }
 
-/// Decodes the word 16. Returns whether the symbols are the same, and the decoder may be exhausted.
+/// Decodes the word 16. Returns whether the symbols equal `SYMBOLS`, and the decoder may be exhausted.
 fn from_words(alloc: Global, tables: &[Table; 2]) -> bool {
     let Some(words) = words_of(alloc, &[16]) else {
         return false;
@@ -31,7 +31,7 @@ fn from_words(alloc: Global, tables: &[Table; 2]) -> bool {
     }
 }
 
-/// Decodes the word 16 from the position of a new encoder. Returns whether the symbols are the same.
+/// Decodes the word 16 from the position of a new encoder. Returns whether the symbols equal `SYMBOLS`.
 fn from_position(alloc: Global, tables: &[Table; 2]) -> bool {
     let Some(words) = words_of(alloc, &[16]) else {
         return false;
@@ -52,7 +52,7 @@ fn from_lent_words(alloc: Global, tables: &[Table; 2]) -> bool {
     }
 }
 
-/// Decodes the word 16 with a switch. Returns whether the symbols are the same. The symbol 1 is the flag.
+/// Decodes the word 16 with a switch. Returns whether the symbols equal `SYMBOLS`. The symbol 1 is the flag.
 fn from_a_switch(alloc: Global, tables: &[Table; 2]) -> bool {
     let decoder = match RangeDecoder::<u8, u16, Cursor<u8, &[u8]>>::from_compressed([
         16u8,

@@ -68,7 +68,7 @@ fn from_lent_words(alloc: Global, tables: &[Table; 2]) -> bool {
     }
 }
 
-/// Decodes from the position with the head 16 and no words below it. Returns whether the symbols are the same.
+/// Decodes from the position with the head 16 and no words. Returns whether the symbols equal `SYMBOLS`.
 fn at_position(alloc: Global, tables: &[Table; 2]) -> bool {
     let coder = Small::new(alloc);
     match pairs_at_position::<u8, u16, _, 8>(alloc, &coder, (0, 16), tables) {

@@ -55,12 +55,12 @@ impl<
     ///
     /// After each error the heads are unchanged, and the remainders have at least as much room as before the call.
     ///
-    /// - `Frontend(OutOfCompressedData)` if a compressed word is needed and none is left. The only change is that the
-    ///   remainders granted room for one word.
+    /// - `Frontend(OutOfCompressedData)` if a compressed word is needed and none is left. If `is_list` of the
+    ///   compressed backend holds, the state is unchanged.
     /// - `Backend(Compressed(error))` if a compressed word is needed and its read fails with this error. If `is_list`
     ///   of the compressed backend holds, the compressed words are unchanged.
-    /// - `Backend(Remainders(error))` if a compressed word is needed and the remainders refuse room for one word.
-    ///   Nothing changed.
+    /// - `Backend(Remainders(error))` if a compressed word is needed and the remainders refuse room for one word. The
+    ///   state is unchanged.
     /// - `Backend(Remainders(error))` if the remainders refuse to write a word. The compressed backend has lost at most
     ///   one word. It has lost none if `makes_room` of the remainders' backend holds.
     #[inline(always)]
@@ -153,12 +153,12 @@ impl<
     /// call.
     ///
     /// - `Frontend(ImpossibleSymbol)` exactly if the symbol is impossible under the model. The coder is unchanged.
-    /// - `Frontend(OutOfRemainders)` if a word of the remainders is needed and none is left. The only change is the
-    ///   room that the compressed backend granted.
+    /// - `Frontend(OutOfRemainders)` if a word of the remainders is needed and none is left. If `is_list` of the
+    ///   remainders' backend holds, the state is unchanged.
     /// - `Backend(Remainders(error))` if a word of the remainders is needed and its read fails with this error. If
     ///   `is_list` of the remainders' backend holds, the remainders are unchanged.
-    /// - `Backend(Compressed(error))` if a word has to be written and the compressed backend refuses room for it.
-    ///   Nothing changed.
+    /// - `Backend(Compressed(error))` if a word has to be written and the compressed backend refuses room for it. The
+    ///   state is unchanged.
     /// - `Backend(Compressed(error))` if the compressed backend refuses to write that word, which happens only if
     ///   `makes_room` of that backend doesn't hold. The remainders have lost at most one word.
     #[inline(always)]

@@ -1,4 +1,4 @@
--- Symbols, each under its own model, as decodes.
+-- Decoded symbols with the tables and the precision of their models.
 use Rattle.std.specs.Prelude.{ℕ, List, map}
 use Rattle.std.specs.List.{zip}
 use Rattle.constriction_chain.specs.Runs.{Decoding}

@@ -1,4 +1,4 @@
--- One encode or decode of the chain coder is undone, as the laws of lists require.
+-- Proofs that one encode and one decode of the chain coder undo each other, as the trait `StepsUndo` requires.
 use Rattle.std.proofs.Common.{ℕ, ◌≤◌, ◌^◌, arith, sym, subst}
 use Rattle.constriction_base.specs.Models.{Model}
 use Rattle.constriction_base.specs.Steps.{Step}
@@ -8,7 +8,7 @@ use Rattle.constriction_chain.specs.Symbols.{TakesOff, PutsBack, IsModelAt}
 use Rattle.constriction_chain.proofs.Chains.{decode_from}
 use Rattle.constriction_chain.proofs.Validity.{decoded_chain}
 
--- The sizes of a coder: words of w bits, numbers of s bits, and a precision.
+-- The sizes of a coder: words of w bits, remainders heads of s bits, and a precision of P bits.
 pub record Sizes : Type 0 where
   pub w : ℕ
   pub s : ℕ
@@ -20,7 +20,7 @@ pub decode_back : {S : Type 0} (w s : ℕ) (model : Model S) (symbol : S) (old n
     → PutsBack w s model symbol old new → TakesOff w s model symbol new old
 decode_back w s model symbol old new i = (i.0, i.1, i.2, i.3.back)
 
--- An encode undoes a decode from a state of a coder.
+-- An encode undoes a decode from a valid state.
 pub encode_back : {S : Type 0} (w s P : ℕ) (model : Model S) (symbol : S) (old new : ChainState) → IsSized w s P → IsModelAt P model
     → IsChain w s P old → TakesOff w s model symbol old new → PutsBack w s model symbol new old
 encode_back w s P model symbol old new sized at chain (left, p, has, d) =
@@ -29,7 +29,7 @@ encode_back w s P model symbol old new sized at chain (left, p, has, d) =
     let sizes : IsSized w s model.precision = subst (λ n. IsSized w s n) (sym at.level) sized in
     (left, p, has, record { chain = here; back = d; only = λ other ok i. decode_from w s e sizes.within_word new other old ok here i d })
 
--- A decode leads from a state of a coder to another.
+-- A decode from a valid state leads to a valid state.
 pub decoded_at : {S : Type 0} (w s P : ℕ) (model : Model S) (symbol : S) (old new : ChainState) → IsSized w s P → IsModelAt P model
     → IsChain w s P old → TakesOff w s model symbol old new → IsChain w s P new
 decoded_at w s P model symbol old new sized at chain (left, p, has, d) =

@@ -5,7 +5,7 @@ use Rattle.constriction_queue.specs.Range.{Run, initial}
 use Rattle.constriction_queue.specs.SelfDelimiting.{SelfDelimits}
 use Rattle.constriction_queue.specs.Symbols.{NarrowsAll, FindsAll}
 
--- The words are those of a new encoder after the items, sealed so that any words may follow.
+-- A new encoder encodes the items and seals them as these words, which any words may follow.
 abbrev pub DelimitsItems : {S : Type 0} → ℕ → ℕ → List (Item S) → List ℕ → Type 0
 DelimitsItems w s items words = (last : Run) × NarrowsAll w s items (initial s) last × SelfDelimits w s last words
 

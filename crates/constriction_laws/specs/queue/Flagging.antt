@@ -1,4 +1,4 @@
--- Symbols that a switch gives, before its flag or behind it, and where it stops.
+-- Symbols that a switch returns before and after its flag, and the reasons why it stops.
 use Rattle.std.specs.Prelude.{◌≡◌, ◌≤◌, ◌<◌, ◌||◌, ℕ, Bool, List, Ok, Err, length, if◌then◌else◌}
 use Rattle.constriction_base.specs.Models.{Model, Item, items_of}
 use Rattle.constriction_base.specs.Steps.{InTurn}
@@ -13,25 +13,26 @@ use Rattle.constriction_laws.specs.declared.errors.Stopped.{Stopped}
 use Rattle.constriction_laws.specs.declared.errors.Stopped.TheVariants as stopped
 use Rattle.constriction_laws.specs.queue.Outcomes.{ReadTo}
 
--- the symbols, each under its model, from a switch on whose flag has come or hasn't
+-- The symbols, each with its model. If `switched` is true, all models are `second`. Otherwise the models are `first` up
+-- to and including the flag, and then `second`.
 abbrev pub flagged_behind : Bool → ℕ → Model ℕ → Model ℕ → List ℕ → List (Item ℕ)
 flagged_behind switched flag first second symbols = if switched then items_of second symbols else flagged flag first second symbols
 
 module _ {W B E Q : Type 0} (number : W → ℕ) (holds : holding.Ghosts B W Q) (reads : reading.Ghosts B W Q E) (w s : ℕ) (first second : Model ℕ) where
-  -- a switch gave these symbols, so many at most
+  -- A switch returns the symbols `given`, which are at most `amt` symbols.
   pub record GivesFlagged (amt : ℕ) (old : Switch B) (given : List ℕ) (mid : Decoder B) (new : Switch B) : Type 0 where
     pub most : length given ≤ amt
-    -- by decodes that lead to this decoder, each under the model that the switch stands at or the flag led to
+    -- The decodes lead to the decoder `mid`. Each decode uses the model that applies at its symbol.
     pub taken : InTurn (λ item before after. DecodesUnder number holds reads w s item.model before (Ok item.symbol) after)
         (flagged_behind old.switched old.flag first second given) old.decoder mid
-    -- and it has switched just where the flag is among them, or it had
+    -- The switch has switched exactly if it had switched before, or the flag is among the symbols.
     pub switched : new.switched ≡ (old.switched || has_flag old.flag given)
-    -- over a backend that knows its words they are read up to where the decoder stands
+    -- If the backend's `is_list` holds, the symbols are decoded from the words up to the decoder's position.
     pub read : holds.is_list → (words : List ℕ) (from : Run) → StandsAt w s words from old.decoder
         → ReadTo w s words (flagged_behind old.switched old.flag first second given) from new.decoder
 
-  -- why it gave no more than these: there are fewer than were asked for, and the decode of the next one answered this error; or
-  -- memory was missing
+  -- The reason why the switch stops. `Refused(e)`: it has returned fewer than `amt` symbols, and the next decode fails
+  -- with e. `NoMemory`: there is no memory for the symbols, and the decoder stays at `mid`.
   abbrev pub StopsFlagged : ℕ → List ℕ → Decoder B → Stopped (CoderError DecoderFrontendError E) → Switch B → Type 0
   StopsFlagged amt given mid (stopped.Refused e) new =
       (length given < amt) × DecodesUnder number holds reads w s (next_model new.switched first second) mid (Err e) new.decoder

@@ -1,4 +1,4 @@
--- The errors of encoding and decoding symbols with range coders, and what a decoder says of the end.
+-- The errors of encoding and decoding symbols with range coders, and the answers of a decoder's test for the end.
 use Rattle.std.specs.Prelude.{◌≡◌, ◌<◌, ℕ, ⊤, List, Bool, IsTrue, length}
 use Rattle.constriction_base.specs.Models.{Item}
 use Rattle.constriction_base.specs.declared.errors.CoderError.{CoderError}
@@ -14,41 +14,43 @@ use Rattle.constriction_laws.specs.declared.queue.concatenated.DecodeError.{Deco
 use Rattle.constriction_laws.specs.declared.queue.concatenated.DecodeError.TheVariants.{NoSuchPlace, InvalidData}
 use Rattle.constriction_queue.specs.Symbols.{NarrowsAll, FindsAll, MayEnd, NearsEnd}
 
--- The symbols weren't encoded: one has no entry, or there are more than the encoder counts.
+-- The reason why symbols weren't encoded: one has no entry, or there are more symbols than the encoder can count.
 abbrev pub NotCoded : Type 0 → Type 0 → RoundTripError → Type 0
 NotCoded impossible many e = Reasons impossible many ⊥ (λ taken. ⊥) e
 
--- The symbols weren't decoded: the words hold no such symbols.
+-- The reason why symbols weren't decoded: the words don't encode symbols of these models.
 abbrev pub NotRead : Type 0 → RoundTripError → Type 0
 NotRead none e = Reasons ⊥ ⊥ none (λ taken. ⊥) e
 
--- The items are decoded from these words, from a run on, and a decoder stands behind them.
+-- The items are decoded from these words, starting at the interval `old`. The decoder `new` is positioned after them.
 abbrev pub ReadTo : {S B : Type 0} → ℕ → ℕ → List ℕ → List (Item S) → Run → Decoder B → Type 0
 ReadTo w s words items old new = (last : Run) × FindsAll w s words items old last × StandsAt w s words last new
 
--- No such list of `amt` symbols is decoded from these words, from this run on.
+-- No list of `amt` symbols is decoded from these words, starting at the interval `old`. The function `items` gives each
+-- symbol its model.
 abbrev pub HoldNone : {S : Type 0} → ℕ → ℕ → List ℕ → (List S → List (Item S)) → ℕ → Run → Type 0
 HoldNone {S} w s words items amt old = (symbols : List S) (last : Run) → length symbols ≡ amt → FindsAll w s words (items symbols) old last → ⊥
 
--- A decoder over a backend that knows its words decodes no such list, from where it stands.
+-- If the backend's `is_list` holds, no list of `amt` symbols is decoded from the decoder's position on.
 abbrev pub GivesNone : {S B : Type 0} → Type 0 → ℕ → ℕ → (List S → List (Item S)) → ℕ → Decoder B → Type 0
 GivesNone is_list w s items amt decoder = is_list → (words : List ℕ) (old : Run) → StandsAt w s words old decoder → HoldNone w s words items amt old
 
--- The words are the sealed words of the items, behind those of a run.
+-- Encoding the items from the interval `old` and sealing gives these words.
 abbrev pub SealsAll : {S : Type 0} → ℕ → ℕ → List (Item S) → Run → List ℕ → Type 0
 SealsAll w s items old words = (last : Run) × NarrowsAll w s items old last × (words ≡ sealed w s last)
 
--- A new decoder of the words decodes these items, and then says whether the words may have ended.
+-- A new decoder of the words decodes these items, and then returns `ended`. The result is true if `MayEnd` holds, and
+-- false if `NearsEnd` doesn't hold.
 abbrev pub ReadsToEnd : {S : Type 0} → ℕ → ℕ → List ℕ → List (Item S) → Bool → Type 0
 ReadsToEnd w s words items ended =
     (last : Run) × FindsAll w s words items (initial s) last × (MayEnd w s words last → IsTrue ended) × (IsTrue ended → NearsEnd w s words last)
 
--- The words lie within the run of the items.
+-- The words lie within the interval to which encoding the items leads.
 abbrev pub LieWithin : {S : Type 0} → ℕ → ℕ → List ℕ → List (Item S) → Type 0
 LieWithin w s words items = (last : Run) × NarrowsAll w s items (initial s) last × Within w s words last
 
--- Decoding `amt` symbols from a position fails with this error. `InvalidData` says that the words hold none from any
--- run at that position.
+-- Decoding `amt` symbols from a position fails with this error. `NoSuchPlace`: the words end before the position.
+-- `InvalidData`: the words encode no `amt` symbols from any interval at the position.
 abbrev pub NoneAt : {S : Type 0} → ℕ → ℕ → List ℕ → (List S → List (Item S)) → ℕ → ℕ → ℕ → ℕ → DecodeError → Type 0
 NoneAt w s words items amt place lower range NoSuchPlace = length words < place
 NoneAt w s words items amt place lower range InvalidData = (there : Run) → IsPosition s there place lower range → HoldNone w s words items amt there

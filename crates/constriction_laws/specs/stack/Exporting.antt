@@ -1,4 +1,4 @@
--- The words that a stack coder exports after encodes, and the positions recorded between encodes.
+-- The words that a stack coder exports after encodes, and states without a binary form.
 use Rattle.std.specs.Prelude.{◌≡◌, ℕ, List}
 use Rattle.constriction_base.specs.Models.{Item}
 use Rattle.constriction_base.specs.Steps.{AreWords}
@@ -11,7 +11,7 @@ use Rattle.constriction_stack.specs.Symbols.{EncodesAll, DecodesAll}
 abbrev pub ExportsAll : {S : Type 0} → ℕ → ℕ → List (Item S) → AnsState → List ℕ → Type 0
 ExportsAll w s items old words = (state : AnsState) × EncodesAll w s items old state × (words ≡ exported w state)
 
--- No words in binary form stand for a state from which decodes of the items lead to this one.
+-- No import of words in binary form leads to a state from which decodes of the items lead to the state `new`.
 abbrev pub ComesFromNoWords : {S : Type 0} → ℕ → ℕ → List (Item S) → AnsState → Type 0
 ComesFromNoWords w s items new = (words : List ℕ) → AreWords w words → DecodesAll w s items (binary_state w s words) new → ⊥
 

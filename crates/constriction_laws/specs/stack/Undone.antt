@@ -1,4 +1,4 @@
--- One encode or decode of the stack coder is undone, as the laws of lists require.
+-- Proofs that one encode and one decode of the stack coder undo each other, as the trait `StepsUndo` requires.
 use Rattle.std.proofs.Common.{ℕ, sym, arith}
 use Rattle.constriction_base.specs.Steps.{IsSizes}
 use Rattle.constriction_stack.specs.Ans.{AnsState, IsValid}

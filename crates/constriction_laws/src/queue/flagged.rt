@@ -22,8 +22,8 @@ use std::alloc::Global;
 
 /// Words determine a list of symbols with a flag among them, if the number of symbols is given.
 ///
-/// The decoder starts from the run `old`. It uses the model `first` up to and including the flag, and then `second`.
-/// The words also determine the run after the list.
+/// The decoder starts from the interval `old`. It uses the model `first` up to and including the flag, and then
+/// `second`. The words also determine the interval after the list.
 pub fn one_list_of_flagged_symbols()
     ensures { (w s flag : ℕ) (first second : Model ℕ) (words symbols others : List ℕ) (old new last : Run) →
         IsModel w first → IsModel w second → length others ≡ length symbols →

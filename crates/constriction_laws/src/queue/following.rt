@@ -9,10 +9,10 @@ ghost use Rattle.constriction_queue.specs.Symbols.{NarrowsAll, FindsAll, MayEnd}
 
 use crate::queue::lists::decodes_undo_encodes;
 
-/// A run has only one list of self-delimiting words.
+/// An encoder's interval has only one list of self-delimiting words.
 ///
-/// If `State` is two words wide, the list equals the sealed words. A decoder of the list may be exhausted after the
-/// run's last symbol. Both facts are about encoders that start from the initial interval.
+/// If `State` is two words wide, the list equals the sealed words. After it decodes the last encoded symbol from the
+/// list, a decoder may be exhausted. Both facts are about encoders that start from the initial interval.
 pub fn self_delimiting_words<Symbol>()
     ensures one { (w s : ℕ) (last : Run) (words others : List ℕ) → SelfDelimits w s last words →
         SelfDelimits w s last others → others ≡ words }

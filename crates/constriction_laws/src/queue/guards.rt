@@ -1,13 +1,13 @@
 //! The drop of a guard restores the encoder.
 //!
-//! The clause `shows` of `RangeEncoder::get_compressed` says that a guard lends the words of the export. The law here
-//! has the clauses `heads` and `back` of that call as premises: the guard's encoder holds the words of the seal above
-//! the words of the encoder, and has the same heads.
+//! The clause `shows` of `RangeEncoder::get_compressed` says that a guard lends the words of the export. The premises
+//! of the law here are the clauses `heads` and `back` of that call. They say that the guard's encoder has the same
+//! heads, and holds the words of the seal above the encoder's words.
 
 ghost use Rattle.std.specs.Prelude.{◌≡◌, ℕ, drop};
 ghost use Rattle.constriction_queue.specs.Encoder.{Encoder, HasHeads, Without, run_by, sealed_by};
 
-/// Removing the words that a guard wrote restores the encoder's run and its exported words.
+/// Removing the words that a guard wrote restores the encoder's interval and the words that it would export.
 pub fn shown_words_go<Backend>()
     ensures run { (w s count : ℕ) (encoder shown left : Encoder Backend) → HasHeads encoder shown →
         drop count shown.words ≡ encoder.words → Without count shown left →

@@ -3,8 +3,9 @@
 //! Each symbol has its own table, with any allowed precision. The laws follow from the laws of one step by
 //! [`lists_undo`]. The steps of that law take encodes back, from the last to the first.
 //!
-//! Words lie within a run if their number lies in the run's interval. The digits of this number are the first
-//! `n + s / w` words, where `n` is the run's count of moves. Digits past the last word are 0.
+//! An interval (`Run`) has a lower end in unbounded numbers and a range. It also counts the encoder's moves `n`: how
+//! many words the encoder has moved out. Words lie within an interval if their number lies in it. This number has the
+//! first `n+s/w` words as digits. Digits past the last word are 0.
 
 ghost use Rattle.std.specs.Prelude.{◌≡◌, ◌↔◌, ◌∷◌, ℕ, List};
 ghost use Rattle.constriction_base.specs.Models.{Item, IsModel, models, AreModels, AreKnown};
@@ -39,7 +40,7 @@ impl<Symbol> StepsUndo for Encoding<Symbol> {
     ghost one_undone = { λ g item new old allowed valid does. read_back g item new old allowed valid does };
 }
 
-/// Encoding symbols that have entries in their tables leads from any run to exactly one run.
+/// Encoding symbols that have entries in their tables leads from any interval to exactly one interval.
 pub fn one_list_of_encodes<Symbol>()
     ensures exists { (w s : ℕ) (items : List (Item Symbol)) (old : Run) → AreKnown items →
         (new : Run) × NarrowsAll w s items old new }
@@ -50,7 +51,7 @@ pub fn one_list_of_encodes<Symbol>()
         NarrowsAll w s items old new → IsInterval w s new }
 {}
 
-/// If words lie within the encoder's run after the last encode, decoding them returns exactly the encoded symbols.
+/// If words lie within the encoder's interval after the last encode, decoding them returns exactly the encoded symbols.
 pub fn decodes_undo_encodes<Symbol>()
     ensures back { (w s : ℕ) (words : List ℕ) (items : List (Item Symbol)) (old new : Run) → IsSizes w s →
         AreWords w words → AreModels w items → IsInterval w s old →
@@ -67,7 +68,7 @@ pub fn decodes_undo_encodes<Symbol>()
     lists_undo::<Encoding<Symbol>>()
 }
 
-/// Words decode to a nonempty list of symbols exactly if they lie within the run to which encoding the list leads.
+/// Words decode to a nonempty list of symbols exactly if they lie within the interval to which encoding it leads.
 ///
 /// The encoder and the decoder start from the initial interval.
 pub fn symbols_of_any_words<Symbol>()
@@ -83,7 +84,7 @@ pub fn symbols_of_any_words<Symbol>()
 ///
 /// Start from the initial interval, encode any symbols, each under its own table, and seal. Decode the sealed words,
 /// with no words after them, with the same tables in the same order. The decoder returns the same symbols and ends at
-/// the encoder's run, where it may be exhausted.
+/// the encoder's interval, where it may be exhausted.
 pub fn symbols_come_back<Symbol>()
     ensures decoded { (w s : ℕ) (items : List (Item Symbol)) (last : Run) → IsSizes w s → AreModels w items →
         NarrowsAll w s items (initial s) last → FindsAll w s (sealed w s last) items (initial s) last }

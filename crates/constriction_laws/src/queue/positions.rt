@@ -1,4 +1,4 @@
-//! Positions of the range coder. Seeking to a position leads a decoder to the run at which the position was recorded.
+//! Positions of the range coder. Seeking to a position leads a decoder to the interval at which it was recorded.
 //!
 //! A position is the number of words written and held, and the interval. It stays usable in all words that the encoder
 //! exports later, whatever symbols it encodes in between. This holds even if a carry changes the held words.
@@ -16,7 +16,7 @@ use constriction_base::backends::{Holds, WriteWords};
 use constriction_queue::RangeEncoder;
 use constriction_words::{BitArray, WordOf};
 
-/// Seeking to the position of a run leads a decoder to that run.
+/// Seeking to the recorded position of an interval leads a decoder to that interval.
 ///
 /// The decoder reads the `s / w` words from the position on, with zeros past the last word. Read as one number, these
 /// words are its point.
@@ -48,7 +48,7 @@ pub fn symbols_after_a_position<Symbol>()
     decodes_undo_encodes::<Symbol>()
 }
 
-/// Proves that the lower end and the range of any encoder are an interval, whatever words were written before.
+/// Proves that the lower end and the range of any encoder form a valid interval, whatever words it has written.
 ///
 /// So the clause `anywhere` of [`symbols_after_a_position`] covers each position of the encoder: decoding from the
 /// position returns the symbols encoded since then.

@@ -8,7 +8,9 @@ ghost use Rattle.constriction_queue.specs.Calls.{IsRefused};
 use constriction_base::backends::{Holds, WriteWords};
 use constriction_words::{BitArray, WordOf};
 
-/// A backend with room for the words held and one more word refuses no step. An example is a long enough cursor.
+/// If a backend has room for the words held and one more word, it refuses no step of the encoder.
+///
+/// The words held are the words that a carry may still change. A long enough cursor is an example of this backend.
 pub fn room_is_enough<Word: WordOf<State>, State: BitArray, Backend: WriteWords<Word>>()
     ensures { (old : Encoder Backend) (step : Step) (e : Backend.WriteError) (new : Encoder Backend) →
         length old.held + 1 ≤ Backend.room old.bulk →

@@ -1,7 +1,7 @@
 //! A guard lends the words of the export, and the guard's drop restores the coder.
 //!
-//! The premise of each law is the clause `shows` of the call that makes a guard: the guard's coder holds the words of
-//! the export below the head.
+//! The premise of each law is the clause `shows` of the call that makes a guard. The clause says that the guard's coder
+//! holds the words of the export below the head.
 
 ghost use Rattle.std.specs.Prelude.{◌≡◌, ℕ};
 ghost use Rattle.constriction_base.specs.Digits.{count_of_words};

@@ -1,4 +1,5 @@
-//! List calls of the range coder. Their contracts describe the runs to which they lead, in the definitions of the laws.
+//! List calls of the range coder. Their contracts relate the intervals before and after, in the definitions of the
+//! laws.
 
 ghost use Rattle.std.specs.Prelude.{◌≡◌, ◌↔◌, ◌+◌, ◌<◌, ◌≤◌, ℕ, List, length, IfOk, IfErr, IsTrue};
 ghost use Rattle.constriction_base.specs.Models.{pairs_of};
@@ -22,7 +23,7 @@ use std::alloc::Global;
 
 /// Encodes symbols in order, each with its own model.
 ///
-/// Each symbol in order narrows the run of the encoder.
+/// Each symbol in order narrows the interval of the encoder.
 ///
 /// # Errors
 ///
@@ -63,7 +64,7 @@ where
 
 /// Decodes one symbol for each model.
 ///
-/// Each symbol in order narrows the run of the decoder. If the words encode one symbol with each model, the call
+/// Each symbol in order narrows the interval of the decoder. If the words encode one symbol with each model, the call
 /// returns these symbols in order.
 ///
 /// # Errors
@@ -106,7 +107,7 @@ where
 
 /// Returns whether the words may have ended at the decoder's position. Calls `maybe_exhausted`.
 ///
-/// Sealed words may end after the last symbol of their run.
+/// The call returns `true` after the last symbol of sealed words is decoded.
 pub fn has_ended<
     Word: WordOf<State>,
     State: BitArray,
