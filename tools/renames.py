@@ -6,9 +6,9 @@ import re
 
 from items import words_of
 from repository import read
+from sources import USE
 
 WORD = r"(?<![\w'-]){}(?![\w'-])"
-USE = re.compile(r"^ *(?:pub |ghost )*use ([^;{\n]*)(\{[^}]*)?", re.MULTILINE)
 NAME = r"[\w'-]+"
 
 
@@ -39,23 +39,15 @@ class Renames:
             raise ValueError(f"renamed: '{' '.join(words)}' is not a name and its new name")
         return words
 
-    def names(self):
-        return [*self.new.items(), *(pair for names in self.within.values() for pair in names.items())]
-
     def refuse_taken(self, texts, defined, revision):
         """Fails where a new name was defined at that commit already, or where a text, by its file's name, had both names."""
-        for old, new in self.new.items():
-            both = next((file for file in sorted(texts) if {old, new} <= words_of(texts[file])), None)
-            self.refuse(old, new, revision if new in defined else "", f"{both} has both names at {revision}" if both else "")
+        taken = [(*pair, f"{revision} has a definition {pair[1]} already") for pair in self.new.items() if pair[1] in defined]
         for file in sorted(texts):
-            both = next((pair for pair in self.meant_in(file, texts[file]).items() if pair[1] in words_of(texts[file])), None)
-            if both:
-                self.refuse(*both, "", f"{file} has both names at {revision}")
-
-    def refuse(self, old, new, defined, both):
-        taken = f"{defined} has a definition {new} already" if defined else both
+            words, meant = words_of(texts[file]), {**self.new, **self.meant_in(file, texts[file])}
+            taken += [(*pair, f"{file} has both names at {revision}") for pair in meant.items() if words.issuperset(pair)]
         if taken:
-            raise ValueError(f"renamed: '{old} {new}', but {taken}: what was said of the two can't be told apart")
+            old, new, why = taken[0]
+            raise ValueError(f"renamed: '{old} {new}', but {why}: what was said of the two can't be told apart")
 
     def meant_in(self, file, text):
         """Returns the names that a text means by the modules that it uses, or is, with their new names."""
