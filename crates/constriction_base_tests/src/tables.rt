@@ -8,7 +8,7 @@ use constriction_words::BitArray;
 use std::alloc::{AllocError, Global};
 use std::test::Fail;
 
-/// Returns whether `quantile` lies in the interval `expected`: a symbol, the interval's start and its length.
+/// Returns whether `table` maps `quantile` to `expected`: a symbol, its interval's start and its interval's length.
 pub fn finds<Probability: BitArray + PartialEq, const PRECISION: usize>(
     table: &WeightTable<Probability, PRECISION>,
     quantile: Probability,

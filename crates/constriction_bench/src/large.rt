@@ -96,9 +96,9 @@ pub extern "C" fn constriction_bench_ans_reload_u32u64p24(
     reload_out::<u32, u64>(alloc, words, out)
 }
 
-/// Copies `words` to a new vector and from there to `out`, as the import and the export do, but without a coder.
+/// Copies `words` to a new vector, as an import does, and from there to `out`, as an export does. Uses no coder.
 ///
-/// Copies the words to `out`, as many as fit. Returns the total number of words, or 0 after a failure.
+/// `out` receives as many words as fit. Returns the total number of words, or 0 after a failure.
 #[unsafe(no_mangle)]
 pub extern "C" fn constriction_bench_copy_u32u64p24(
     alloc: Global,

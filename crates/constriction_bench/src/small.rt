@@ -97,9 +97,9 @@ pub extern "C" fn constriction_bench_ans_reload_u16u32p12(
     reload_out::<u16, u32>(alloc, words, out)
 }
 
-/// Copies `words` to a new vector and from there to `out`, as the import and the export do, but without a coder.
+/// Copies `words` to a new vector, as an import does, and from there to `out`, as an export does. Uses no coder.
 ///
-/// Copies the words to `out`, as many as fit. Returns the total number of words, or 0 after a failure.
+/// `out` receives as many words as fit. Returns the total number of words, or 0 after a failure.
 #[unsafe(no_mangle)]
 pub extern "C" fn constriction_bench_copy_u16u32p12(
     alloc: Global,

@@ -65,7 +65,7 @@ where
 
 /// Runs the scripts of `parts` with the coder `found`, each script with its own table.
 ///
-/// Returns the first act that failed, or another reason why the run stopped.
+/// Returns `None` if all acts succeed. Otherwise returns the first act that failed, or why the run stopped early.
 pub fn go<Word, State, Probability, const PRECISION: usize>(
     alloc: Global,
     found: Option<Whole<Word, State, PRECISION>>,

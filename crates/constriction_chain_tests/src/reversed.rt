@@ -18,10 +18,11 @@ fn item_of<'a, M>(
     }
 }
 
-/// Encodes symbols from last to first, with the call that `act` names. Returns the answer.
+/// Encodes symbols from last to first, with the call that `act` names. Returns the call's answer.
 ///
-/// `back` encodes a list with one table, `pairs-back` two pairs, and `items-back` two items. The first item may be
-/// `bad7`.
+/// - `back` encodes a list of symbols with one table.
+/// - `pairs-back` encodes two pairs of a symbol and its table.
+/// - `items-back` encodes two pairs as `Result`s. If the script gives `bad7` first, the first `Result` is `Err(7)`.
 pub fn back_by<Word, State, Probability, const PRECISION: usize>(
     coder: &mut Whole<Word, State, PRECISION>,
     table: &WeightTable<Probability, PRECISION>,

@@ -31,7 +31,7 @@ fn from_words(alloc: Global, tables: &[Table; 2]) -> bool {
     }
 }
 
-/// Decodes the word 16 from the position of a new encoder. Returns whether the symbols equal `SYMBOLS`.
+/// Decodes the single word `16`, starting at a new encoder's position. Returns whether the symbols equal `SYMBOLS`.
 fn from_position(alloc: Global, tables: &[Table; 2]) -> bool {
     let Some(words) = words_of(alloc, &[16]) else {
         return false;

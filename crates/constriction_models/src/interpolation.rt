@@ -28,10 +28,10 @@ fn far_above(wide: u64, middle: i64, place: i64) -> i128
     place as i128 - middle as i128 + (wide / 2) as i128
 }
 
-/// Returns the value at `place` of a table of width `wide` around `middle`.
+/// Returns the value that a table of width `wide` around `middle` gives at `place`.
 ///
-/// `wide`, `middle` and `place` are in units of `2^-16`. A distance times `rate`, divided by `2^36`, is in 65536ths of
-/// the table's spacing. The value is 0 below the table, and `2^32` above it.
+/// `wide`, `middle` and `place` are in units of `2^-16`. Multiplying a distance by `rate / 2^36` converts it from these
+/// units to 65536ths of the table's spacing. The value is 0 below the table, and `2^32` above it.
 #[inline(always)]
 pub fn located(values: &[u64], wide: u64, rate: u64, middle: i64, place: i64) -> u64
     requires values { AreValues values.now }

@@ -48,7 +48,7 @@ fn read<Probability: BitArray, const PRECISION: usize>(
 
 /// Runs the scripts of `parts` with a new encoder, each script with its own table.
 ///
-/// Returns the first act that failed, or another reason why the run stopped.
+/// Returns `None` if all acts succeed. Otherwise returns the first act that failed, or why the run stopped early.
 pub fn go<Word, State, Probability, const PRECISION: usize>(
     alloc: Global,
     parts: &[Part<'_, Probability>],
@@ -75,7 +75,7 @@ where
 
 /// Runs the scripts of `parts` with a decoder of `words`, each script with its own table.
 ///
-/// Returns the first act that failed, or another reason why the run stopped.
+/// Returns `None` if all acts succeed. Otherwise returns the first act that failed, or why the run stopped early.
 pub fn decode<Word, State, Probability, const PRECISION: usize>(
     alloc: Global,
     words: &[Word],

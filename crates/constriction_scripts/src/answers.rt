@@ -17,10 +17,10 @@ pub const MEMORY: &str = "Memory";
 
 /// An error that has a word in scripts.
 pub trait Told {
-    /// Returns the word of `error`, or a word for the type if `error` is `None`.
+    /// Returns the text for `error` in scripts, or a text for its type if `error` is `None`.
     fn word(error: Option<&Self>) -> &'static str;
 
-    /// Returns the word of this error.
+    /// Returns the text for this error in scripts.
     final fn told(&self) -> &'static str {
         Self::word(Some(self))
     }

@@ -1,6 +1,6 @@
 //! A sum that depends on the numbers added and on their order.
 
-/// The number of cases, and the sum of the numbers that the cases added.
+/// The number of cases so far, and a sum of the numbers added in these cases.
 #[derive(Clone, Copy)]
 pub struct Sum {
     pub cases: u64,

@@ -200,7 +200,7 @@ where
 
 /// Encodes a symbol, or returns `None` if the coder may be full.
 ///
-/// If `tells_room` of the coder holds, the error of the encode isn't a lack of room.
+/// If the coder's `tells_room` holds, an error that this function returns never means a lack of room.
 pub fn encode_unless_full<C, M>(
     coder: &mut C,
     symbol: &M::Symbol,

@@ -89,7 +89,7 @@ fn tree_of<P: BitArray, E>(
 impl EncoderHuffmanTree {
     /// Builds a tree with one symbol for each weight, in memory from `alloc`.
     ///
-    /// The items of `probabilities` lend the weights ([`Lent`]). They may be references to weights.
+    /// Each item of `probabilities` is a reference to a weight, or another value that lends one ([`Lent`]).
     ///
     /// At first each symbol is a tree of its own. Each merge joins the two trees of least weight, until one tree is
     /// left. Of two trees with equal weights, the tree with the lower index is the lesser. The index of a symbol's tree
