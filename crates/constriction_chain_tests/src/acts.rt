@@ -299,7 +299,7 @@ pub fn failure(answer: &'static str, act: &Act<'_>) -> Option<&'static str> {
     Some(if answer == MEMORY { MEMORY } else { act.text })
 }
 
-/// Runs a script with a coder. Returns the error of the first act with an unexpected answer.
+/// Runs a script with a coder. Returns the text of the first act whose result isn't the expected one.
 pub fn follow<Word, State, Probability, const PRECISION: usize>(
     alloc: Global,
     coder: &mut Whole<Word, State, PRECISION>,

@@ -117,7 +117,7 @@ pub fn change_by(
 
 /// Runs a script with a coder that changes its precision.
 ///
-/// Returns the error of the first act with an unexpected answer.
+/// Returns the text of the first act whose result isn't the expected one.
 pub fn follow_changes(
     alloc: Global,
     coder: &mut Either,

@@ -65,7 +65,8 @@ where
 
 /// Runs the scripts of `parts` with the coder `found`, each script with its own table.
 ///
-/// Returns `None` if all acts succeed. Otherwise returns the first act that failed, or why the run stopped early.
+/// Returns `None` if each act of the scripts succeeds. Otherwise returns the text of the first act that failed, or
+/// another reason for stopping, such as no memory.
 pub fn go<Word, State, Probability, const PRECISION: usize>(
     alloc: Global,
     found: Option<Whole<Word, State, PRECISION>>,

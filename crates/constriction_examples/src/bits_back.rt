@@ -210,7 +210,7 @@ fn send_and_show(rt: &impl Print, alloc: Global, mixture: &Mixture) -> Result<()
 
 /// Encodes twelve symbols with bits-back coding on top of an earlier message's words, and decodes them.
 ///
-/// Prints the symbols' cost in bits, the symbols decoded, and the words, which equal the earlier message's words.
+/// Prints the symbols' cost in bits, the symbols decoded, and the words left, which are the earlier message's words.
 pub fn run(rt: &impl Print, alloc: Global) -> Result<()> {
     let mixture = Mixture::new(alloc)?;
     send_and_show(rt, alloc, &mixture)

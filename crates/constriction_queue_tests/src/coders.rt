@@ -48,7 +48,8 @@ fn read<Probability: BitArray, const PRECISION: usize>(
 
 /// Runs the scripts of `parts` with a new encoder, each script with its own table.
 ///
-/// Returns `None` if all acts succeed. Otherwise returns the first act that failed, or why the run stopped early.
+/// Returns `None` if each act of the scripts succeeds. Otherwise returns the text of the first act that failed, or
+/// another reason for stopping, such as no memory.
 pub fn go<Word, State, Probability, const PRECISION: usize>(
     alloc: Global,
     parts: &[Part<'_, Probability>],
@@ -75,7 +76,8 @@ where
 
 /// Runs the scripts of `parts` with a decoder of `words`, each script with its own table.
 ///
-/// Returns `None` if all acts succeed. Otherwise returns the first act that failed, or why the run stopped early.
+/// Returns `None` if each act of the scripts succeeds. Otherwise returns the text of the first act that failed, or
+/// another reason for stopping, such as no memory.
 pub fn decode<Word, State, Probability, const PRECISION: usize>(
     alloc: Global,
     words: &[Word],

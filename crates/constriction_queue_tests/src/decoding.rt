@@ -133,7 +133,7 @@ where
     }
 }
 
-/// Runs a script with a decoder. Returns the text of the first act with an unexpected answer.
+/// Runs a script with a decoder. Returns the text of the first act whose result isn't the expected one.
 pub fn follow_decoding<Word, State, Probability, const PRECISION: usize>(
     alloc: Global,
     decoder: &mut Owning<Word, State>,

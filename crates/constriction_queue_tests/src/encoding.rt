@@ -374,7 +374,7 @@ where
     decode_by(alloc, encoder, table, act).unwrap_or(OTHER)
 }
 
-/// Runs a script with an encoder. Returns the text of the first act with an unexpected answer.
+/// Runs a script with an encoder. Returns the text of the first act whose result isn't the expected one.
 pub fn follow<Word, State, Probability, const PRECISION: usize>(
     alloc: Global,
     encoder: &mut RangeEncoder<Word, State>,

@@ -23,7 +23,7 @@ impl Sum {
         Sum { runs: 0, value: 0 }
     }
 
-    /// Counts the next run, and adds 1.
+    /// Counts the next run, and adds the number 1 to the sum.
     pub fn begin(&mut self) {
         self.runs = self.runs.wrapping_add(1);
         self.add(1);

@@ -159,7 +159,7 @@ where
     show_by::<_, _, _, PRECISION>(coder, act).unwrap_or(OTHER)
 }
 
-/// Runs a script with a coder. Returns the text of the first act with an unexpected answer.
+/// Runs a script with a coder. Returns the text of the first act whose result isn't the expected one.
 pub fn follow<Word, State, Backend, Probability, const PRECISION: usize>(
     alloc: Global,
     coder: &mut AnsCoder<Word, State, Backend>,

@@ -344,7 +344,7 @@ where
     }
 }
 
-/// Runs a script with a coder over a vector. Returns the text of the first act with an unexpected answer.
+/// Runs a script with a coder over a vector. Returns the text of the first act whose result isn't the expected one.
 pub fn follow_owning<Word, State, Probability, const PRECISION: usize>(
     alloc: Global,
     coder: &mut AnsCoder<Word, State>,

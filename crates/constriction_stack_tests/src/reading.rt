@@ -107,7 +107,9 @@ where
     }
 }
 
-/// Runs a script with a coder that can only decode. Returns the text of the first act with an unexpected answer.
+/// Runs a script with a coder that can only decode.
+///
+/// Returns the text of the first act whose result isn't the expected one.
 pub fn follow_reading<State, Backend>(
     coder: &mut AnsCoder<u8, State, Backend>,
     table: &WeightTable<u8, 8>,
@@ -128,7 +130,9 @@ where
     None
 }
 
-/// Runs a script with a coder that can decode and seek. Returns the text of the first act with an unexpected answer.
+/// Runs a script with a coder that can decode and seek.
+///
+/// Returns the text of the first act whose result isn't the expected one.
 pub fn follow_seeking<State, Backend>(
     coder: &mut AnsCoder<u8, State, Backend>,
     table: &WeightTable<u8, 8>,

@@ -13,7 +13,7 @@ impl Sum {
         Sum { cases: 0, value: 0 }
     }
 
-    /// Counts the next case, and adds 1.
+    /// Counts the next case, and adds the number 1 to the sum.
     pub fn begin(&mut self) {
         self.cases = self.cases.wrapping_add(1);
         self.add(1);

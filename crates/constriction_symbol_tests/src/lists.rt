@@ -19,7 +19,7 @@ pub fn answer_of(answer: Result<(), DefaultEncoderError<AllocError>>) -> Put {
     }
 }
 
-/// Reads numbers with two codebooks. Returns whether they are `first` and `second`, and the iterator then ends.
+/// Returns whether an iterator over two codebooks decodes `first`, then `second`, and then ends.
 pub fn takes_two(coder: &mut StackCoder<u8>, first: u8, second: u8) -> bool {
     let codebooks = [ExpGolomb::<u8>::new(), ExpGolomb::<u8>::new()];
     let mut given = coder.decode_symbols(codebooks.iter());
@@ -29,7 +29,7 @@ pub fn takes_two(coder: &mut StackCoder<u8>, first: u8, second: u8) -> bool {
         && given.next().is_none()
 }
 
-/// Reads two numbers with one codebook. Returns whether they are `first` and `second`, and the iterator then ends.
+/// Returns whether an iterator that uses one codebook twice decodes `first`, then `second`, and then ends.
 fn takes_two_by_one(queue: &mut LentQueue<'_, u8>, first: u8, second: u8) -> bool {
     let codebook = ExpGolomb::<u8>::new();
     let mut given = queue.decode_iid_symbols(2, &codebook);

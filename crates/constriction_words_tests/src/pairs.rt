@@ -14,7 +14,7 @@ pub struct Pair<W> {
     pub wrapping: (W, W),
 }
 
-/// Returns whether the methods return the results of `pair`.
+/// Returns whether the type's methods return the expected results for the two words of `pair`.
 fn is_pair<W: BitArray + PartialEq>(pair: &Pair<W>) -> bool {
     let (first, second) = pair.numbers;
     let [added, taken, times, divided, left] = pair.exact;
@@ -29,7 +29,7 @@ fn is_pair<W: BitArray + PartialEq>(pair: &Pair<W>) -> bool {
         && first.wrapping_minus(second) == pair.wrapping.1
 }
 
-/// Returns whether the methods return the results of each of `pairs`.
+/// Returns whether the type's methods return the expected results for each of `pairs`.
 pub fn are_pairs<W: BitArray + PartialEq>(pairs: &[Pair<W>]) -> bool {
     for pair in pairs {
         if !is_pair(pair) {

@@ -28,9 +28,10 @@ fn is_single<W: BitArray + PartialEq>(single: &Single<W>) -> bool {
         && number.to_nonzero().is_none() == (single.length == 0)
 }
 
-/// Returns whether the methods return the results of each of `singles`, and the type's constants are as expected.
+/// Returns whether the type's methods and constants have the expected values.
 ///
-/// `bits` is the expected `BITS`. `named` are the expected values of 0, 1 and the greatest number.
+/// Each of `singles` holds a word and the results that the methods should return for it.
+/// `bits` is the expected `BITS`. `named` holds the expected `nothing()`, `unit()` and `greatest()`.
 pub fn are_singles<W: BitArray + PartialEq>(
     bits: u32,
     named: (W, W, W),

@@ -112,7 +112,8 @@ pub extern "C" fn constriction_bench_chain_decode_u32u64p24_table(
 
 /// Encodes symbols from the last to the first onto `remainders`, with a table of weights.
 ///
-/// Copies the compressed words, in binary form, to `out`, as many as fit. Returns their number, or 0 after a failure.
+/// Copies the compressed words, in binary form, to `out`, as many as fit. Returns the total number of compressed
+/// words, or 0 after a failure.
 #[unsafe(no_mangle)]
 pub extern "C" fn constriction_bench_chain_encode_u32u64p24_table(
     alloc: Global,
@@ -146,7 +147,8 @@ pub extern "C" fn constriction_bench_chain_decode_u32u64p24_flat(
 
 /// Encodes symbols below `2^bits` from the last to the first onto `remainders`, with equal weights.
 ///
-/// Copies the compressed words, in binary form, to `out`, as many as fit. Returns their number, or 0 after a failure.
+/// Copies the compressed words, in binary form, to `out`, as many as fit. Returns the total number of compressed
+/// words, or 0 after a failure.
 #[unsafe(no_mangle)]
 pub extern "C" fn constriction_bench_chain_encode_u32u64p24_flat(
     alloc: Global,

@@ -113,7 +113,8 @@ pub extern "C" fn constriction_bench_chain_decode_u16u32p12_table(
 
 /// Encodes symbols from the last to the first onto `remainders`, with a table of weights.
 ///
-/// Copies the compressed words, in binary form, to `out`, as many as fit. Returns their number, or 0 after a failure.
+/// Copies the compressed words, in binary form, to `out`, as many as fit. Returns the total number of compressed
+/// words, or 0 after a failure.
 #[unsafe(no_mangle)]
 pub extern "C" fn constriction_bench_chain_encode_u16u32p12_table(
     alloc: Global,
@@ -147,7 +148,8 @@ pub extern "C" fn constriction_bench_chain_decode_u16u32p12_flat(
 
 /// Encodes symbols below `2^bits` from the last to the first onto `remainders`, with equal weights.
 ///
-/// Copies the compressed words, in binary form, to `out`, as many as fit. Returns their number, or 0 after a failure.
+/// Copies the compressed words, in binary form, to `out`, as many as fit. Returns the total number of compressed
+/// words, or 0 after a failure.
 #[unsafe(no_mangle)]
 pub extern "C" fn constriction_bench_chain_encode_u16u32p12_flat(
     alloc: Global,

@@ -33,7 +33,7 @@ type Bare<Word, State, const PRECISION: usize> = ChainCoder<
 
 /// Imports a coder from compressed words. The coder has no words of remainders below its heads.
 ///
-/// The call sets `heads`, and sets `len` to the number of words of `words` that stay compressed words below the heads.
+/// The call sets `heads`. It sets `len` to the number of words that are left in `words`, below the compressed head.
 ///
 /// # Errors
 ///
@@ -68,7 +68,7 @@ pub fn from_compressed<Word: WordOf<State>, State: BitArray, const PRECISION: us
 
 /// Imports a coder from compressed words in binary form. The coder has no words of remainders below its heads.
 ///
-/// The call sets `heads`, and sets `len` to the number of words of `words` that stay compressed words below the heads.
+/// The call sets `heads`. It sets `len` to the number of words that are left in `words`, below the compressed head.
 ///
 /// # Errors
 ///

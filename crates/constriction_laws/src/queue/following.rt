@@ -33,7 +33,7 @@ pub fn self_delimiting_words_are_read()
         SelfDelimits w s (run w s steps (initial s)) words → ReadAs w s (words ++ rest) steps (initial s) }
 {}
 
-/// Decoding from a position returns the symbols encoded since then, if the seal is self-delimiting.
+/// Decoding from a position returns the symbols encoded after it, if the seal is self-delimiting.
 ///
 /// Any words may follow the seal. The position may be the start, where no symbol has been encoded.
 pub fn symbols_come_back_whatever_follows<Symbol>()

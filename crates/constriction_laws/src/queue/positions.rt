@@ -27,9 +27,9 @@ pub fn position_leads_there()
         IsAt w s words there lower range point rest }
 {}
 
-/// Decoding from a position returns the symbols encoded since then, in the order of encoding.
+/// Decoding from a position returns the symbols encoded after it, in the order of encoding.
 ///
-/// The decoder may read any words that the encoder exports later, until the encoder is cleared. By the clause
+/// The decoder may read the words of any later export, if the encoder isn't cleared before that export. By the clause
 /// `anywhere`, only the interval of the position matters, not the words written before it.
 pub fn symbols_after_a_position<Symbol>()
     ensures decoded { (w s : ℕ) (before since : List (Item Symbol)) (middle last : Run) → IsSizes w s →

@@ -187,7 +187,7 @@ impl<Word: WordOf<State>, State: BitArray, Buf: Words<Word> + Drop> AnsCoder<
     /// # Examples
     ///
     /// ```
-    /// // A coder exported [1, 2, 3, 4, 5], and a program wrote the file from its end.
+    /// // A coder exported [1, 2, 3, 4, 5], and a program stored these words in reverse order.
     /// let coder = AnsCoder::<u8, u16, _>::from_reversed_compressed([5u8, 4, 3, 2, 1].as_slice());
     /// ```
     pub fn from_reversed_compressed(compressed: Buf) -> Result<Self, Buf>
