@@ -132,9 +132,9 @@ where
 
 /// Builds a store, takes it apart, and looks up chunks in a store built from the parts.
 ///
-/// Calls `build`, `into_parts` and `from_parts`, then calls `chunk` for each number in `places`. Returns the store built
-/// from the parts, and the chunks looked up, in the order of `places`. Each chunk looked up equals the chunk of `chunks` with
-/// the same number.
+/// Calls `build`, `into_parts` and `from_parts`, then calls `chunk` for each number in `places`. Returns the store
+/// built from the parts, and the chunks looked up, in the order of `places`. Each chunk looked up equals the chunk of
+/// `chunks` with the same number.
 ///
 /// # Errors
 ///
