@@ -16,7 +16,7 @@ use crate::backends::semantics::Stack;
 use crate::backends::writing::WriteWords;
 use constriction_words::{BitArray, WordOf};
 
-/// Returns the number of words of `head`, without leading zero words.
+/// Returns the number of words of `head`, not counting leading zero words.
 ///
 /// The caller proves that `State` has a whole number of words, at least two.
 #[inline]
@@ -33,10 +33,10 @@ pub fn count_of_words<Word: WordOf<State>, State: BitArray>(head: State) -> usiz
     count
 }
 
-/// Returns how many words the bits below the highest set bit of `head` fill, or `None` if they don't fill whole words.
+/// Returns the number of whole words that the bits of `head` below its highest set bit fill.
 ///
-/// The call also returns `None` if `head` is 0. The caller proves that `State` has a whole number of words, at least
-/// two.
+/// Returns `None` if these bits don't fill whole words, or if `head` is 0. The caller proves that `State` has a whole
+/// number of words, at least two.
 pub fn words_below_one<Word: WordOf<State>, State: BitArray>(head: State) -> Option<usize>
     requires { IsSizes Word.BITS State.BITS }
     ensures value { IfSome result (λ m. IsOneAbove Word.BITS m (State.number head)) }
@@ -125,7 +125,7 @@ pub fn append_words<Word: WordOf<State>, State: BitArray, Backend: WriteWords<Wo
     write_words(bulk, head, count)
 }
 
-/// Reads words from `bulk` into a head until the head is at least `2 ^ bits` or no word is left.
+/// Reads words from `bulk` into `head` until the head is at least `2 ^ bits` or no word is left.
 ///
 /// Returns the new head, and whether it is at least `2 ^ bits`. For each word read, the call shifts the head up by one
 /// word, and the word read becomes the head's lowest word. If `head` is at least `2 ^ bits`, the call reads no word.
@@ -133,7 +133,7 @@ pub fn append_words<Word: WordOf<State>, State: BitArray, Backend: WriteWords<Wo
 ///
 /// # Errors
 ///
-/// Returns the error of the refused read. The words that were read before it are lost.
+/// Returns the error of the refused read. The words that the call read before this read are lost.
 pub fn fill<Word: WordOf<State>, State: BitArray, Backend: ReadWords<Word, Stack>>(
     bulk: &mut Backend,
     head: State,

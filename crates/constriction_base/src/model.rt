@@ -1,4 +1,4 @@
-//! Model traits: a model gives symbols intervals of numbers, whose lengths stand for the symbols' probabilities.
+//! Model traits. A model gives each of its symbols an interval. The interval's length stands for the probability.
 //!
 //! A model of a given precision (in bits) partitions its quantiles, the numbers below `2 ^ PRECISION`, into intervals.
 //! Each symbol that the model can code has one interval. [`EncoderModel`] finds the interval of a symbol.
@@ -11,7 +11,7 @@ ghost use Rattle.constriction_words.specs.Reciprocals.{IsReciprocalOf};
 
 use constriction_words::{BitArray, Reciprocal};
 
-/// A model of symbols: a table that gives symbols intervals of the numbers below `2 ^ PRECISION`.
+/// A model: a table that gives each of its symbols an interval of the numbers below `2 ^ PRECISION`.
 ///
 /// An implementor chooses which symbols have an interval, the order of the intervals, and their lengths. It then
 /// proves three laws for each value of the type:
@@ -19,13 +19,13 @@ use constriction_words::{BitArray, Reciprocal};
 /// - `lawful`: the intervals lie one after another from 0 to `2 ^ PRECISION`, without gap or overlap. No interval is
 ///   empty, and no symbol has two intervals.
 /// - `sized`: `PRECISION` is at least 1 and at most `Probability::BITS`.
-/// - `two_symbols`: if `PRECISION` equals `Probability::BITS`, the table has at least two symbols. A single interval
-///   of all `2 ^ PRECISION` numbers wouldn't fit `Probability`.
+/// - `two_symbols`: if `PRECISION` equals `Probability::BITS`, the table has at least two symbols. The length of a
+///   single interval, `2 ^ PRECISION`, wouldn't fit `Probability`.
 pub trait EntropyModel<const PRECISION: usize>: Drop {
     /// The type of the symbols.
     type Symbol: Drop;
 
-    /// The type of quantiles and of the starts of intervals. Lengths of intervals have its type `NonZero`.
+    /// The type of quantiles and of the starts of intervals. Lengths of intervals have the type `Probability::NonZero`.
     type Probability: BitArray;
 
     // The entries of the table: a symbol, the start of its interval, and the interval's length.
@@ -95,7 +95,7 @@ pub trait EncoderModel<const PRECISION: usize>: EntropyModel<PRECISION> {
 
 /// A model that a decoder can use.
 ///
-/// An implementor proves that each call returns an entry of the table, and that its interval holds the quantile.
+/// An implementor proves that each call returns the entry of the table whose interval holds the quantile.
 ///
 /// # Examples
 ///

@@ -1,8 +1,8 @@
 //! `Reverse`: a cursor whose stack and queue are swapped.
 //!
-//! `Reverse(Cursor::new_at_write_beginning(words))` is a stack that reads the buffer `words` from its first word on. It
-//! is for buffers that list the words of a stack in reading order, for example a file that is written from its end. The
-//! impls cover only cursors: an impl for every backend can be proved, but code that calls it can't.
+//! `Reverse(Cursor::new_at_write_beginning(words))` is a stack that reads the buffer `words` from its first word on.
+//! Use `Reverse` for buffers that list the words of a stack in reading order, for example a file that is written from
+//! its end. The impls cover only cursors: an impl for every backend can be proved, but code that calls it can't.
 
 ghost use Rattle.constriction_base.specs.laws.Room.{within};
 

@@ -36,12 +36,12 @@ pub fn seems_taken<B: ReadWords<u32, Queue>>(backend: &B) -> bool {
     backend.maybe_exhausted()
 }
 
-/// Returns whether the backend, read as a stack, has `count` words, by `remaining` and by `is_exhausted`.
+/// Returns whether `remaining` and `is_exhausted` agree that the backend, read as a stack, has `count` words.
 pub fn stacks<B: BoundedReadWords<u32, Stack>>(backend: &B, count: usize) -> bool {
     backend.remaining() == count && backend.is_exhausted() == (count == 0)
 }
 
-/// Returns whether the backend, read as a queue, has `count` words, by `remaining` and by `is_exhausted`.
+/// Returns whether `remaining` and `is_exhausted` agree that the backend, read as a queue, has `count` words.
 pub fn queues<B: BoundedReadWords<u32, Queue>>(backend: &B, count: usize) -> bool {
     backend.remaining() == count && backend.is_exhausted() == (count == 0)
 }

@@ -1,4 +1,4 @@
-//! Tests of a cursor as a stack and as a queue. Helpers are generic, and know the backend by its trait bounds alone.
+//! Tests of a cursor as a stack and as a queue. The generic helpers use only the traits that they name in their bounds.
 
 use crate::calls::{
     filled, pops, prepares, puts, queues, seeks, seems_full, seems_popped, seems_taken, stacks,

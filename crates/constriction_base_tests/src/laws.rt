@@ -46,7 +46,7 @@ pub fn vector_goes<A: Allocator>(words: &mut Vec<u32, A>, place: usize) -> Resul
     }
 }
 
-/// Seeks in a cursor. Succeeds exactly if `place` is at most its buffer's length, and otherwise leaves it unchanged.
+/// Seeks in a cursor. Succeeds exactly if `place` is at most the buffer's length. An error leaves the cursor unchanged.
 pub fn cursor_goes(words: &mut Cursor<u32, &[u32]>, place: usize) -> Result<(), ()>
     ensures variant { IsOk result ↔ (place ≤ length words.old.buf.now) }
     ensures kept { OnErr result (words.new ≡ words.old) }
@@ -57,7 +57,7 @@ pub fn cursor_goes(words: &mut Cursor<u32, &[u32]>, place: usize) -> Result<(), 
     }
 }
 
-/// Turns a vector into a cursor at its beginning, which reads the words in the order in which they were written.
+/// Turns a vector into a cursor at position 0. The cursor reads the words in the order in which they were written.
 pub fn vector_as_queue<A: Allocator>(words: Vec<u32, A>) -> Cursor<u32, Vec<u32, A>>
     ensures place { result.pos ≡ 0 }
     ensures buffer { result.buf ≡ words }

@@ -20,7 +20,7 @@ pub fn finds<Probability: BitArray + PartialEq, const PRECISION: usize>(
     symbol == expected.0 && left == expected.1 && Probability::from_nonzero(p) == expected.2
 }
 
-/// Returns whether the table has an expected interval, or an error if there was no memory.
+/// Returns whether the table maps quantile 254 to the expected interval, or an error if there was no memory.
 fn table_went(table: Result<WeightTable<u8, 8>, TableError>) -> Result<bool, AllocError> {
     match table {
         Ok(table) => Ok(finds(&table, 254, (1, 200, 55))),
@@ -29,7 +29,7 @@ fn table_went(table: Result<WeightTable<u8, 8>, TableError>) -> Result<bool, All
     }
 }
 
-/// Makes a table of three weights with `new`, or with `for_decoding`. Returns whether it has an expected interval.
+/// Makes a table of three weights with `new` or `for_decoding`. Returns whether quantile 254 has the expected interval.
 fn table_of_three(alloc: Global, is_for_decoding: bool) -> Result<bool, AllocError> {
     if is_for_decoding {
         table_went(WeightTable::for_decoding(alloc, &[200, 55, 1]))
@@ -38,7 +38,7 @@ fn table_of_three(alloc: Global, is_for_decoding: bool) -> Result<bool, AllocErr
     }
 }
 
-/// Makes a table, and tries again if memory was refused. If the second try succeeds, returns the error `name`.
+/// Makes a table. If memory is refused, makes the table again, and returns the error `name` if this succeeds.
 fn table_comes(alloc: Global, is_for_decoding: bool, name: &'static str) -> Result<(), Fail> {
     match table_of_three(alloc, is_for_decoding) {
         Ok(true) => Ok(()),

@@ -1,7 +1,7 @@
 //! The measured loops of the chain coder.
 //!
-//! The loops are inlined into functions of one size, which are generic in the model. These functions aren't inlined, so
-//! that no constant of a caller changes the code of a loop.
+//! The loops are inlined into functions of `large` and `small`, which are generic in the model. These functions aren't
+//! inlined, so that no constant of a caller changes the code of a loop.
 
 pub mod large;
 pub mod small;

@@ -37,7 +37,7 @@ where
     encoder.into_compressed().ok()
 }
 
-/// Fills `symbols` with symbols decoded from `words`, in order. Returns `false` if the words don't encode that many.
+/// Fills `symbols` with symbols decoded from `words`, in order. Returns `false` if a decode fails.
 #[inline(never)]
 fn decode_range<
     Word: WordOf<State>,
@@ -84,7 +84,7 @@ where
 
 /// Fills `symbols` with symbols decoded from a copy of `words`, in order.
 ///
-/// Returns `false` if the words don't encode that many symbols of the model, or if there is no memory.
+/// Returns `false` if a decode fails, or if there is no memory.
 pub fn decode_range_in<
     Word: WordOf<State>,
     State: BitArray,

@@ -1,10 +1,10 @@
 //! The chain coder: each symbol depends on its own model alone.
 //!
-//! A [`coder::ChainCoder`] decodes every symbol from bits that no other symbol uses. A decode takes a quantile from the
-//! compressed words, with as many bits as the precision. It looks up the quantile's symbol, and moves the remaining
-//! information to a second stack of words, the remainders. If the model of one symbol changes, that symbol and the
-//! remainders may change, and no other symbol does. Bits-back coding and inference with entropy coders need this
-//! property. Encoding is the inverse: it takes the information back from the remainders and restores the bits.
+//! A [`coder::ChainCoder`] decodes every symbol from bits that no other symbol uses. A decode takes a quantile of
+//! `PRECISION` bits from the compressed words. It looks up the quantile's symbol, and moves the remaining information
+//! to a second stack of words, the remainders. If the model of one symbol changes, that symbol and the remainders may
+//! change, and no other symbol does. Bits-back coding and inference with entropy coders need this property. Encoding is
+//! the inverse: it takes the information back from the remainders and restores the bits.
 //!
 //! ```
 //! let table = WeightTable::<u32, 24>::new(alloc, &[8388608, 8388608])?;

@@ -60,8 +60,10 @@ enum Says {
 /// - `import`, `import-binary` and `import-remainders` import a coder from words. The answer of a refused import is the
 ///   number of words left, as in `import!leaves-one`.
 /// - `clone` replaces the coder by a clone. `again` replaces it by a clone that was taken apart and put together again.
-/// - These verbs compare words of a clone: `compressed` and `remainders` (raw parts), `prefix` and `suffix`
-///   (`into_remainders`), `export` and `rest` (`into_compressed`), and `export-binary` (`into_binary`).
+/// - `compressed` and `remainders` compare the words of the two sides in the raw parts of a clone.
+/// - `prefix` and `suffix` compare the two lists of words that `into_remainders` returns for a clone.
+/// - `export` compares the words that `into_compressed` exports from a clone, and `rest` compares the words of the
+///   remainders. `export-binary` compares the words that `into_binary` exports.
 /// - `heads` compares the two heads.
 /// - `whole` checks that the coder is whole. `full` checks that it may be full. `exhausted` checks that it may be
 ///   exhausted, and `unfinished` that it isn't exhausted.
@@ -85,9 +87,9 @@ const VERBS: &[(&str, Verb)] = &[
     ("unfinished", Verb::Says(Says::Unfinished)),
 ];
 
-/// Returns the answer of a refused import that handed back the words `left`: the number of these words.
+/// Returns the answer of a refused import, which names the number of words `left` that the import handed back.
 ///
-/// They must be the first words of `numbers`, which the import was given.
+/// The answer is `OTHER` if there are more than two, or if `numbers`, the words to import, don't begin with them.
 fn leaves<Word: Number>(left: &[Word], numbers: &[u128]) -> &'static str {
     if !same(left, numbers.get(..left.len()).unwrap_or(&[])) {
         return OTHER;
@@ -194,7 +196,7 @@ where
     }
 }
 
-/// Takes a coder apart into two lists of words, in the way `how`.
+/// Takes a coder apart into two lists of words, in the way that `how` names.
 fn take_apart<Word, State, const PRECISION: usize>(
     coder: Whole<Word, State, PRECISION>,
     how: Parts,

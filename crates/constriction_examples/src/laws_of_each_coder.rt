@@ -1,7 +1,7 @@
-//! One law of each coder, applied in contracts that cite the definitions through the facade alone.
+//! Functions that apply a law of each coder, and import all definitions of the coders from the crate `constriction`.
 //!
-//! The program calls no function of these modules. Their proofs check that the facade re-exports all definitions that a
-//! crate needs to state and use a law.
+//! The program calls no function of these modules. Their proofs check that `constriction` re-exports all definitions
+//! that another crate needs to state and use a law.
 //!
 //! - [`stack`]: the cost of bits-back coding.
 //! - [`queue`]: reading sealed words returns the steps that were encoded.

@@ -1,4 +1,4 @@
-//! Worked examples that depend on the facade crate alone.
+//! Worked examples that call the coders through the crate `constriction` alone.
 //!
 //! The program runs these modules in order:
 //!

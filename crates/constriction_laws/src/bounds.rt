@@ -43,17 +43,17 @@ pub fn stack_bound_at_one_precision()
 /// Bounds how many exported words a sequence of encodes and decodes adds to a stack coder.
 ///
 /// The encodes and decodes may come in any order. The bound is stated by their net cost, as in bits-back coding: the
-/// bits that encodes add, minus the bits that decodes take off.
-/// The coder begins in a valid state. Its head is at least `2^(s-w)` at the beginning and after each decode.
+/// bits that encodes add, minus the bits that decodes take off. The coder begins in a valid state. Its head is at least
+/// `2^(s-w)` at the beginning and after each decode.
 pub fn stack_net_bound()
     ensures { (w s : ℕ) (acts : List Act) (old new : AnsState) → IsSizes w s → AreAllowed w acts → IsValid w s old →
         2 ^ (s - w) ≤ old.head → InTurn (Acts w s) acts old new →
         IsNetBounded w s acts old new }
 {}
 
-/// Bounds the number of words of a range encoder, if there are at least two words, including the seal.
+/// Bounds the number of words that a range encoder exports, if it exports at least two words.
 ///
-/// The encoder starts from the initial interval and encodes `steps`.
+/// These words include the seal. The encoder starts from the initial interval and encodes `steps`.
 pub fn range_bound()
     ensures { (w s : ℕ) (steps : List Step) → IsSizes w s → AreSteps w steps →
         2 ≤ length (sealed w s (run w s steps (initial s))) →
@@ -61,10 +61,10 @@ pub fn range_bound()
         < 2 ^ s * product (rounded_whole w s) steps }
 {}
 
-/// Bounds the number of words of a range encoder with a self-delimiting seal.
+/// Bounds the number of words that a range encoder exports with a self-delimiting seal.
 ///
 /// The encoder starts from the initial interval and encodes `steps`. The bound holds if there are at least `s / w`
-/// words, including the seal. A head is `s / w` words wide.
+/// words, counting the seal. A head is `s / w` words wide.
 pub fn self_delimiting_bound()
     ensures { (w s : ℕ) (steps : List Step) (words : List ℕ) → IsSizes w s → AreSteps w steps →
         SelfDelimits w s (run w s steps (initial s)) words → s / w ≤ length words →

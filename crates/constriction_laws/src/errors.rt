@@ -18,7 +18,9 @@ pub enum RoundTripError {
     ImpossibleSymbol,
     /// There are more symbols than the encoder can count.
     TooManySymbols,
-    /// The words don't encode the symbols asked for, or the words or the coder's state lack the required form.
+    /// The words or the coder's state don't fit the call.
+    ///
+    /// For example, the words don't encode symbols of the given models, or the state has no binary form.
     InvalidData,
     /// The words ended after this number of symbols.
     OutOfData(usize),

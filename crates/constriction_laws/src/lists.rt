@@ -8,8 +8,8 @@ ghost use Rattle.constriction_base.specs.Steps.{InTurn};
 ///
 /// An implementor describes one use of a coder, such as encoding on the stack coder. It proves that an allowed step
 /// from a valid state leads to a valid state, and that the inverse step leads back. The range coder decodes symbols in
-/// the order of encoding. So its implementor's steps take encodes back, from the last to the first, and the inverse
-/// steps are the decodes.
+/// the order of encoding. So the steps of the range coder's implementor take encodes back, from the last to the first.
+/// The inverse steps are the decodes.
 pub trait StepsUndo {
     /// The data that all steps share, such as the sizes of words and states.
     ghost setting: { Type 0 };

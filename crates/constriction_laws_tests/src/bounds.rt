@@ -1,4 +1,4 @@
-//! A test of the caller of the bounds, with 8-bit words and 16-bit heads.
+//! A test of `exchange`, which decodes one symbol and encodes another, with 8-bit words and 16-bit heads.
 
 use crate::given::{Table, tables_of};
 use crate::stack::coder_of;

@@ -18,7 +18,7 @@ fn coder_of(alloc: Global) -> Option<Small> {
     Small::from_compressed(alloc, words_of(alloc, &[20, 30, 9])?).ok()
 }
 
-/// Decodes the symbols. Returns whether the symbols and the remainders are as expected.
+/// Decodes two symbols from the words 20, 30 and 9. Returns whether symbols and remainders are as expected.
 ///
 /// The remainders head is first `9 * 240 + 14`, and its low word moves out. Then the head is `8 * 100 + 20`.
 fn taken(alloc: Global, tables: &[Table; 2]) -> bool {

@@ -1,5 +1,4 @@
-//! Tests of models at concrete types: intervals that partition the quantiles, worked values, weights of counts, and
-//! lists through the stack coder with a model for each symbol.
+//! Tests of models at concrete types: partitions of the quantiles, worked values, weights of counts, and coded lists.
 //!
 //! The contracts of `constriction_models` are proved there for all values. These tests check what no contract can
 //! state: the definitions have the values that a reader expects, calls that need memory succeed if there is some, and a

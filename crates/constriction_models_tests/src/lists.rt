@@ -1,4 +1,4 @@
-//! Tests that the stack coder decodes the lists that it encodes, with a Gaussian of its own for each symbol.
+//! Tests that the stack coder decodes the lists that it encodes, if each symbol has its own Gaussian.
 
 use constriction_models::gaussian::Gaussian;
 use constriction_models::quantizer::LeakyQuantizer;

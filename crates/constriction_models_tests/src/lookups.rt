@@ -18,7 +18,7 @@ fn weights_are_looked_up(alloc: Global) -> bool {
     }
 }
 
-/// Returns whether the intervals of `symbols` cover the 256 quantiles of the lookup model of a borrowed model.
+/// Builds a lookup model from a borrowed uniform model. Returns whether the intervals of `symbols` cover 256 quantiles.
 fn quantiles_are_looked_up(alloc: Global, symbols: &[usize]) -> bool {
     match UniformModel::<u32, 8>::new(256) {
         Ok(model) => match ContiguousLookupDecoderModel::new(alloc, &model) {

@@ -48,7 +48,7 @@ fn has_weight(weight: u32) -> bool {
     }
 }
 
-/// Returns whether the call refuses to create a model in which `true` has the weight `weight` of 256.
+/// Returns whether `BernoulliModel::new` refuses to make a model in which `true` has the weight `weight` of 256.
 fn has_nothing(weight: u32) -> bool {
     BernoulliModel::<u32, 8>::new(weight).is_none()
 }

@@ -29,8 +29,8 @@
 //! - `writing`: writing words to a backend.
 //!
 //! Contracts cite the definitions of `specs/Range.antt` (runs, seals and reading) and of `specs/Calls.antt` (the
-//! possible results of a call over a backend). A run describes an encoder's interval by a growing whole number and a
-//! range, without pending words and carries. `specs/Encoder.antt` and `specs/Decoder.antt` relate coders to runs.
+//! possible results of a call over a backend). A run describes an encoder's interval by a range and an unbounded lower
+//! end. It has no pending words and no carries. `specs/Encoder.antt` and `specs/Decoder.antt` relate coders to runs.
 //! `specs/Flagged.antt` states which of two models each symbol has.
 #![tactic(auto)]
 

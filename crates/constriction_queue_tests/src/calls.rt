@@ -28,7 +28,7 @@ fn calls_of_an_encoder(rt: HostRuntime) -> Result<(), Fail> {
     )
 }
 
-/// Checks list calls with one model, pairs and items, and decoding with each iterator.
+/// Checks the list calls of symbols with one model, of pairs and of items, and the iterators that decode.
 #[test]
 fn calls_of_lists(rt: HostRuntime) -> Result<(), Fail> {
     small(

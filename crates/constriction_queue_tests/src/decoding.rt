@@ -104,7 +104,7 @@ where
     take_by(alloc, coder, model, act).unwrap_or(OTHER) == act.answer
 }
 
-/// Returns whether `act` expects the answer of a check with the result `is_so`.
+/// Turns the result `is_so` of a check into an answer. Returns whether `act` expects this answer.
 fn tells(is_so: bool, act: &Act<'_>) -> bool {
     answer_if(is_so) == act.answer
 }

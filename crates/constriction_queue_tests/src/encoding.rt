@@ -4,8 +4,10 @@
 //!
 //! - `clear` clears the encoder. `of` makes an encoder over words. `parts` makes an encoder from an interval, a number
 //!   of held words, the first held word, and words. `again` takes the encoder apart and puts it together again.
-//! - `sealed`, `shown` and `lent` compare the sealed words, which an iterator returns, a guard lends, or
-//!   `with_compressed` lends. `export` and `delimited` compare the words of either seal, and leave a new encoder.
+//! - `sealed` compares the sealed words that an iterator returns, `shown` compares those that a guard lends, and `lent`
+//!   compares those that `with_compressed` lends.
+//! - `export` compares the words that `into_compressed` returns, and `delimited` compares the words that
+//!   `into_self_delimited` returns. Both leave a new encoder.
 //! - `written` compares the words written. `held` compares the number of held words and the first held word. `at`
 //!   compares the position: a place and an interval. `sizes` compares the numbers of words and bits. `left` compares
 //!   the number of symbols that the encoder can still encode. `empty` checks that the encoder is empty.
@@ -159,7 +161,9 @@ where
     }
 }
 
-/// Exports an encoder with either seal, and compares the words with `numbers`. Returns the answer.
+/// Exports an encoder, and compares the words with `numbers`. Returns the answer.
+///
+/// If `is_delimited` is true, the words end with a self-delimiting seal.
 fn exported<Word, State>(
     encoder: RangeEncoder<Word, State>,
     numbers: &[u128],

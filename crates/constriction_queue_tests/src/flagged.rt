@@ -58,7 +58,7 @@ pub fn gives(switch: &mut Switch<'_>, tables: &Tables, symbols: &[usize]) -> boo
 
 /// Returns whether a new switch decodes `symbols` from `words`.
 ///
-/// The method `switched` must return `false` before the symbols, and the parameter `switched` after them.
+/// The switch's method `switched` must return `false` before the decodes, and the parameter `switched` after them.
 pub fn come_from(words: &[u8], tables: &Tables, symbols: &[usize], switched: bool) -> bool {
     match switch_of(words) {
         Some(mut switch) => {

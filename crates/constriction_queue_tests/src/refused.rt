@@ -118,7 +118,7 @@ fn call_goes(alloc: Global, table: &Table, call: &Call) -> Result<(), Fail> {
     }
 }
 
-/// Encodes symbols with a flag, and after a refusal the remaining symbols. Returns the error of the test, or `DONE`.
+/// Encodes symbols with a flag, and encodes the remaining symbols after a refusal. Returns the test's error, or `DONE`.
 fn flagged_goes(alloc: Global, encoder: &mut Coder, tables: &Tables) -> &'static str {
     if goes(alloc, encoder, &tables.first, START) != DONE {
         return MEMORY;

@@ -207,9 +207,12 @@ enum Put {
     Items,
 }
 
-/// The verbs that encode symbols: one by one, as a list with one model, as pairs of a symbol and a model, and as items.
+/// The verbs that encode symbols.
 ///
-/// Among the items, `bad7` is an error.
+/// - `put` encodes symbols one by one.
+/// - `list` encodes a list of symbols with one model.
+/// - `pairs` encodes a list of pairs, each of a symbol and a model.
+/// - `items` encodes a list of items, among which `bad7` is an error.
 const PUTS: &[(&str, Put)] = &[
     ("put", Put::Each),
     ("list", Put::List),

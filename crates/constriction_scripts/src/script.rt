@@ -24,7 +24,7 @@ pub struct Act<'a> {
 #[derive(Clone, Copy)]
 struct Place {
     word: &'static str,
-    /// The script from the act on.
+    /// The script's text, from this act to the end.
     rest: &'static str,
     /// How many numbers of the script come before the act's numbers.
     from: usize,
@@ -67,7 +67,7 @@ pub fn find<Verb: Copy>(verbs: &[(&str, Verb)], word: &str) -> Option<Verb> {
     None
 }
 
-/// Returns the rest of `text`, from the first word at or after the byte `at` on.
+/// Returns the part of `text` that begins with the first word at or after the byte `at`.
 fn rest_at(text: &'static str, at: usize) -> &'static str {
     text.get(at..).unwrap_or("").trim_start()
 }

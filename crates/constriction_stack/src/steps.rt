@@ -8,7 +8,7 @@ ghost use Rattle.constriction_stack.specs.Ans.{EncodesOnto, RefillsBy, refilled,
 use constriction_base::backends::{Holds, ReadWords, Stack, WriteWords};
 use constriction_words::{BitArray, Reciprocal, WordOf};
 
-/// Decodes the symbol with the start `left` and the weight `p`, and returns the head before renormalization.
+/// Returns the head after decoding the symbol with the start `left` and the weight `p`, not yet renormalized.
 #[inline]
 pub fn popped_head<State: BitArray>(head: State, left: State, p: State, precision: u32) -> State
     requires within { precision < State.BITS }

@@ -32,7 +32,7 @@ fn calls_of_a_coder(rt: HostRuntime) -> Result<(), Fail> {
     )
 }
 
-/// Checks list calls in both orders, with one model, pairs and items.
+/// Checks list calls of symbols with one model, of pairs and of items, in both orders, and the iterators that decode.
 #[test]
 fn calls_of_lists(rt: HostRuntime) -> Result<(), Fail> {
     small(
@@ -49,7 +49,7 @@ fn calls_of_lists(rt: HostRuntime) -> Result<(), Fail> {
     )
 }
 
-/// Checks that a coder that encoded more symbols can seek back to a position, and not past its end.
+/// Checks that a coder can seek back to a position after further encodes, but not past the end of its words.
 #[test]
 fn calls_of_positions(rt: HostRuntime) -> Result<(), Fail> {
     small(

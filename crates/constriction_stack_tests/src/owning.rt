@@ -102,7 +102,7 @@ where
 
 /// Replaces the coder by a coder that imports the words `numbers`. Returns the answer.
 ///
-/// The answer is `none` if the import is refused, and hands back all words except the last.
+/// The answer is `none` if the import is refused, and the error has all words except the last.
 fn import<Word, State>(
     alloc: Global,
     coder: &mut AnsCoder<Word, State>,
@@ -170,7 +170,7 @@ where
     AnsCoder::from_raw_parts(bulk, state)
 }
 
-/// Replaces the coder by another coder, in the way `make`. Returns the answer.
+/// Replaces the coder by another coder, in the way that `make` names. Returns the answer.
 fn make_by<Word, State>(
     alloc: Global,
     coder: &mut AnsCoder<Word, State>,
@@ -298,7 +298,7 @@ where
     }
 }
 
-/// Gets a decoder in the way `lend`. Returns whether it decodes `symbols`, and is empty afterwards.
+/// Gets a decoder in the way that `lend` names. Returns whether it decodes `symbols`, and is empty afterwards.
 fn lend_by<Word, State, Probability, const PRECISION: usize>(
     alloc: Global,
     coder: &mut AnsCoder<Word, State>,

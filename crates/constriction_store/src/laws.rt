@@ -40,8 +40,8 @@ pub fn other_words_are_not_read()
 
 /// Looks up the chunks with the numbers `places`, in order.
 ///
-/// For a store from [`Store::build`], the call returns the chunks with these numbers that the caller passed to `build`.
-/// For any store, it returns the symbols that the store's words encode at the entries with these numbers.
+/// For a store from [`Store::build`], the returned chunks equal the chunks with these numbers in the argument of
+/// `build`. For any store, they are the symbols that the store's words encode at the entries with these numbers.
 ///
 /// # Errors
 ///

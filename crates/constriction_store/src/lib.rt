@@ -30,8 +30,8 @@ pub const MOST_SYMBOLS: usize = 1048576;
 
 /// Chunks of symbols under one model: the words of a range encoder, and an index of where each chunk begins.
 ///
-/// Contracts describe a store by a `Stored`: the values of its words, the entries of its index, and its model.
-/// [`Store::build`] and [`Store::chunk`] have examples.
+/// The width of `State` is a whole number of words, at least two. Contracts describe a store by a `Stored`: the values
+/// of its words, the entries of its index, and its model. [`Store::build`] and [`Store::chunk`] have examples.
 #[derive(Drop)]
 pub struct Store<
     Word: WordOf<State>,

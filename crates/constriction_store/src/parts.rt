@@ -16,6 +16,8 @@ use thiserror::Error;
 pub struct BadIndex;
 
 /// Returns whether no position in `index` is above `count`, and the total of symbols is at most [`MOST_SYMBOLS`].
+///
+/// `count` is the number of words.
 fn index_fits<Word: WordOf<State>, State: BitArray>(
     count: usize,
     index: &[(usize, RangeCoderState<Word, State>, usize)],

@@ -18,9 +18,9 @@ fn looks_up(alloc: Global, store: &Halves) -> Result<bool, AllocError> {
     }
 }
 
-/// Looks up the first chunk, and checks it. If memory is refused, the call repeats the look-up.
+/// Looks up the first chunk, and checks it. If memory is refused, the function repeats the look-up.
 ///
-/// If the second look-up succeeds, the call fails with the error `chunk`.
+/// If the second look-up succeeds, the function returns the error `chunk`.
 fn look_up(alloc: Global, store: &Halves) -> Result<(), Fail> {
     match looks_up(alloc, store) {
         Ok(true) => Ok(()),
@@ -31,7 +31,8 @@ fn look_up(alloc: Global, store: &Halves) -> Result<(), Fail> {
 
 /// Builds a store of `chunks`, and looks up its first chunk.
 ///
-/// If memory is refused for the build, the call repeats it. If this succeeds, the call fails with the error `build`.
+/// If memory is refused for the build, the function builds the store again. If the second build and its look-up
+/// succeed, the function returns the error `build`.
 fn build(alloc: Global, chunks: &[Vec<usize>]) -> Result<(), Fail> {
     match Halves::build(alloc, chunks, halves(alloc)?) {
         Ok(store) => look_up(alloc, &store),

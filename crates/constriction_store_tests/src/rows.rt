@@ -105,7 +105,7 @@ fn store_of_one_symbol_too_many(rt: HostRuntime) -> Result<(), Fail> {
     Ok(())
 }
 
-/// Makes a store with one chunk of one symbol at `place`. Returns the error of its look-up, or `None`.
+/// Makes a store with one chunk of one symbol at `place`. Returns the error of looking up this chunk, or `None`.
 fn one_symbol(alloc: Global, words: &[u32], place: usize) -> Result<Option<ChunkError>, Fail> {
     match from_parts(alloc, words, &[(place, 0, u64::MAX, 1)])? {
         Some(store) => Ok(refuses(alloc, &store, 0)),

@@ -4,9 +4,9 @@
 //! decode each beginning and each rest of two exports in 32-bit words. The program combines raw parts and positions of
 //! other coders with the lists of at most one byte, and with the beginnings and rests of the exports.
 //!
-//! A sum that depends on the order collects each answer and each number that a coder returns. The program prints a line
-//! for each kind of case: the number of cases, and the sum. `tests/strangers` computes the same lines separately, from
-//! the definitions.
+//! A sum collects each answer and each number that a coder returns, and depends on their order. The program prints a
+//! line for each kind of case: the number of cases, and the sum. `tests/strangers` computes the same lines separately,
+//! from the definitions.
 #![tactic(auto)]
 
 mod bits;

@@ -101,7 +101,7 @@ pub trait Decode<const PRECISION: usize>: Code {
         }
     }
 
-    /// Returns an iterator that decodes one symbol for each model of `models`. An item may instead be an error.
+    /// Returns an iterator that decodes one symbol for each model, from items that are either a model or an error.
     ///
     /// For an item `Err(error)`, the iterator returns `InvalidEntropyModel(error)` and leaves the decoder unchanged.
     /// For a model, it decodes a symbol as the iterator of [`decode_symbols`](Decode::decode_symbols) does.

@@ -1,4 +1,4 @@
-//! Callers that are generic over coders, and know a coder by its traits alone.
+//! Callers that are generic over coders, and use only the coders' traits.
 
 ghost use Rattle.std.specs.Prelude.{◌≡◌, ◌<◌, ◌≤◌, ◌↔◌, ◌∷◌, ◌++◌, List, length, reverse, IfOk, IfErr, IfSome, MatchOption, Ok, Err};
 ghost use Rattle.constriction_base.specs.declared.errors.CoderError.TheVariants as coder_error;
@@ -219,7 +219,7 @@ where
     Some(coder.encode_symbol(symbol, model))
 }
 
-/// Decodes a symbol, or returns `None` if the coder may be exhausted. The decode's error isn't an end of the data.
+/// Decodes a symbol, or returns `None` if the coder may be exhausted. An error never means that the data ended.
 pub fn decode_unless_exhausted<C, M>(
     coder: &mut C,
     model: &M,

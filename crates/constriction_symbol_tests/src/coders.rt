@@ -44,7 +44,7 @@ pub fn word_queue<Word: BitArray>(words: &[Word]) -> LentQueue<'_, Word> {
     QueueDecoder::from_compressed(Cursor::new_at_write_beginning(words))
 }
 
-/// Returns whether the coder has `len` bits, by its `len` and its `is_empty`.
+/// Returns whether the coder's methods `len` and `is_empty` agree that it has `len` bits.
 pub fn has_len<Word: BitArray, S: Semantics, B: BoundedReadWords<Word, Stack>>(
     coder: &SymbolCoder<Word, S, B>,
     len: usize,

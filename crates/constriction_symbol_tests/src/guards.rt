@@ -37,7 +37,7 @@ pub fn shows_five(coder: &mut DefaultQueueEncoder) -> bool {
         && has_len(coder, 3)
 }
 
-/// Returns whether the iterator returns the bits `101` and the zeros that fill their word, and then ends.
+/// Turns a queue into an iterator. Returns whether it returns the bits `101` and 29 zeros that fill the word, and ends.
 fn overshoots(coder: DefaultQueueEncoder) -> bool {
     match coder.into_overshooting_iter() {
         Ok(mut bits) => {
@@ -61,7 +61,7 @@ fn queue_bits(rt: HostRuntime) -> Result<(), Fail> {
     Ok(())
 }
 
-/// Returns whether the iterator returns the bits `101`, and then ends.
+/// Turns a stack into an iterator. Returns whether the iterator returns the bits `101`, and then ends.
 fn iterates(coder: DefaultStackCoder) -> bool {
     let mut bits = coder.into_iterator();
     matches!(bits.next(), Some(Ok(true)))

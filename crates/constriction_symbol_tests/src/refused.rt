@@ -38,8 +38,9 @@ enum Call {
     PairsBack,
 }
 
-/// A call, its name, the bits before the call, the bits that the call writes, and the least number of bits that a
-/// refused call writes.
+/// A call, its name, the coder's bits before the call, and the bits that the call writes.
+///
+/// The last field is the least number of bits that a refused call writes.
 type Row = (Call, &'static str, &'static [u8], &'static [u8], usize);
 
 /// Three full words of bits.

@@ -128,7 +128,7 @@ fn golomb_empty_line(rt: HostRuntime) {
     assert!(rt; queue_goes::<u32, u32>(rt.alloc(), &[], &[], 0));
 }
 
-/// Returns whether a queue may be exhausted after `bits` and `last`, and neither before `bits` nor before `last`.
+/// Reads `bits` and then `last` from the queue of `words`. Returns whether it may be exhausted only after `last`.
 fn is_exhausted_behind(words: &[u32], bits: &[u8], last: &[u8]) -> bool {
     let mut decoder = word_queue(words);
     !decoder.maybe_exhausted()

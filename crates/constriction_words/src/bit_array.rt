@@ -31,8 +31,8 @@ mod of_usize;
 /// - The number of a `NonZero` is above 0.
 /// - `BITS` is between 8 and 128.
 ///
-/// No method shares its name with a method of `num_traits`. Code that needs both traits writes both bounds, as in
-/// `Word: BitArray + PrimInt`, and calls every method by its bare name.
+/// No method shares its name with a method of `num_traits`. Code that needs `BitArray` and a trait of `num_traits`
+/// writes both bounds, as in `Word: BitArray + PrimInt`, and calls every method by its bare name.
 ///
 /// # Examples
 ///

@@ -25,8 +25,8 @@
 //! }
 //! ```
 //!
-//! No method of `BitArray` or `WordOf` shares its name with a method of `num_traits`. Code that needs both writes both
-//! bounds, as in `Word: BitArray + PrimInt`, and calls every method by its bare name.
+//! No method of `BitArray` or `WordOf` shares its name with a method of `num_traits`. Code that needs `BitArray` and a
+//! trait of `num_traits` writes both bounds, as in `Word: BitArray + PrimInt`, and calls every method by its bare name.
 #![tactic(auto)]
 
 pub mod bit_array;

@@ -85,8 +85,8 @@ pub trait Seek: PosSeek {
 /// A value that can always seek to its current position.
 ///
 /// An implementor proves two laws, which tie [`Pos`] to [`Seek`]. For each position that `stands_at` allows, `can_seek`
-/// holds, and `seek_fails` doesn't hold. Therefore a seek to the current position always succeeds. The laws are a
-/// separate trait, because a coder may implement [`Pos`] over one backend and [`Seek`] over another backend.
+/// holds, and `seek_fails` doesn't hold. Therefore a seek to the current position always succeeds. The laws have their
+/// own trait, because a coder may implement [`Pos`] over one backend and [`Seek`] over another backend.
 pub trait SeeksBack: Pos + Seek {
     // `can_seek` holds for the current position.
     ghost reach_law: { (b : Self) (position : Self.Position) → Self.stands_at b position → Self.can_seek b position };

@@ -30,7 +30,7 @@ impl<Word: BitArray, Buf: WordsMut<Word> + Drop> Cursor<Word, Buf> {
         }
     }
 
-    /// Reverses the buffer and returns a `Reverse` over it, with the same stack and the same queue.
+    /// Reverses the buffer and returns a `Reverse` that holds the same stack and the same queue.
     ///
     /// In the reversed buffer, the stack's words lie in the order in which the stack reads them.
     ///

@@ -95,7 +95,7 @@ where
 
 /// Fills `symbols` with symbols decoded from `words` in binary form, with a table of weights.
 ///
-/// Copies the remainders to `out`, as many words as fit. Returns their total number, or 0 after a failure.
+/// Copies the remainders to `out`, as many words as fit. Returns the total number of words, or 0 after a failure.
 #[unsafe(no_mangle)]
 pub extern "C" fn constriction_bench_chain_decode_u32u64p24_table(
     alloc: Global,
@@ -130,7 +130,7 @@ pub extern "C" fn constriction_bench_chain_encode_u32u64p24_table(
 
 /// Fills `symbols` with symbols below `2^bits`, decoded from `words` in binary form with equal weights.
 ///
-/// Copies the remainders to `out`, as many words as fit. Returns their total number, or 0 after a failure.
+/// Copies the remainders to `out`, as many words as fit. Returns the total number of words, or 0 after a failure.
 #[unsafe(no_mangle)]
 pub extern "C" fn constriction_bench_chain_decode_u32u64p24_flat(
     alloc: Global,

@@ -49,7 +49,7 @@ impl<
         EncodeReverse::<PRECISION>::encode_symbols_reverse(self, symbols_and_models)
     }
 
-    /// Encodes symbols from last to first, each with its own model. Any item may be an error instead.
+    /// Encodes symbols from last to first, from items that are either a symbol with its own model or an error.
     ///
     /// # Errors
     ///

@@ -46,6 +46,8 @@ impl<
     ghost can_tell = { λ coder. C.can_tell coder.compressed × R.can_tell coder.remainders };
 
     /// Returns the backends' positions and the heads.
+    ///
+    /// The caller proves that `can_tell` holds for both backends. It always holds for vectors and cursors.
     fn pos(
         &self,
     ) -> (

@@ -1,4 +1,4 @@
-//! A law of the chain coder, and the room of its backends after a decode or an encode that fails.
+//! A law of the chain coder, and calls whose contracts bound the room of the backends after a failed step.
 
 ghost use Rattle.std.specs.Bool.{OnFalse};
 ghost use Rattle.std.specs.Prelude.{IfErr, IfNone, IfOk, IfSome, [], ◌≡◌, ◌≤◌};

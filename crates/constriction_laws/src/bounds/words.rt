@@ -1,4 +1,4 @@
-//! An exchange on a stack coder decodes one symbol and then encodes another. A bound limits the words that it adds.
+//! Bounds the number of words that an exchange adds to a stack coder: decoding one symbol, then encoding another.
 //!
 //! The bound is proved from the coder's public contract and the laws of [`bounds`](crate::bounds) alone.
 

@@ -11,8 +11,8 @@ use crate::queue::lists::decodes_undo_encodes;
 
 /// An encoder's interval has only one list of self-delimiting words.
 ///
-/// If `State` is two words wide, the list equals the sealed words. After it decodes the last encoded symbol from the
-/// list, a decoder may be exhausted. Both facts are about encoders that start from the initial interval.
+/// If `State` is two words wide, the list equals the sealed words. A decoder may be exhausted after it decodes the last
+/// encoded symbol from the list. Both facts are about encoders that start from the initial interval.
 pub fn self_delimiting_words<Symbol>()
     ensures one { (w s : ℕ) (last : Run) (words others : List ℕ) → SelfDelimits w s last words →
         SelfDelimits w s last others → others ≡ words }
@@ -47,8 +47,8 @@ pub fn symbols_come_back_whatever_follows<Symbol>()
 
 /// A seal with fewer zero words than the least sufficient number isn't self-delimiting.
 ///
-/// For some words `rest`, decoding the seal with fewer zero words, followed by `rest`, doesn't return the symbols. The
-/// encoder starts from the initial interval and encodes at least one symbol.
+/// There are words `rest` that spoil decoding: if `rest` follows a seal with fewer zero words, the decoder doesn't
+/// return the symbols. The encoder starts from the initial interval and encodes at least one symbol.
 pub fn fewer_zero_words_hold_less<Symbol>()
     ensures { (w s count fewer : ℕ) (first : Item Symbol) (others : List (Item Symbol)) (last : Run) → IsSizes w s →
         AreModels w (first ∷ others) → NarrowsAll w s (first ∷ others) (initial s) last →

@@ -3,9 +3,9 @@
 //! Each symbol has its own table, with any allowed precision. The laws follow from the laws of one step by
 //! [`lists_undo`]. The steps of that law take encodes back, from the last to the first.
 //!
-//! An interval (`Run`) has a lower end in unbounded numbers and a range. It also counts the encoder's moves `n`: how
-//! many words the encoder has moved out. Words lie within an interval if their number lies in it. This number has the
-//! first `n+s/w` words as digits. Digits past the last word are 0.
+//! An interval (`Run`) has a lower end, which is an unbounded number, and a range. It also has the number `n` of words
+//! that the encoder has moved out. Words lie within an interval if the number that they form lies in the interval. The
+//! digits of this number are the first `n + s/w` words. Digits past the last word are 0.
 
 ghost use Rattle.std.specs.Prelude.{◌≡◌, ◌↔◌, ◌∷◌, ℕ, List};
 ghost use Rattle.constriction_base.specs.Models.{Item, IsModel, models, AreModels, AreKnown};
@@ -68,7 +68,7 @@ pub fn decodes_undo_encodes<Symbol>()
     lists_undo::<Encoding<Symbol>>()
 }
 
-/// Words decode to a nonempty list of symbols exactly if they lie within the interval to which encoding it leads.
+/// Words decode to a nonempty list of symbols exactly if they lie within the interval after encoding the list.
 ///
 /// The encoder and the decoder start from the initial interval.
 pub fn symbols_of_any_words<Symbol>()

@@ -1,7 +1,8 @@
 //! Positions of the range coder. Seeking to a position leads a decoder to the interval at which it was recorded.
 //!
-//! A position is the number of words written and held, and the interval. It stays usable in all words that the encoder
-//! exports later, whatever symbols it encodes in between. This holds even if a carry changes the held words.
+//! A position is the number of words written and held, and the interval. A position stays usable in all words that the
+//! encoder exports later, whatever symbols the encoder encodes in between. This holds even if a carry changes the held
+//! words.
 
 ghost use Rattle.std.specs.Prelude.{◌≡◌, ◌/◌, ◌^◌, ℕ, List, drop};
 ghost use Rattle.constriction_base.specs.Models.{Item, models, AreModels};
@@ -51,7 +52,7 @@ pub fn symbols_after_a_position<Symbol>()
 /// Proves that the lower end and the range of any encoder form a valid interval, whatever words it has written.
 ///
 /// So the clause `anywhere` of [`symbols_after_a_position`] covers each position of the encoder: decoding from the
-/// position returns the symbols encoded since then.
+/// position returns the symbols that were encoded after the position was recorded.
 pub fn run_of_any_encoder<Word: WordOf<State>, State: BitArray, Backend: WriteWords<Word>>(
     encoder: &RangeEncoder<Word, State, Backend>,
 )

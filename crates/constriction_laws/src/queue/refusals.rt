@@ -10,7 +10,7 @@ use constriction_words::{BitArray, WordOf};
 
 /// If a backend has room for the words held and one more word, it refuses no step of the encoder.
 ///
-/// The words held are the words that a carry may still change. A long enough cursor is an example of this backend.
+/// The words held are the words that a carry may still change. For example, a long enough cursor has this room.
 pub fn room_is_enough<Word: WordOf<State>, State: BitArray, Backend: WriteWords<Word>>()
     ensures { (old : Encoder Backend) (step : Step) (e : Backend.WriteError) (new : Encoder Backend) →
         length old.held + 1 ≤ Backend.room old.bulk →

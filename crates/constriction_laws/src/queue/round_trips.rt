@@ -1,9 +1,9 @@
 //! Callers of the range coder, generic in the sizes of words, states and tables.
 //!
 //! Each function is one half of a round trip: it encodes symbols and returns words, or it takes words and decodes
-//! symbols. Its docstring names the calls that it makes. Its contract describes their combined effect in the
-//! definitions of the laws. A caller of both halves joins them by a law of [`lists`](crate::queue::lists), or by a
-//! clause of the half that reads. The clause `err` of a function proves the reason for each error except `Refused`.
+//! symbols. Its docstring names the calls that it makes. Its contract uses the laws' definitions to describe the
+//! combined effect of these calls. A caller of both halves joins them by a law of [`lists`](crate::queue::lists), or by
+//! a clause of the half that reads. The clause `err` of a function proves the reason for each error except `Refused`.
 //!
 //! - [`lent_pairs`]: the words that an encoder lends.
 //! - [`pairs`]: exported words, and any words.

@@ -21,7 +21,7 @@ use constriction_words::BitArray;
 /// The words of a backend over an iterator are the words that the iterator will return.
 ///
 /// The function `words` lists the words that an iterator will return. The function `words_left words` lists the words
-/// of a backend over that iterator: no words after the iterator has ended.
+/// of a backend over that iterator. If the iterator has ended, this list is empty.
 pub fn items_are_words<Word, ReadError, Iter: Iterator<Item = Result<Word, ReadError>>>()
     ensures { (words : Iter → List Word) → TellsItems Iter.next_gives words →
         TellsWords (FusedRead Iter.next_gives) (words_left words) }

@@ -1,8 +1,8 @@
 //! Callers of the stack coder, generic in the sizes of words, heads and tables.
 //!
 //! Each function is one half of a round trip: it encodes symbols and returns words, or it takes words and decodes
-//! symbols. Its docstring names the calls that it makes. Its contract describes their combined effect in the
-//! definitions of the laws. A caller of both halves joins them by a law of [`lists`](crate::stack::lists) or
+//! symbols. Its docstring names the calls that it makes. Its contract uses the laws' definitions to describe the
+//! combined effect of these calls. A caller of both halves joins them by a law of [`lists`](crate::stack::lists) or
 //! [`words`](crate::stack::words), or by the clause `back` of the half that reads.
 //!
 //! - [`binary`]: any words, in binary form.

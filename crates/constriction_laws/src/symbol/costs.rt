@@ -16,7 +16,7 @@ use constriction_words::BitArray;
 use std::alloc::Global;
 use std::convert::Infallible;
 
-/// Makes a Huffman tree for encoding from `weights`. No other codebook costs less under these weights.
+/// Makes a Huffman tree of `weights` for an encoder. No other codebook costs less under these weights.
 ///
 /// The tree's cost is the sum of weight times length over the codewords of the symbols `0`, `1`, .., one for each
 /// weight. For another codebook, the sum is over the codewords of any list with one symbol for each weight. No two

@@ -121,11 +121,12 @@ impl<
 
     /// Returns whether all encoded symbols may have been decoded.
     ///
-    /// The call returns `true` exactly if both conditions hold:
+    /// The call returns `true` exactly if the backend's `maybe_exhausted` returns `true` and one of these conditions
+    /// holds:
     ///
-    /// - The backend's `maybe_exhausted` returns `true`.
-    /// - The length of the interval is `2^State::BITS - 1`, as it is if no symbol was decoded, or the distance of the
-    ///   point from the interval's lower end is below `2^(State::BITS - Word::BITS + 1) - 1`, as it is after a seal.
+    /// - The length of the interval is `2^State::BITS - 1`, as it is if no symbol was decoded.
+    /// - The distance of the point from the interval's lower end is below `2^(State::BITS - Word::BITS + 1) - 1`, as it
+    ///   is after a seal.
     #[inline]
     fn maybe_exhausted(&self) -> bool
         ensures value { IsTrue result ↔ MayBeExhausted Word.BITS State.BITS Backend.seems_exhausted self.now }

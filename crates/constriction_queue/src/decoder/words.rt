@@ -21,8 +21,8 @@ impl<Word: WordOf<State>, State: BitArray, Backend: ReadWords<Word, Queue>> Rang
 > {
     /// Creates a decoder over a backend, and reads as many words as a `State` has.
     ///
-    /// If the backend has fewer words, the decoder stops at the first read that finds no word. It uses zero words for
-    /// the missing words.
+    /// If the backend has fewer words, the decoder stops reading at the first read that finds no word. It uses zero
+    /// words for the missing words.
     ///
     /// # Errors
     ///
@@ -128,7 +128,7 @@ impl<Word: WordOf<State>, State: BitArray, Backend: Holds<Word, Queue>> RangeDec
     State,
     Backend,
 > {
-    /// Creates a decoder from a backend with the remaining words, an interval, and a point.
+    /// Creates a decoder from an interval, a point, and a backend that holds the remaining words.
     ///
     /// The point is the number formed by the last words read. It consists of as many words as a `State` has.
     ///

@@ -121,6 +121,8 @@ impl<Word: WordOf<State>, State: BitArray, Backend: BoundedReadWords<Word, Stack
     }
 
     /// Returns the number of words that [`RangeEncoder::into_compressed`] returns.
+    ///
+    /// The caller proves that the number of bits of these words fits a `usize`, as [`RangeEncoder::sizes_fit`] tests.
     pub fn num_words(&self) -> usize
         requires { SizesFit Word.BITS State.BITS self.now }
         ensures { result ≡ length (sealed_by Word.BITS State.BITS self.now) }
@@ -130,6 +132,8 @@ impl<Word: WordOf<State>, State: BitArray, Backend: BoundedReadWords<Word, Stack
     }
 
     /// Returns the number of bits of the words that [`RangeEncoder::into_compressed`] returns.
+    ///
+    /// The caller proves that this number fits a `usize`, as [`RangeEncoder::sizes_fit`] tests.
     pub fn num_bits(&self) -> usize
         requires { SizesFit Word.BITS State.BITS self.now }
         ensures { result ≡ Word.BITS * length (sealed_by Word.BITS State.BITS self.now) }

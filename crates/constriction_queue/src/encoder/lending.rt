@@ -23,7 +23,7 @@ impl<Word: WordOf<State>, State: BitArray, A: Allocator> RangeEncoder<Word, Stat
     ///
     /// # Errors
     ///
-    /// Returns `AllocError` if the vector has to grow and there is no memory. The call doesn't call `f`, and the
+    /// Returns `AllocError` if the vector has to grow and there is no memory. In this case `f` isn't called, and the
     /// encoder is unchanged.
     ///
     /// # Examples

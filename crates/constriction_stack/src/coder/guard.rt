@@ -120,10 +120,11 @@ where
         Ok(count)
     }
 
-    /// Writes the head's words below its leading 1 onto the backend, keeps the head, and returns how many it wrote.
+    /// Writes the words of the head below its leading 1 to the backend, and returns how many words it wrote.
     ///
-    /// Returns `Frontend(())` exactly if the head is 0, or if its bit length minus 1 isn't a multiple of `Word::BITS`.
-    /// If the backend refuses room or a write, the call removes the words that it wrote, unless a read fails.
+    /// The head is unchanged. Returns `Frontend(())` exactly if the head is 0, or if its bit length minus 1 isn't a
+    /// multiple of `Word::BITS`. If the backend refuses room or a write, the call removes the words that it wrote,
+    /// unless a read fails.
     fn put_binary(&mut self) -> Result<usize, CoderError<(), Backend::WriteError>>
         ensures coder { IsCoder Word.number Backend.Holds Word.BITS State.BITS self.old }
         ensures shows { OnOk result (ShowsBinary Word.BITS self.old.state self.new.state) }

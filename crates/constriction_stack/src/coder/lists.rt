@@ -50,7 +50,7 @@ impl<Word: WordOf<State>, State: BitArray, Backend: WriteWords<Word>> AnsCoder<
         EncodeReverse::<PRECISION>::encode_symbols_reverse(self, symbols_and_models)
     }
 
-    /// Encodes symbols from last to first, each with its own model, where any item may be an error instead.
+    /// Encodes symbols from last to first, from items that are either a symbol with its own model or an error.
     ///
     /// # Errors
     ///

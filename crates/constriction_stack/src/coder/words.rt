@@ -244,7 +244,8 @@ impl<Word: WordOf<State>, State: BitArray, Backend: BoundedReadWords<Word, Stack
 
     /// Returns the number of words that [`AnsCoder::into_compressed`] returns.
     ///
-    /// These are the words below the head, and the words of the head without leading zero words.
+    /// These are the words below the head, and the words of the head without leading zero words. The caller proves that
+    /// the number of their bits fits a `usize`, as [`AnsCoder::sizes_fit`] tests.
     pub fn num_words(&self) -> usize
         requires { SizesFit Word.BITS self.now.state }
         ensures { result ≡ length (exported Word.BITS self.now.state) }
@@ -253,6 +254,8 @@ impl<Word: WordOf<State>, State: BitArray, Backend: BoundedReadWords<Word, Stack
     }
 
     /// Returns the number of bits of the words that [`AnsCoder::into_compressed`] returns.
+    ///
+    /// The caller proves that this number fits a `usize`, as [`AnsCoder::sizes_fit`] tests.
     pub fn num_bits(&self) -> usize
         requires { SizesFit Word.BITS self.now.state }
         ensures { result ≡ Word.BITS * length (exported Word.BITS self.now.state) }
@@ -263,7 +266,8 @@ impl<Word: WordOf<State>, State: BitArray, Backend: BoundedReadWords<Word, Stack
     /// Returns the number of bits that carry information.
     ///
     /// These are the bits of the words below the head, and the bits of the head below its leading 1. For an empty
-    /// coder, the number is 0.
+    /// coder, the number is 0. The caller proves that [`AnsCoder::num_bits`] would fit a `usize`, as
+    /// [`AnsCoder::sizes_fit`] tests.
     pub fn num_valid_bits(&self) -> usize
         requires { SizesFit Word.BITS self.now.state }
         ensures { result ≡ valid_bit_count Word.BITS self.now.state }

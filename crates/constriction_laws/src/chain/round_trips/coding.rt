@@ -1,4 +1,4 @@
-//! List calls of the chain coder. Their contracts describe the states that they reach, in the definitions of the laws.
+//! List calls of the chain coder. Their contracts use the laws' definitions to describe the states that they reach.
 
 ghost use Rattle.std.specs.Prelude.{◌≡◌, length, reverse, IfErr, IfOk, OnOk};
 ghost use Rattle.constriction_base.specs.Models.{pairs_of};
@@ -61,6 +61,8 @@ where
 }
 
 /// Encodes symbols from last to first, each with its own model.
+///
+/// The caller proves that there are as many models as symbols.
 ///
 /// # Errors
 ///

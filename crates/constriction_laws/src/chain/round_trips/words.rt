@@ -64,7 +64,7 @@ where
 ///
 /// # Errors
 ///
-/// Every case of [`PutBackError`]. Each case except `NoMemory` is returned only for the reason that it names.
+/// Returns a [`PutBackError`]. Each case except `NoMemory` is returned only for the reason that it names.
 pub fn put_back_pairs<
     Word: WordOf<State>,
     State: BitArray,

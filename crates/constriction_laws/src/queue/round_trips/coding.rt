@@ -1,5 +1,5 @@
-//! List calls of the range coder. Their contracts relate the intervals before and after, in the definitions of the
-//! laws.
+//! List calls of the range coder. Their contracts use the laws' definitions to relate the intervals before and after a
+//! call.
 
 ghost use Rattle.std.specs.Prelude.{◌≡◌, ◌↔◌, ◌+◌, ◌<◌, ◌≤◌, ℕ, List, length, IfOk, IfErr, IsTrue};
 ghost use Rattle.constriction_base.specs.Models.{pairs_of};
@@ -23,7 +23,8 @@ use std::alloc::Global;
 
 /// Encodes symbols in order, each with its own model.
 ///
-/// Each symbol in order narrows the interval of the encoder.
+/// Each symbol in order narrows the interval of the encoder. The caller proves that there are as many models as
+/// symbols.
 ///
 /// # Errors
 ///

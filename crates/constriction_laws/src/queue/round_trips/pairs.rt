@@ -33,7 +33,7 @@ use std::alloc::Global;
 /// Encodes symbols, each with its own model, and returns the words that the encoder then exports.
 ///
 /// Calls `encode_symbols` and `into_compressed`. If the encoder starts from the initial interval, the clause `few`
-/// bounds the number of words.
+/// bounds the number of words. The caller proves that there are as many models as symbols.
 ///
 /// # Errors
 ///

@@ -23,8 +23,8 @@ use std::alloc::Global;
 
 /// Decodes one symbol for each model, from a position in words.
 ///
-/// Calls `from_compressed`, `seek` and `decode_symbols`. `position` is the number of words before it, and the range
-/// coder's `lower` and `range` there.
+/// Calls `from_compressed`, `seek` and `decode_symbols`. `position` consists of the number of words before the
+/// position, and the interval (`lower` and `range`) at the position.
 ///
 /// # Errors
 ///

@@ -1,4 +1,4 @@
-//! Symbols decoded from any words, and encoded back to these words, in binary form.
+//! Symbols decoded from any words in binary form, and encoded back to these words.
 
 ghost use Rattle.std.specs.Prelude.{◌≡◌, ℕ, List, length, map, reverse, IfOk, IfErr};
 ghost use Rattle.constriction_base.specs.Models.{pairs_of};
@@ -57,8 +57,9 @@ where
 
 /// Encodes symbols from last to first, each with its own model, and returns the coder's words in binary form.
 ///
-/// Calls `encode_symbols_reverse` and `into_binary`. If decoding `symbols` with these models from words in binary form
-/// led to the state of `coder`, the call returns those words.
+/// Calls `encode_symbols_reverse` and `into_binary`. Suppose that a coder was imported from words in binary form, and
+/// decoding `symbols` with these models led to the state of `coder`. Then the call returns those words. The caller
+/// proves that there are as many models as symbols.
 ///
 /// # Errors
 ///

@@ -1,4 +1,4 @@
-//! List calls of the stack coder. Their contracts describe the states that they reach, in the definitions of the laws.
+//! List calls of the stack coder. Their contracts use the laws' definitions to describe the states that they reach.
 
 ghost use Rattle.std.specs.Prelude.{◌≡◌, List, length, reverse, IfOk, IfErr, OnOk};
 ghost use Rattle.constriction_laws.specs.Outcomes.{HasImpossibleItem, OnlyRefused, UnlessImpossible};
@@ -18,6 +18,8 @@ use constriction_words::{BitArray, WordOf};
 use std::alloc::Global;
 
 /// Encodes symbols from last to first, each with its own model.
+///
+/// The caller proves that there are as many models as symbols.
 ///
 /// # Errors
 ///

@@ -24,7 +24,7 @@ use std::alloc::Global;
 /// Encodes symbols from last to first, each with its own model, and returns the words that the coder then exports.
 ///
 /// Calls `encode_symbols_reverse` and `into_compressed`. For an empty coder, the clause `few` bounds the number of
-/// words.
+/// words. The caller proves that there are as many models as symbols.
 ///
 /// # Errors
 ///

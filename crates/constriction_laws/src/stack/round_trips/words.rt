@@ -1,4 +1,4 @@
-//! Symbols decoded from exported words in reverse order.
+//! Symbols decoded from exported words that are stored in reverse order.
 
 ghost use Rattle.std.specs.Prelude.{◌≡◌, ℕ, Bool, List, false, length, map, reverse, IfOk, IfErr, OnOk};
 ghost use Rattle.constriction_base.specs.Models.{pairs_of};

@@ -31,7 +31,7 @@ use std::alloc::{AllocError, Global};
 /// - `Frontend(ImpossibleSymbol)`: a codebook has no codeword for its symbol. The codewords of the symbols before it
 ///   are written.
 /// - `Backend(error)`: the backend refused a word, or there was no memory. The codewords of the symbols before the
-///   failing symbol are written, and the bits of its own codeword before the refused bit.
+///   failing symbol are written. Of the failing symbol's codeword, the bits before the refused bit are written.
 pub fn encode_pairs<W: WriteBitStream<Queue>, C: EncoderCodebook>(
     stream: &mut W,
     symbols: &[C::Symbol],
@@ -51,14 +51,14 @@ pub fn encode_pairs<W: WriteBitStream<Queue>, C: EncoderCodebook>(
 /// Encodes symbols from last to first, each with its own codebook, onto a stack.
 ///
 /// Calls `encode_symbols_reverse`. After the call, reading the stack gives the codewords in the order of the list. Then
-/// come the bits that the stack had before the call.
+/// come the bits that the stack had before the call. The caller proves that there are as many codebooks as symbols.
 ///
 /// # Errors
 ///
 /// - `Frontend(ImpossibleSymbol)`: a codebook has no codeword for its symbol. The codewords of the symbols after it in
 ///   the list are written.
 /// - `Backend(error)`: the backend refused a word, or there was no memory. The codewords of the symbols after the
-///   failing symbol are written, and the bits of its own codeword before the refused bit.
+///   failing symbol are written. Of the failing symbol's codeword, the bits before the refused bit are written.
 pub fn encode_pairs_reverse<Word: BitArray, B: WriteWords<Word>, C: EncoderCodebook>(
     coder: &mut StackCoder<Word, B>,
     symbols: &[C::Symbol],
