@@ -3,8 +3,8 @@
 //! The coders come close to the least number of bits that the models allow. A proved contract states what each call
 //! does.
 //!
-//! This crate has no code of its own. It re-exports the items of the crates that it depends on in one tree of modules.
-//! So your crate needs to depend on this crate alone. `specs/` re-exports the definitions that the contracts cite.
+//! This crate has no code of its own. It re-exports, in one tree of modules, the items of the crates that it depends
+//! on. So your crate needs to depend only on this crate. `specs/` re-exports the definitions that the contracts cite.
 //!
 //! ```
 //! use constriction::stream::model::WeightTable;
@@ -43,19 +43,21 @@
 //! # [`base`]: words, backends and models
 //!
 //! The types and traits of numbers, backends, errors and models that coders build on, in one module. Each of them is
-//! also at the root, in [`backends`] or in [`stream::model`].
+//! also in another place: at the root, in [`backends`], or in [`stream::model`].
 //!
 //! # [`backends`]: sources and sinks of words
 //!
-//! - [`backends::ReadWords`], [`backends::WriteWords`]: reading and writing a word of a backend ([`backends::Holds`]).
-//!   [`backends::BoundedReadWords`] returns how many words are left.
+//! - [`backends::ReadWords`], [`backends::WriteWords`]: reading a word from a backend, and writing a word to it.
+//!   [`backends::Holds`]: the list of words that a backend holds. [`backends::BoundedReadWords`] returns how many words
+//!   are left.
 //! - [`backends::IntoReadWords`], [`backends::AsReadWords`], [`backends::IntoSeekReadWords`] and
 //!   [`backends::AsSeekReadWords`]: turning a backend into a reader, or borrowing a backend for a reader.
 //! - [`backends::IntoReversed`]: reversing a backend's buffer in place. The new backend holds the same stack of words.
 //! - [`backends::Words`], [`backends::WordsMut`]: a buffer that lends its words, and a buffer that can change them.
-//! - [`backends::BothWays`], [`backends::CountsWords`], [`backends::SeeksBack`]: requirements of some calls on a
-//!   backend. `BothWays`: the backend holds the same words as a stack and as a queue. `CountsWords`: the backend's
-//!   position is the number of words on its stack. `SeeksBack`: the backend can seek to its current position.
+//! - [`backends::BothWays`], [`backends::CountsWords`], [`backends::SeeksBack`]: properties that some calls require of
+//!   their backend. `BothWays`: the backend holds the same words as a stack and as a queue. `CountsWords`: the
+//!   backend's position is the number of words on its stack. `SeeksBack`: the backend can seek to its current
+//!   position.
 //! - [`backends::written_to_queue`]: turns written words into a reader that begins with the first word.
 //!   [`backends::take_back`]: removes written words again.
 //! - [`backends::Cursor`]: a buffer and a position in it. [`backends::Reverse`]: a cursor read in the other direction.
@@ -109,7 +111,7 @@
 //!
 //! - [`stream::queue::RangeEncoder`], with [`stream::queue::DefaultRangeEncoder`] (32-bit words, 64-bit states) and
 //!   [`stream::queue::SmallRangeEncoder`] (16 and 32 bits). [`stream::queue::RangeCoderState`] and
-//!   [`stream::queue::EncoderSituation`] are its parts.
+//!   [`stream::queue::EncoderSituation`] are parts of an encoder.
 //! - [`stream::queue::RangeDecoder`], with [`stream::queue::DefaultRangeDecoder`] and
 //!   [`stream::queue::SmallRangeDecoder`]. [`stream::queue::DecoderFrontendError`] is the error of words that encode no
 //!   symbol at the decoder's position.
@@ -125,13 +127,13 @@
 //!   [`stream::chain::ChainCoderHeads`] has the two heads of a coder. [`stream::chain::BackendPosition`] has the
 //!   positions of its two backends.
 //! - [`stream::chain::DecoderFrontendError`], [`stream::chain::EncoderFrontendError`], [`stream::chain::BackendError`],
-//!   [`stream::chain::ChangePrecisionError`]: the errors of its calls.
+//!   [`stream::chain::ChangePrecisionError`]: the errors of a chain coder's calls.
 //!
 //! # [`store`]: many lists of symbols in one list of words, where each list is decoded alone
 //!
 //! - [`store::Store`]: chunks of symbols under one model, with an index that has the position of each chunk. A store
 //!   has at most [`store::MOST_SYMBOLS`] symbols. [`store::BuildError`], [`store::ChunkError`] and [`store::BadIndex`]
-//!   are the errors of its calls.
+//!   are the errors of a store's calls.
 //!
 //! # [`symbol`]: symbols as lists of bits
 //!
@@ -141,8 +143,9 @@
 //!   [`symbol::exp_golomb::ExpGolomb`] is a codebook for all numbers.
 //! - [`symbol::huffman::EncoderHuffmanTree`], [`symbol::huffman::DecoderHuffmanTree`]: the Huffman codebook of weights,
 //!   for encoding and for decoding. [`symbol::huffman::HuffmanError`] is the error of weights that make no tree.
-//! - [`symbol::reversed_codeword`]: emits a codeword from its first bit to its last, by a codebook that emits codewords
-//!   from the last bit to the first ([`symbol::SuffixCodebook`]). It reverses the bits in a [`symbol::SmallBitStack`].
+//! - [`symbol::reversed_codeword`]: emits a codeword from its first bit to its last, given a codebook that emits
+//!   codewords from the last bit to the first ([`symbol::SuffixCodebook`]). The call reverses the bits with a
+//!   [`symbol::SmallBitStack`].
 //!
 //! # [`laws`]: theorems about lists of calls
 //!
@@ -162,8 +165,9 @@
 //!   lists. Other modules are about flags, guards and room.
 //! - [`laws::store`]: looking up the chunks of a store in any order, and the words that a look-up reads.
 //! - [`laws::symbol`]: bit coders and codebooks. Decoding queues and stacks of bits returns the encoded symbols, also
-//!   with mixed codebooks. No codeword of Exp-Golomb or of a Huffman tree begins another. [`laws::symbol::costs`] and
-//!   [`laws::symbol::huffman`]: a Huffman tree costs at most as much as any prefix-free codebook.
+//!   with mixed codebooks. No codeword of Exp-Golomb or of a Huffman tree is a prefix of another.
+//!   [`laws::symbol::costs`] and [`laws::symbol::huffman`]: a Huffman tree costs at most as much as any prefix-free
+//!   codebook.
 //! - [`laws::stack`]: the stack coder. [`laws::stack::steps`], [`laws::stack::lists`] and [`laws::stack::words`] are
 //!   about one symbol, lists, and words that are exported and imported. [`laws::stack::round_trips`] encodes and
 //!   decodes lists. Other modules are about binary forms, guards, positions, readings and sizes.

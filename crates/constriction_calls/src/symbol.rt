@@ -10,7 +10,8 @@
 //!
 //! A call that fails leaves the buffers unchanged. It returns the first of these errors that applies:
 //!
-//! - `WrongLength`: the call is to begin past the last bit of the words, or the words have 2^64 bits or more.
+//! - `WrongLength`: the words have fewer than `bit` bits, or 2^64 bits or more. Only [`encode_at`] and [`decode_at`]
+//!   return this error.
 //! - `WrongWeights`: the weights make no Huffman tree. There are no weights or too many, or their sum doesn't fit their
 //!   type.
 //! - `ImpossibleSymbol`: a symbol has no codeword.

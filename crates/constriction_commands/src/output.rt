@@ -77,7 +77,7 @@ fn write_bytes<O: Write>(output: &mut O, bytes: &[u8]) -> Result<(), Fault>
 ///
 /// # Errors
 ///
-/// Returns `Unwritable` if a write or the flush fails. The call may then have written a beginning of `bytes`.
+/// Returns `Unwritable` if a write or the flush fails. The call may then have written a prefix of `bytes`.
 pub fn write_out<O: Write>(output: &mut O, bytes: &[u8]) -> Result<(), Fault>
     ensures ok { OnOk result (Appends (O.contents output.old) (O.contents output.new) bytes.now) }
     ensures begun { GrowsByBeginning (O.contents output.old) (O.contents output.new) bytes.now }

@@ -20,7 +20,7 @@ pub enum Refusal {
     /// - No family has the caller's family number, or a scale is 0.
     /// - The weights of a mixture add up to 0 or to more than `2^32`, or mixtures have no components.
     /// - No count is above 0, or more than `2 ^ PRECISION` counts are above 0.
-    /// - A Huffman tree has no weights, or their sum doesn't fit the type.
+    /// - A Huffman tree has no weights or too many, or the sum of its weights doesn't fit their type.
     #[error("wrong weights")]
     WrongWeights,
     /// An interval is empty or ends past `2 ^ PRECISION`, or a range has too few or too many symbols.
@@ -35,8 +35,9 @@ pub enum Refusal {
     /// There is no memory.
     #[error("out of memory")]
     NoMemory,
-    /// No state of a coder has the words or the numbers that the caller passed. Or the words don't encode as many
-    /// symbols as the caller asks for.
+    /// No state of a coder has the words or the numbers that the caller passed.
+    ///
+    /// A call also returns this error if the words don't encode as many symbols as the caller asks for.
     #[error("invalid data")]
     InvalidData,
     /// The words ended before all symbols were decoded.

@@ -1,9 +1,9 @@
 //! `ContiguousLookupDecoderModel`: a model with a row for each quantile.
 //!
 //! A row holds the interval of a quantile's symbol. The symbols are in a second list, because a decoder computes its
-//! next state from the interval alone. If probabilities are `u16`, a row takes 4 bytes and a symbol 2 bytes. A
-//! processor scales an index by these sizes as it loads. At a precision of 12 bits, both lists fit the first-level
-//! cache.
+//! next state from the interval alone. If probabilities are `u16`, a row takes 4 bytes and a symbol takes 2 bytes. A
+//! load instruction can itself multiply an index by these sizes. At a precision of 12 bits, both lists fit the
+//! first-level cache.
 
 ghost use Rattle.std.specs.Prelude.{◌≡◌, ◌+◌, ◌^◌, ◌<◌, ◌≤◌, IfOk, IsErrOf};
 ghost use Rattle.constriction_base.specs.Tables.{Has, Covers};

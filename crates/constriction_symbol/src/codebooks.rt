@@ -17,9 +17,9 @@ use thiserror::Error;
 
 /// A codebook, which assigns a codeword (a list of bits) to each symbol that it can code.
 ///
-/// An implementor proves that the code is prefix-free: if a codeword begins another codeword, their symbols mean the
-/// same. It defines which symbols mean the same (for example equal numbers), and proves that they have the same
-/// codeword.
+/// An implementor defines which symbols mean the same, for example equal numbers. It proves that symbols that mean the
+/// same have the same codeword. It also proves that the code is prefix-free: if a symbol's codeword is a prefix of
+/// another symbol's codeword, the two symbols mean the same.
 pub trait Codebook: Drop {
     type Symbol;
 
@@ -196,9 +196,9 @@ impl<InvalidCodeword> SymbolCodeError<InvalidCodeword> {
 /// A codebook for decoding, which reads symbols from bits.
 ///
 /// An implementor defines after which bits the codebook reads another bit (`reads_on`), and which bits are invalid
-/// (`is_invalid`). It proves two laws. The codebook reads on only while no codeword is complete. Invalid bits begin
-/// with no codeword, whatever bits follow them. So if the bits begin with a codeword, a decode returns the codeword's
-/// symbol and reads exactly the codeword's bits.
+/// (`is_invalid`). It proves two laws. The codebook reads on only while no codeword is complete. Invalid bits don't
+/// begin with a codeword, even if more bits are appended to them. So if the bits begin with a codeword, a decode
+/// returns the codeword's symbol and reads exactly the codeword's bits.
 pub trait DecoderCodebook: Codebook {
     /// The error for bits that begin with no codeword.
     type InvalidCodeword;

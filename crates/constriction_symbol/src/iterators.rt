@@ -20,7 +20,7 @@ use std::marker::PhantomData;
 ///
 /// The iterator is lazy: it decodes a symbol only when `next` is called. It continues after an error. When the iterator
 /// is dropped, the stream is positioned after the symbols returned so far. [`ReadBitStream::decode_symbols`] and
-/// [`ReadBitStream::decode_iid_symbols`] return it.
+/// [`ReadBitStream::decode_iid_symbols`] return this iterator.
 ///
 /// # Examples
 ///

@@ -1,8 +1,9 @@
 //! Symbol codes: bits packed in words, and codebooks, which assign a list of bits to each symbol.
 //!
 //! A bit coder holds a list of bits in words. A codebook assigns a codeword, which is a list of bits, to each of its
-//! symbols. No codeword begins another. Encoding a symbol appends its codeword. Codewords need no separators. A queue
-//! returns the symbols in the order of writing. A stack returns the last symbol first. One stream can mix codebooks.
+//! symbols. No codeword is a prefix of another, so codewords need no separators. Encoding a symbol appends its
+//! codeword. A queue returns the symbols in the order of writing. A stack returns the last symbol first. One stream can
+//! mix codebooks.
 //!
 //! ```
 //! let mut encoder = DefaultQueueEncoder::new(alloc);

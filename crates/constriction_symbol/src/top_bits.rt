@@ -156,7 +156,8 @@ impl<Word: BitArray> TopBits<Word> {
 
     /// Appends the lowest `count` bits of `bits`, lowest first.
     ///
-    /// The caller proves that they fit, that all higher bits are 0, and that `0 < count < Word::BITS`.
+    /// The caller proves that the list has room for `count` bits, that all higher bits of `bits` are 0, and that
+    /// `0 < count < Word::BITS`.
     #[inline]
     pub fn push_all(&mut self, bits: Word, count: u32)
         requires some { 0 < count }

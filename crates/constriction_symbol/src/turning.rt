@@ -22,7 +22,7 @@ pub fn turned<Word: BitArray>(word: Word) -> Word
     turned_to(word, most, 3 * quarter, Word::BITS)
 }
 
-/// Reverses the lowest `count` bits of `bits`. The caller proves that all higher bits are 0.
+/// Returns the lowest `count` bits of `bits` in reverse order. The caller proves that all higher bits are 0.
 #[inline]
 pub fn first_lowest<Word: BitArray>(bits: Word, count: u32) -> Word
     requires within { count ≤ Word.BITS }
@@ -36,7 +36,9 @@ pub fn first_lowest<Word: BitArray>(bits: Word, count: u32) -> Word
     turned(bits).shifted_right(Word::BITS - count)
 }
 
-/// Reverses the lowest `to` bits of `word`. The caller proves that `done` is the lowest `from` bits, reversed.
+/// Returns the lowest `to` bits of `word` in reverse order.
+///
+/// The caller proves that `done` is the lowest `from` bits of `word` in reverse order, and that `from <= to`.
 #[inline]
 fn turned_to<Word: BitArray>(word: Word, done: Word, from: u32, to: u32) -> Word
     requires order { from ≤ to }

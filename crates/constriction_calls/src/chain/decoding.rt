@@ -224,7 +224,9 @@ fn take_symbols<
     Ok(symbols)
 }
 
-/// Appends a coder's remainders to the caller's, and sets `heads` and `compressed_len` to the coder's.
+/// Appends the words of remainders of `coder` to `remainders`, and sets `remainders_len`.
+///
+/// The call also sets `heads` and `compressed_len` to the heads and the number of compressed words of `coder`.
 ///
 /// # Errors
 ///

@@ -257,7 +257,7 @@ fn intervals_by_rows<Word: WordOf<State>, State: BitArray, P: WordOf<Word>, cons
     )
 }
 
-/// Encodes symbols from the last to the first, each under its own model, onto `coder`.
+/// Encodes symbols with `coder` from the last to the first, each under its own model.
 ///
 /// If `is_room` is false, the call encodes no symbol and returns an error.
 ///
@@ -351,7 +351,9 @@ fn put_symbols<
     Ok(())
 }
 
-/// Appends a coder's compressed words to the caller's, and sets `heads` and `remainders_len` to the coder's.
+/// Appends the compressed words of `coder` to `compressed`, and sets `compressed_len`.
+///
+/// The call also sets `heads` and `remainders_len` to the heads and the number of words of remainders of `coder`.
 ///
 /// # Errors
 ///

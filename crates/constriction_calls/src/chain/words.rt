@@ -103,7 +103,7 @@ pub fn from_binary<Word: WordOf<State>, State: BitArray, const PRECISION: usize>
 
 /// Imports a coder from the words of remainders. The coder has no compressed words below its heads.
 ///
-/// The call sets `heads`, and sets `len` to the number of words of `words` that stay remainders below the heads.
+/// The call sets `heads`. It sets `len` to the number of words that are left in `words`, below the remainders head.
 ///
 /// # Errors
 ///

@@ -22,7 +22,7 @@ use std::alloc::Global;
 ///
 /// # Errors
 ///
-/// - `InvalidData` if the words from the decoder's position on don't encode that many symbols.
+/// - `InvalidData` if the words from the decoder's position on don't encode `count` symbols.
 /// - `NoMemory` if there is no memory.
 #[inline(never)]
 pub(crate) fn take_list<
@@ -70,7 +70,7 @@ pub(crate) fn take_list<
 ///
 /// The errors of [`crate::range`], and then:
 ///
-/// - `InvalidData` if the words from the decoder's position on don't encode that many symbols.
+/// - `InvalidData` if the words from the decoder's position on don't encode `symbols.len()` symbols.
 /// - `NoMemory` if there is no memory.
 pub fn decode<
     Word: WordOf<State>,

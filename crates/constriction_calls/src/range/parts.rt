@@ -114,7 +114,8 @@ pub type Reading<'a, Word, State> = RangeDecoder<Word, State, Cursor<Word, &'a [
 
 /// Makes a decoder from the caller's numbers. The decoder next reads the word of `words` at the position `parts.pos`.
 ///
-/// Returns `None` exactly if no decoder has the numbers. The caller proves that the position isn't past the end.
+/// Returns `None` exactly if no decoder has the numbers. The caller proves that the position isn't past the end of
+/// `words`.
 pub fn decoder_of<'a, Word: WordOf<State>, State: BitArray>(
     words: &'a [Word],
     parts: DecoderParts<State>,

@@ -103,8 +103,8 @@ pub fn encode_stack<Word: BitArray, C: Codes>(
 
 /// Encodes symbols as a queue of bits that begins with the first `bit` bits of `words`.
 ///
-/// Returns the words of the queue from the word that has bit `bit` on, and the bit after the last codeword. Returns
-/// `None` if the weights make no tree, if a symbol has no codeword, or if there is no memory.
+/// Returns the queue's words, beginning with the word that contains bit `bit`, and the number of bits in the queue.
+/// Returns `None` if the weights make no tree, if a symbol has no codeword, or if there is no memory.
 fn words_from<Word: BitArray, C: Codes>(
     alloc: Global,
     codes: &C,

@@ -100,7 +100,9 @@ impl<Word: BitArray, B: ReadWords<Word, Stack>> StackCoder<Word, B> {
 }
 
 impl<Word: BitArray, B: WriteWords<Word>> QueueEncoder<Word, B> {
-    /// Returns the words of the queue. Zeros fill the last word above its bits. An empty queue has no words.
+    /// Returns the words of the queue.
+    ///
+    /// If the bits don't fill the last word, zeros complete that word. A queue without bits has no words.
     ///
     /// # Errors
     ///

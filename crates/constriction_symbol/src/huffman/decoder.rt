@@ -37,8 +37,9 @@ use std::marker::Model;
 /// ```
 #[derive(Debug, Drop)]
 pub struct DecoderHuffmanTree {
-    /// The two children of each inner node, the root last. A child is a symbol, or the number of symbols plus the index
-    /// of an inner node in this list.
+    /// The two children of each inner node, the root last.
+    ///
+    /// A child is a symbol, or the number of symbols plus the index of an inner node in this list.
     nodes: Vec<[usize; 2]>,
     /// The decoding table: entry `1xyz` (binary) is the [`Place`] of the bits `x`, `y`, `z`.
     places: Vec<Place>,

@@ -37,9 +37,12 @@ use std::marker::Model;
 #[derive(Debug, Clone, Drop)]
 pub struct EncoderHuffmanTree {
     /// Twice the index of each node's parent, plus 1 if the node is the child at bit 1. The root has the number 0.
-    /// Symbols come first, the root last.
+    ///
+    /// The nodes of the symbols come first, and the root is last.
     nodes: Vec<usize>,
-    /// The codeword of each node behind a leading 1, or 0 if the codeword has `usize::BITS` bits or more.
+    /// The codeword of each node, stored as one number: a leading 1 followed by the codeword's bits.
+    ///
+    /// The number is 0 if the codeword has `usize::BITS` bits or more.
     codewords: Vec<usize>,
     /// The allocator for the prefix form of long codewords.
     alloc: Global,
