@@ -296,7 +296,9 @@ where
     }
 }
 
-/// Returns the error of a failed act: `MEMORY` if there was no memory for the test itself, or else the act's text.
+/// Returns the error to report for a failed act. `answer` is the answer that the act gave.
+///
+/// The error is `MEMORY` if `answer` is `MEMORY`: the test itself has no memory. Otherwise it is the act's text.
 pub fn failure(answer: &'static str, act: &Act<'_>) -> Option<&'static str> {
     Some(if answer == MEMORY { MEMORY } else { act.text })
 }

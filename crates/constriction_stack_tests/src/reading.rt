@@ -35,7 +35,7 @@ impl<'a, Word: BitArray + 'a> Below<Word> for Cursor<Word, &'a mut [Word]> {
     }
 }
 
-/// Returns whether the coder's head is the number of `act`.
+/// Returns whether the coder's head equals the only number in `act.numbers`.
 pub fn is_at_head<Word, State, Backend>(
     coder: &AnsCoder<Word, State, Backend>,
     act: &Act<'_>,

@@ -36,7 +36,7 @@ pub fn prefix_of(tree: &EncoderHuffmanTree, symbol: usize) -> Coded {
     }
 }
 
-/// Returns the bits of a symbol's codeword in suffix form, in reverse order.
+/// Returns the bits of a symbol's codeword, encoded in suffix form and then reversed into the order of prefix form.
 pub fn suffix_of(tree: &EncoderHuffmanTree, symbol: usize) -> Coded {
     let mut code = 0u32;
     let mut count = 0u32;

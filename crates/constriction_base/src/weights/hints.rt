@@ -13,8 +13,8 @@ use std::alloc::{AllocError, Global};
 
 /// Returns the number of low bits in which the quantiles of a bucket differ, in a table of `symbols` symbols.
 ///
-/// There are more than two and at most four buckets for each symbol. There may be fewer buckets in two cases: each
-/// bucket is a single quantile, or there are 2^63 buckets.
+/// A table has more than `2 * symbols` and at most `4 * symbols` buckets. It may have fewer in two cases: each bucket is
+/// a single quantile, or there are 2^63 buckets.
 pub fn shift_for(symbols: usize, precision: usize) -> u32
     requires some { 0 < symbols }
     requires within { (1 ≤ precision) × (precision ≤ 128) }

@@ -84,7 +84,7 @@ pub fn symbols_of_any_words<Symbol>()
 ///
 /// Start from the initial interval, encode any symbols, each under its own table, and seal. Decode the sealed words,
 /// with no words after them, with the same tables in the same order. The decoder returns the same symbols and ends at
-/// the encoder's interval, where it may be exhausted.
+/// the encoder's interval. There, the decoder reports that it may be exhausted.
 pub fn symbols_come_back<Symbol>()
     ensures decoded { (w s : ℕ) (items : List (Item Symbol)) (last : Run) → IsSizes w s → AreModels w items →
         NarrowsAll w s items (initial s) last → FindsAll w s (sealed w s last) items (initial s) last }
