@@ -64,3 +64,24 @@ AreEntries [] [] = ⊤
 AreEntries [] (e ∷ es) = ⊥
 AreEntries (item ∷ items) [] = ⊥
 AreEntries (item ∷ items) (e ∷ es) = AtEntry item.model.precision item.model.table item.symbol (λ step. step ≡ e) × AreEntries items es
+
+-- ---- bounds on a number of words
+
+-- A stack coder that started empty and encoded the steps exports at most so many words.
+abbrev pub IsStackBounded : ℕ → ℕ → List Step → ℕ → Type 0
+IsStackBounded w s steps count = 2 ^ (w * (count - 1)) * product (share w s) steps ≤ 2 ^ (s - w) * product (rounded_whole w s) steps
+
+-- The same where all steps have one precision, and so the same spare bits.
+abbrev pub IsStackBoundedAt : ℕ → ℕ → ℕ → List Step → ℕ → Type 0
+IsStackBoundedAt w s precision steps count =
+    2 ^ (w * (count - 1)) * (product (λ e. e.p) steps * (2 ^ (s - w - precision)) ^ length steps)
+    ≤ 2 ^ (s - w) * ((2 ^ precision) ^ length steps * (2 ^ (s - w - precision) + 1) ^ length steps)
+
+-- A range encoder that encoded the steps has at most so many words, if they are no fewer than `seal`, those of the seal.
+abbrev pub IsRangeBounded : ℕ → ℕ → ℕ → List Step → ℕ → Type 0
+IsRangeBounded w s seal steps count =
+    seal ≤ count → 2 ^ (w * (count - seal)) * (2 ^ s - 1) * product (share w s) steps < 2 ^ s * product (rounded_whole w s) steps
+
+-- The number of words is bounded by steps, which are those of the items.
+abbrev pub IsBoundedBy : {S : Type 0} → (List Step → ℕ → Type 0) → List (Item S) → ℕ → Type 0
+IsBoundedBy bounded items count = (steps : List Step) × AreEntries items steps × bounded steps count

@@ -1,11 +1,16 @@
 -- How far an exchange of one symbol for another came, and why it stopped.
-use Rattle.std.specs.Prelude.{◌≡◌, ◌-◌, ◌<◌, ◌≤◌, ◌^◌, ◌⊎◌, ℕ, Result, Ok, Err}
+use Rattle.std.specs.Prelude.{◌≡◌, ◌-◌, ◌<◌, ◌≤◌, ◌^◌, ◌⊎◌, ℕ, [], ◌∷◌, Result, Ok, Err}
 use Rattle.constriction_base.specs.Models.{Model}
-use Rattle.constriction_base.specs.Tables.{Impossible}
+use Rattle.constriction_base.specs.Steps.{Step}
+use Rattle.constriction_base.specs.Tables.{AtEntry, Impossible}
 use Rattle.constriction_base.specs.declared.errors.CoderError.{CoderError}
 use Rattle.constriction_base.specs.declared.errors.CoderError.TheVariants.{Backend}
 use Rattle.constriction_stack.specs.Ans.{AnsState, AnsValue}
-use Rattle.constriction_stack.specs.Symbols.{Decodes}
+use Rattle.constriction_stack.specs.Symbols.{Decodes, Encodes}
+use Rattle.constriction_stream.specs.Symbols.{DecodesSymbol, EncodesSymbol}
+use Rattle.constriction_stream.specs.declared.decoding.Decode as decoding
+use Rattle.constriction_stream.specs.declared.encoding.Encode as encoding
+use Rattle.constriction_laws.specs.Bounds.{Decode, Encode, IsNetBounded}
 use Rattle.constriction_laws.specs.declared.bounds.words.ExchangeError.{ExchangeError}
 use Rattle.constriction_laws.specs.declared.bounds.words.ExchangeError.TheVariants.{LowHead, ImpossibleSymbol, Refused}
 
@@ -41,3 +46,25 @@ abbrev pub StopsExchange : Type 0 → Type 0 → Type 0 → ExchangeError → Ty
 StopsExchange low impossible refused LowHead = low
 StopsExchange low impossible refused ImpossibleSymbol = impossible
 StopsExchange low impossible refused Refused = refused
+
+-- ---- the exchange
+
+-- one symbol was taken off, and then the other put on
+abbrev pub Exchanges : {S T : Type 0} → ℕ → ℕ → Model S → Model T → S → T → AnsState → AnsState → Type 0
+Exchanges w s off on taken symbol old new = (mid : AnsState) × TakenHigh w s off taken old mid × Encodes w s on symbol mid new
+
+-- the words that it added are bounded by the entries of both symbols
+abbrev pub IsExchangeBounded : {S T : Type 0} → ℕ → ℕ → Model S → Model T → S → T → AnsState → AnsState → Type 0
+IsExchangeBounded w s off on taken symbol old new = (out put : Step)
+    × AtEntry off.precision off.table taken (λ step. step ≡ out) × AtEntry on.precision on.table symbol (λ step. step ≡ put)
+    × IsNetBounded w s (Decode out ∷ Encode put ∷ []) old new
+
+-- why it ended early, of a coder with these decodes and encodes
+abbrev pub NotExchanged : {B S T F G D E W V N : Type 0} {P Q : _} → decoding.Ghosts (AnsValue B) P F D W V N → encoding.Ghosts (AnsValue B) Q G E W V N
+    → ℕ → ℕ → Model S → Model T → T → AnsValue B → AnsValue B → ExchangeError → Type 0
+NotExchanged decode encode w s off on symbol old new e = StopsExchange
+    (StopsLow w s off old.state new.state)
+    (StopsImpossible w s off on symbol old.state new.state)
+    (RefusesOff w s (DecodesSymbol decode.decodes decode.halts off.precision off.table) old new
+    ⊎ RefusesOn w s off (DecodesSymbol decode.decodes decode.halts off.precision off.table)
+    (EncodesSymbol encode.encodes encode.is_impossible_symbol on.precision on.table symbol) old new) e

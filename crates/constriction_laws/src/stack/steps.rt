@@ -8,6 +8,8 @@ ghost use Rattle.constriction_base.specs.Tables.{IsTable};
 ghost use Rattle.constriction_stack.specs.Ans.{AnsState, IsValid, IsNext, pop, IsPush};
 ghost use Rattle.constriction_base.specs.Models.{Model, IsModel, Knows};
 ghost use Rattle.constriction_stack.specs.Symbols.{Encodes, Decodes};
+ghost use Rattle.constriction_laws.specs.Outcomes.{AreOne};
+ghost use Rattle.constriction_laws.specs.stack.Lists.{AfterDecode};
 
 /// An entry can be pushed onto each valid state, in exactly one way.
 pub fn one_push()
@@ -32,9 +34,8 @@ pub fn one_encode<Symbol>()
     ensures exists { (w s : ℕ) (model : Model Symbol) (symbol : Symbol) (old : AnsState) →
         IsSizes w s → IsModel w model → Knows model symbol → IsValid w s old →
         (new : AnsState) × Encodes w s model symbol old new }
-    ensures unique { (w s : ℕ) (model : Model Symbol) (symbol : Symbol) (old new other : AnsState) →
-        IsSizes w s → IsModel w model →
-        Encodes w s model symbol old new → Encodes w s model symbol old other → new ≡ other }
+    ensures unique { (w s : ℕ) (model : Model Symbol) (symbol : Symbol) (old new other : AnsState) → IsSizes w s →
+        IsModel w model → AreOne (Encodes w s model symbol old) new other }
 {}
 
 /// Decoding from a state, valid or not, returns exactly one symbol and leads to exactly one state.
@@ -64,10 +65,8 @@ pub fn decode_undoes_encode<Symbol>()
 pub fn encode_undoes_decode<Symbol>()
     ensures back { (w s : ℕ) (model : Model Symbol) (symbol : Symbol) (old new : AnsState) →
         IsValid w s old → Decodes w s model symbol old new → Encodes w s model symbol new old }
-    ensures only { (w s : ℕ) (model : Model Symbol) (symbol : Symbol) (old new last : AnsState) →
-        IsSizes w s → IsModel w model → IsValid w s old →
-        Decodes w s model symbol old new → Encodes w s model symbol new last → last ≡ old }
-    ensures valid { (w s : ℕ) (model : Model Symbol) (symbol : Symbol) (old new : AnsState) →
-        IsSizes w s → IsModel w model → IsValid w s old →
-        Decodes w s model symbol old new → IsValid w s new }
+    ensures only { (w s : ℕ) (model : Model Symbol) (symbol : Symbol) (old new last : AnsState) → AfterDecode w s model
+        symbol old new (Encodes w s model symbol new last → last ≡ old) }
+    ensures valid { (w s : ℕ) (model : Model Symbol) (symbol : Symbol) (old new : AnsState) → AfterDecode w s model
+        symbol old new (IsValid w s new) }
 {}
