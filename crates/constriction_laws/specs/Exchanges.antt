@@ -5,11 +5,15 @@ use Rattle.constriction_base.specs.Steps.{Step}
 use Rattle.constriction_base.specs.Tables.{AtEntry, Impossible}
 use Rattle.constriction_base.specs.declared.errors.CoderError.{CoderError}
 use Rattle.constriction_base.specs.declared.errors.CoderError.TheVariants.{Backend}
-use Rattle.constriction_stack.specs.Ans.{AnsState, AnsValue}
+use Rattle.constriction_stack.specs.Ans.{AnsState, AnsValue, DecodeCall, EncodeCall}
 use Rattle.constriction_stack.specs.Symbols.{Decodes, Encodes}
-use Rattle.constriction_stream.specs.Symbols.{DecodesSymbol, EncodesSymbol}
-use Rattle.constriction_stream.specs.declared.decoding.Decode as decoding
-use Rattle.constriction_stream.specs.declared.encoding.Encode as encoding
+use Rattle.constriction_stream.specs.Symbols.{ByBackend, DecodesSymbol, EncodesSymbol}
+use Rattle.constriction_base.specs.declared.backends.reading.Holds as holding
+use Rattle.constriction_base.specs.declared.backends.reading.ReadWords as reading
+use Rattle.constriction_base.specs.declared.backends.writing.WriteWords as writing
+use Rattle.constriction_base.specs.declared.errors.DefaultEncoderFrontendError.{DefaultEncoderFrontendError}
+use Rattle.constriction_base.specs.declared.errors.DefaultEncoderFrontendError.TheVariants as frontend_error
+use Rattle.std.specs.declared.convert.Infallible.{Infallible}
 use Rattle.constriction_laws.specs.Bounds.{Decode, Encode, IsNetBounded}
 use Rattle.constriction_laws.specs.declared.bounds.words.ExchangeError.{ExchangeError}
 use Rattle.constriction_laws.specs.declared.bounds.words.ExchangeError.TheVariants.{LowHead, ImpossibleSymbol, Refused}
@@ -47,6 +51,19 @@ StopsExchange low impossible refused LowHead = low
 StopsExchange low impossible refused ImpossibleSymbol = impossible
 StopsExchange low impossible refused Refused = refused
 
+-- a decode by the steps of a coder over this backend
+abbrev pub DecodesBySteps : {W B K E S : Type 0} → (W → ℕ) → holding.Ghosts B W K → reading.Ghosts B W K E → ℕ → ℕ → Model S
+    → AnsValue B → Result S (CoderError Infallible E) → AnsValue B → Type 0
+DecodesBySteps number holds reads w s model old answer new =
+    DecodesSymbol (ByBackend (DecodeCall number holds reads w s)) (λ old error new. ⊥) model.precision model.table old answer new
+
+-- an encode by the steps of a coder over this backend
+abbrev pub EncodesBySteps : {W B K E S : Type 0} → (W → ℕ) → holding.Ghosts B W K → writing.Ghosts B W E → ℕ → ℕ → Model S → S
+    → AnsValue B → Result (Unit {0}) (CoderError DefaultEncoderFrontendError E) → AnsValue B → Type 0
+EncodesBySteps number holds writes w s model symbol old answer new =
+    EncodesSymbol (ByBackend (EncodeCall number holds writes w s)) (λ error. error ≡ frontend_error.ImpossibleSymbol)
+    model.precision model.table symbol old answer new
+
 -- ---- the exchange
 
 -- one symbol was taken off, and then the other put on
@@ -59,12 +76,10 @@ IsExchangeBounded w s off on taken symbol old new = (out put : Step)
     × AtEntry off.precision off.table taken (λ step. step ≡ out) × AtEntry on.precision on.table symbol (λ step. step ≡ put)
     × IsNetBounded w s (Decode out ∷ Encode put ∷ []) old new
 
--- why it ended early, of a coder with these decodes and encodes
-abbrev pub NotExchanged : {B S T F G D E W V N : Type 0} {P Q : _} → decoding.Ghosts (AnsValue B) P F D W V N → encoding.Ghosts (AnsValue B) Q G E W V N
+-- why it ended early, of a coder with these sizes over this backend
+abbrev pub NotExchanged : {W B K E F S T : Type 0} → (W → ℕ) → holding.Ghosts B W K → reading.Ghosts B W K E → writing.Ghosts B W F
     → ℕ → ℕ → Model S → Model T → T → AnsValue B → AnsValue B → ExchangeError → Type 0
-NotExchanged decode encode w s off on symbol old new e = StopsExchange
-    (StopsLow w s off old.state new.state)
-    (StopsImpossible w s off on symbol old.state new.state)
-    (RefusesOff w s (DecodesSymbol decode.decodes decode.halts off.precision off.table) old new
-    ⊎ RefusesOn w s off (DecodesSymbol decode.decodes decode.halts off.precision off.table)
-    (EncodesSymbol encode.encodes encode.is_impossible_symbol on.precision on.table symbol) old new) e
+NotExchanged {S = S} number holds reads writes w s off on symbol old new e =
+    StopsExchange (StopsLow w s off old.state new.state) (StopsImpossible w s off on symbol old.state new.state)
+    (RefusesOff {S = S} w s (DecodesBySteps number holds reads w s off) old new
+    ⊎ RefusesOn w s off (DecodesBySteps number holds reads w s off) (EncodesBySteps number holds writes w s on symbol) old new) e
