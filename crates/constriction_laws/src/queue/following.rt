@@ -6,6 +6,7 @@ ghost use Rattle.constriction_base.specs.Steps.{Step, IsSizes, AreSteps, AreWord
 ghost use Rattle.constriction_queue.specs.Range.{Run, ReadAs, run, sealed, initial};
 ghost use Rattle.constriction_queue.specs.SelfDelimiting.{AreLeast, SelfDelimits, sealed_with_zeros};
 ghost use Rattle.constriction_queue.specs.Symbols.{NarrowsAll, FindsAll, MayEnd};
+ghost use Rattle.constriction_laws.specs.queue.Lists.{AfterBoth, AfterEncodes, AreLostBefore};
 
 use crate::queue::lists::decodes_undo_encodes;
 
@@ -20,9 +21,8 @@ pub fn self_delimiting_words<Symbol>()
     ensures two_words { (w s : ℕ) (items : List (Item Symbol)) (last : Run) (words : List ℕ) → IsSizes w s → s / w ≡ 2 →
         AreModels w items → NarrowsAll w s items (initial s) last → SelfDelimits w s last words →
         words ≡ sealed w s last }
-    ensures exhausted { (w s : ℕ) (items : List (Item Symbol)) (last : Run) (words : List ℕ) → IsSizes w s →
-        AreModels w items → NarrowsAll w s items (initial s) last → SelfDelimits w s last words →
-        MayEnd w s words last }
+    ensures exhausted { (w s : ℕ) (items : List (Item Symbol)) (last : Run) (words : List ℕ) → AfterEncodes w s items
+        last (SelfDelimits w s last words → MayEnd w s words last) }
 {}
 
 /// A decoder reads the encoded steps from self-delimiting words, whatever words follow.
@@ -38,9 +38,8 @@ pub fn self_delimiting_words_are_read()
 /// Any words may follow the seal. The position may be the start, where no symbol has been encoded.
 pub fn symbols_come_back_whatever_follows<Symbol>()
     ensures { (w s : ℕ) (before since : List (Item Symbol)) (middle last : Run) (words rest : List ℕ) → IsSizes w s →
-        AreModels w before → AreModels w since → AreWords w rest →
-        NarrowsAll w s before (initial s) middle → NarrowsAll w s since middle last → SelfDelimits w s last words →
-        FindsAll w s (words ++ rest) since middle last }
+        AreModels w before → AreModels w since → AreWords w rest → AfterBoth w s before since middle last (SelfDelimits
+        w s last words → FindsAll w s (words ++ rest) since middle last) }
 {
     decodes_undo_encodes::<Symbol>()
 }
@@ -50,9 +49,7 @@ pub fn symbols_come_back_whatever_follows<Symbol>()
 /// For some words `rest`, decoding the seal with fewer zero words, followed by `rest`, doesn't return the symbols. The
 /// encoder starts from the initial interval and encodes at least one symbol.
 pub fn fewer_zero_words_hold_less<Symbol>()
-    ensures { (w s count fewer : ℕ) (first : Item Symbol) (others : List (Item Symbol)) (last : Run) → IsSizes w s →
-        AreModels w (first ∷ others) → NarrowsAll w s (first ∷ others) (initial s) last →
-        AreLeast w s last count → fewer < count →
-        (rest : List ℕ) × AreWords w rest × ((end : Run) →
-        FindsAll w s (sealed_with_zeros w s last fewer ++ rest) (first ∷ others) (initial s) end → ⊥) }
+    ensures { (w s count fewer : ℕ) (first : Item Symbol) (others : List (Item Symbol)) (last : Run) → AfterEncodes w s
+        (first ∷ others) last (AreLeast w s last count → fewer < count → AreLostBefore w s (sealed_with_zeros w s last
+        fewer) (first ∷ others)) }
 {}
