@@ -1,14 +1,15 @@
 //! Isolation: another model for one symbol changes only that symbol and the remainders.
 
-ghost use Rattle.std.specs.Prelude.{◌≡◌, ℕ, List};
+ghost use Rattle.std.specs.Prelude.{ℕ, List};
 ghost use Rattle.constriction_chain.specs.Chain.{ChainState};
 ghost use Rattle.constriction_chain.specs.Runs.{Event, IsRun, decodings, AreIsolated};
+ghost use Rattle.constriction_laws.specs.chain.Lists.{FromSameBits};
 
 /// If two coders begin with the same compressed head and words, `k`-th decodes under equal tables return equal symbols.
 ///
 /// Each coder makes a list of decodes and changes of the precision. The law covers the decodes before the first decode
 /// at which the precisions of the two coders differ.
 pub fn symbols_are_isolated<A>()
-    ensures { (w s : ℕ) (x x' y y' : ChainState) (es es' : List (Event A)) → x.h ≡ x'.h → x.compressed ≡ x'.compressed
-        → IsRun w s x es y → IsRun w s x' es' y' → AreIsolated (decodings es) (decodings es') }
+    ensures { (w s : ℕ) (x x' y y' : ChainState) (es es' : List (Event A)) → FromSameBits x x' (IsRun w s x es y → IsRun
+        w s x' es' y' → AreIsolated (decodings es) (decodings es')) }
 {}
