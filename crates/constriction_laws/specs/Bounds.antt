@@ -6,6 +6,8 @@ use Rattle.std.specs.List.{AllByRecursion}
 use Rattle.constriction_base.specs.Steps.{Step, IsStep}
 use Rattle.constriction_base.specs.Tables.{AtEntry}
 use Rattle.constriction_base.specs.Models.{Item}
+use Rattle.constriction_queue.specs.Range.{initial, run}
+use Rattle.constriction_queue.specs.SelfDelimiting.{SelfDelimits}
 use Rattle.constriction_stack.specs.Ans.{AnsState, IsPush, IsPop, exported}
 
 -- The product of a number for each item.
@@ -67,21 +69,27 @@ AreEntries (item ∷ items) (e ∷ es) = AtEntry item.model.precision item.model
 
 -- ---- bounds on a number of words
 
--- A stack coder that started empty and encoded the steps exports at most so many words.
-abbrev pub IsStackBounded : ℕ → ℕ → List Step → ℕ → Type 0
-IsStackBounded w s steps count = 2 ^ (w * (count - 1)) * product (share w s) steps ≤ 2 ^ (s - w) * product (rounded_whole w s) steps
+-- These words of a stack coder that started empty and encoded the steps aren't more than the bound.
+abbrev pub IsStackBounded : {A : Type 0} → ℕ → ℕ → List Step → List A → Type 0
+IsStackBounded w s steps words =
+    2 ^ (w * (length words - 1)) * product (share w s) steps ≤ 2 ^ (s - w) * product (rounded_whole w s) steps
 
 -- The same where all steps have one precision, and so the same spare bits.
-abbrev pub IsStackBoundedAt : ℕ → ℕ → ℕ → List Step → ℕ → Type 0
-IsStackBoundedAt w s precision steps count =
-    2 ^ (w * (count - 1)) * (product (λ e. e.p) steps * (2 ^ (s - w - precision)) ^ length steps)
+abbrev pub IsStackBoundedAt : {A : Type 0} → ℕ → ℕ → ℕ → List Step → List A → Type 0
+IsStackBoundedAt w s precision steps words =
+    2 ^ (w * (length words - 1)) * (product (λ e. e.p) steps * (2 ^ (s - w - precision)) ^ length steps)
     ≤ 2 ^ (s - w) * ((2 ^ precision) ^ length steps * (2 ^ (s - w - precision) + 1) ^ length steps)
 
--- A range encoder that encoded the steps has at most so many words, if they are no fewer than `seal`, those of the seal.
-abbrev pub IsRangeBounded : ℕ → ℕ → ℕ → List Step → ℕ → Type 0
-IsRangeBounded w s seal steps count =
-    seal ≤ count → 2 ^ (w * (count - seal)) * (2 ^ s - 1) * product (share w s) steps < 2 ^ s * product (rounded_whole w s) steps
+-- These words of a range encoder that encoded the steps aren't more than the bound, if they are `seal` words at least.
+abbrev pub IsRangeBounded : {A : Type 0} → ℕ → ℕ → ℕ → List Step → List A → Type 0
+IsRangeBounded w s seal steps words = seal ≤ length words
+    → 2 ^ (w * (length words - seal)) * (2 ^ s - 1) * product (share w s) steps
+    < 2 ^ s * product (rounded_whole w s) steps
 
--- The number of words is bounded by steps, which are those of the items.
-abbrev pub IsBoundedBy : {S : Type 0} → (List Step → ℕ → Type 0) → List (Item S) → ℕ → Type 0
-IsBoundedBy bounded items count = (steps : List Step) × AreEntries items steps × bounded steps count
+-- The words are bounded by steps, which are those of the items.
+abbrev pub AreBoundedBy : {S A : Type 0} → (List Step → List A → Type 0) → List (Item S) → List A → Type 0
+AreBoundedBy bounded items words = (steps : List Step) × AreEntries items steps × bounded steps words
+
+-- The words are the self-delimiting words of a new range encoder after the steps.
+abbrev pub DelimitsSteps : ℕ → ℕ → List Step → List ℕ → Type 0
+DelimitsSteps w s steps words = SelfDelimits w s (run w s steps (initial s)) words

@@ -10,6 +10,13 @@ use Rattle.constriction_laws.specs.declared.errors.Stopped.TheVariants.{Refused,
 use Rattle.constriction_laws.specs.declared.errors.RoundTripError.{RoundTripError}
 use Rattle.constriction_laws.specs.declared.errors.RoundTripError.TheVariants as trip
 
+-- decodes of the symbols, each under its own model, lead from one decoder to another
+abbrev pub DecodesPairs : {C S M E : Type 0} → (C → Step → Result (Unit {0}) E → C → Type 0) → (C → E → C → Type 0) → ℕ
+    → (M → List (S × ℕ × ℕ)) → List S → List M → C → C → Type 0
+DecodesPairs {S = S} {M = M} decodes halts precision table symbols models old new =
+    InTurn (λ (pair : S × M) old new. DecodesByModel decodes halts precision table old pair.1 (Ok pair.0) new)
+        (zip symbols models) old new
+
 -- of symbols that have a model each so many came, by the first models, and the step by the next one was refused; of any decoder.
 -- Where memory was missing, some came
 abbrev pub StopsAmong : {C S M E : Type 0} → (C → Step → Result (Unit {0}) E → C → Type 0) → (C → E → C → Type 0) → ℕ → (M → List (S × ℕ × ℕ)) → List M → ℕ → C → Stopped E → C → Type 0
@@ -56,12 +63,15 @@ abbrev pub model_at : {S : Type 0} → ℕ → List (S × ℕ × ℕ) → Model 
 model_at precision table = record { precision = precision; table = table }
 
 -- if the call succeeded, its symbols, each under its own model, are items with this property
-abbrev pub IfItems : {S M A E : Type 0} → ℕ → (M → List (S × ℕ × ℕ)) → List M → Result (Vec S A) E → (List (Item S) → Type 0) → Type 0
+abbrev pub IfItems : {S M A E : Type 0} → ℕ → (M → List (S × ℕ × ℕ)) → List M → Result (Vec S A) E
+    → (List (Item S) → Type 0) → Type 0
 IfItems precision table models result holds = IfOk result (λ again. holds (pairs_of precision table again.items models))
 
 -- the same where the call returned more than the symbols
-abbrev pub IfItemsWith : {S M A T E : Type 0} → ℕ → (M → List (S × ℕ × ℕ)) → List M → Result (Vec S A × T) E → (List (Item S) → T → Type 0) → Type 0
-IfItemsWith precision table models result holds = IfOk result (λ back. holds (pairs_of precision table back.0.items models) back.1)
+abbrev pub IfItemsWith : {S M A T E : Type 0} → ℕ → (M → List (S × ℕ × ℕ)) → List M → Result (Vec S A × T) E
+    → (List (Item S) → T → Type 0) → Type 0
+IfItemsWith precision table models result holds =
+    IfOk result (λ back. holds (pairs_of precision table back.0.items models) back.1)
 
 -- if there is one symbol for each model and the call succeeded, it returned these symbols
 abbrev pub GivesBack : {S M A E : Type 0} → List M → List S → Result (Vec S A) E → Type 0
@@ -69,7 +79,8 @@ GivesBack models symbols result = length symbols ≡ length models → IfOk resu
 
 -- and this holds too
 abbrev pub GivesBackAnd : {S M A E : Type 0} → List M → List S → Result (Vec S A) E → Type 0 → Type 0
-GivesBackAnd models symbols result holds = length symbols ≡ length models → IfOk result (λ again. (again.items ≡ symbols) × holds)
+GivesBackAnd models symbols result holds =
+    length symbols ≡ length models → IfOk result (λ again. (again.items ≡ symbols) × holds)
 
 -- the same where the call returned more than the symbols
 abbrev pub GivesBackWith : {S M A T E : Type 0} → List M → List S → Result (Vec S A × T) E → Type 0
@@ -77,7 +88,8 @@ GivesBackWith models symbols result = length symbols ≡ length models → IfOk 
 
 -- and what else it returned has this property
 abbrev pub GivesBackWithOne : {S M A T E : Type 0} → List M → List S → Result (Vec S A × T) E → (T → Type 0) → Type 0
-GivesBackWithOne models symbols result holds = length symbols ≡ length models → IfOk result (λ back. (back.0.items ≡ symbols) × holds back.1)
+GivesBackWithOne models symbols result holds =
+    length symbols ≡ length models → IfOk result (λ back. (back.0.items ≡ symbols) × holds back.1)
 
 -- what has this property is one value
 abbrev pub AreOne : {A : Type 0} → (A → Type 0) → A → A → Type 0

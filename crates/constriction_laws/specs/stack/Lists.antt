@@ -1,9 +1,11 @@
--- Lists of encodes and decodes of the stack coder, as premises of the laws about them: each says what holds behind such lists.
-use Rattle.std.specs.Prelude.{◌≡◌, ℕ, List, reverse}
+-- Lists of encodes and decodes of the stack coder, as premises of the laws about them: each says what holds behind such
+-- lists.
+use Rattle.std.specs.Prelude.{◌≡◌, ◌⊎◌, ℕ, ◌%◌, ◌^◌, List, ◌∷◌, reverse}
 use Rattle.constriction_base.specs.Models.{Item, Model, IsModel, AreModels, models}
 use Rattle.constriction_base.specs.Steps.{Step, AreSteps, AreWords, IsSizes}
+use Rattle.constriction_base.specs.Tables.{IsTable}
 use Rattle.constriction_base.specs.Writing.{IsOneAbove}
-use Rattle.constriction_stack.specs.Ans.{AnsState, AnsValue, IsValid, filled}
+use Rattle.constriction_stack.specs.Ans.{AnsState, AnsValue, IsValid, empty, filled}
 use Rattle.constriction_stack.specs.Binary.{binary_state, binary_words}
 use Rattle.constriction_stack.specs.Positions.{position_of, sought}
 use Rattle.constriction_stack.specs.Symbols.{Decodes, DecodesAll, EncodesAll}
@@ -13,16 +15,20 @@ abbrev pub AfterEncodes : {S : Type 0} → ℕ → ℕ → List (Item S) → Ans
 AfterEncodes w s items old new holds = IsSizes w s → AreModels w items → EncodesAll w s items old new → holds
 
 -- Behind encodes of two lists, one after the other, this holds.
-abbrev pub AfterTwoLists : {S : Type 0} → ℕ → ℕ → List (Item S) → List (Item S) → AnsState → AnsState → AnsState → Type 0 → Type 0
-AfterTwoLists w s before since start middle last holds = EncodesAll w s before start middle → EncodesAll w s since middle last → holds
+abbrev pub AfterTwo : {S : Type 0} → ℕ → ℕ → List (Item S) → List (Item S) → AnsState → AnsState → AnsState → Type 0
+    → Type 0
+AfterTwo w s before since start middle last holds =
+    EncodesAll w s before start middle → EncodesAll w s since middle last → holds
 
 -- Behind a decode under a lawful model, from a valid state, this holds.
 abbrev pub AfterDecode : {S : Type 0} → ℕ → ℕ → Model S → S → AnsState → AnsState → Type 0 → Type 0
-AfterDecode w s model symbol old new holds = IsSizes w s → IsModel w model → IsValid w s old → Decodes w s model symbol old new → holds
+AfterDecode w s model symbol old new holds =
+    IsSizes w s → IsModel w model → IsValid w s old → Decodes w s model symbol old new → holds
 
 -- Behind decodes of items under lawful models, from a valid state, this holds.
 abbrev pub AfterDecodes : {S : Type 0} → ℕ → ℕ → List (Item S) → AnsState → AnsState → Type 0 → Type 0
-AfterDecodes w s items old new holds = IsSizes w s → AreModels w items → IsValid w s old → DecodesAll w s items old new → holds
+AfterDecodes w s items old new holds =
+    IsSizes w s → AreModels w items → IsValid w s old → DecodesAll w s items old new → holds
 
 -- From a valid state, with lawful steps, this holds.
 abbrev pub FromValid : ℕ → ℕ → List Step → AnsState → Type 0 → Type 0
@@ -55,7 +61,8 @@ IsBinaryForm w state words = (m : ℕ) × IsOneAbove w m state.head × (binary_w
 -- Where the items are decoded from words in binary form, and encoded again in reverse order, this holds.
 abbrev pub AfterWayBack : {S : Type 0} → ℕ → ℕ → List ℕ → List (Item S) → AnsState → AnsState → Type 0 → Type 0
 AfterWayBack w s words items state last holds =
-    IsSizes w s → AreWords w words → AreModels w items → DecodesBinary w s words items state → EncodesAll w s (reverse items) state last → holds
+    IsSizes w s → AreWords w words → AreModels w items → DecodesBinary w s words items state
+        → EncodesAll w s (reverse items) state last → holds
 
 -- The state of this head above other words.
 abbrev pub with_words : AnsState → List ℕ → AnsState
@@ -68,3 +75,20 @@ LeavesOfWords w s words items coder = DecodesWords w s words items coder.state
 -- The same from an import of words in binary form.
 abbrev pub LeavesOfBinary : {S B : Type 0} → ℕ → ℕ → List ℕ → List (Item S) → AnsValue B → Type 0
 LeavesOfBinary w s words items coder = DecodesBinary w s words items coder.state
+
+-- Behind encodes of items from an empty coder this holds.
+abbrev pub FromEmpty : {S : Type 0} → ℕ → ℕ → List (Item S) → AnsState → Type 0 → Type 0
+FromEmpty w s items state holds = IsSizes w s → EncodesAll w s items empty state → holds
+
+-- Others that are decoded from this state, under the models of the items in reverse order, are the items in reverse
+-- order, and lead to the state before them.
+abbrev pub IsOneWayBack : {S : Type 0} → ℕ → ℕ → List (Item S) → List (Item S) → AnsState → AnsState → AnsState → Type 0
+IsOneWayBack w s items others new last old = DecodesAll w s others new last → AreReversed items others (last ≡ old)
+
+-- The table of the model is lawful.
+abbrev pub HasTable : {S : Type 0} → Model S → Type 0
+HasTable model = IsTable model.precision model.table
+
+-- The words are as before, or the low word of the head stands before them.
+abbrev pub AddsOneAtMost : ℕ → AnsState → AnsState → Type 0
+AddsOneAtMost w old new = (new.words ≡ old.words) ⊎ (new.words ≡ old.head % 2 ^ w ∷ old.words)

@@ -5,7 +5,6 @@
 ghost use Rattle.std.specs.Prelude.{◌-◌, ◌<◌, ◌≤◌, ◌^◌, IfOk, IfErr, MatchBool};
 ghost use Rattle.constriction_base.specs.Steps.{IsSizes};
 ghost use Rattle.constriction_laws.specs.Exchanges.{Exchanges, IsExchangeBounded, NotExchanged};
-ghost use Rattle.constriction_laws.specs.Outcomes.{model_at};
 
 use crate::bounds::stack_net_bound;
 use constriction_base::backends::{Holds, ReadWords, Stack, WriteWords};
@@ -67,13 +66,12 @@ where
     E::Probability: WordOf<Word>,
     Backend::ReadError: Drop,
     Backend::WriteError: Drop,
-    ensures net { IfOk result (λ taken. IsExchangeBounded Word.BITS State.BITS (model_at PRECISION (D.table off.now))
-        (model_at PRECISION (E.table on.now)) taken symbol.now coder.old.state coder.new.state) }
-    ensures done { IfOk result (λ taken. Exchanges Word.BITS State.BITS (model_at PRECISION (D.table off.now)) (model_at
-        PRECISION (E.table on.now)) taken symbol.now coder.old.state coder.new.state) }
+    ensures net { IfOk result (λ taken. IsExchangeBounded Word.BITS State.BITS PRECISION (D.table off.now) (E.table
+        on.now) taken symbol.now coder.old.state coder.new.state) }
+    ensures done { IfOk result (λ taken. Exchanges Word.BITS State.BITS PRECISION (D.table off.now) (E.table on.now)
+        taken symbol.now coder.old.state coder.new.state) }
     ensures err { IfErr result (NotExchanged Word.number Backend.Holds Backend.ReadWords.own Backend.WriteWords.own
-        Word.BITS State.BITS (model_at PRECISION (D.table off.now)) (model_at PRECISION (E.table on.now)) symbol.now
-        coder.old coder.new) }
+        Word.BITS State.BITS PRECISION (D.table off.now) (E.table on.now) symbol.now coder.old coder.new) }
 {
     if is_low::<Word, State>(coder.state()) {
         return Err(ExchangeError::LowHead);

@@ -10,6 +10,6 @@ ghost use Rattle.constriction_laws.specs.chain.Lists.{FromSameBits};
 /// Each coder makes a list of decodes and changes of the precision. The law covers the decodes before the first decode
 /// at which the precisions of the two coders differ.
 pub fn symbols_are_isolated<A>()
-    ensures { (w s : ℕ) (x x' y y' : ChainState) (es es' : List (Event A)) → FromSameBits x x' (IsRun w s x es y → IsRun
-        w s x' es' y' → AreIsolated (decodings es) (decodings es')) }
+    ensures { (w s : ℕ) (x u y v : ChainState) (es fs : List (Event A)) → FromSameBits x u (IsRun w s x es y → IsRun w s
+        u fs v → AreIsolated (decodings es) (decodings fs)) }
 {}

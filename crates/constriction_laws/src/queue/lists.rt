@@ -11,7 +11,7 @@ ghost use Rattle.constriction_base.specs.Models.{Item, IsModel, AreModels, AreKn
 ghost use Rattle.constriction_base.specs.Steps.{IsSizes, AreWords};
 ghost use Rattle.constriction_queue.specs.Range.{Run, IsInterval, Within, sealed, initial};
 ghost use Rattle.constriction_queue.specs.Symbols.{Finds, NarrowsAll, FindsAll, MayEnd};
-ghost use Rattle.constriction_laws.specs.queue.Lists.{AfterEncodes, AreSame, FromInterval, WithinEncodes};
+ghost use Rattle.constriction_laws.specs.queue.Lists.{AfterEncodes, FromInterval, IsOneRead, WithinEncodes};
 ghost use Rattle.constriction_laws.specs.queue.Undone.{Reading, TakesBack, read_back};
 
 use crate::lists::{StepsUndo, lists_undo};
@@ -55,8 +55,7 @@ pub fn decodes_undo_encodes<Symbol>()
     ensures back { (w s : ℕ) (words : List ℕ) (items : List (Item Symbol)) (old new : Run) → WithinEncodes w s words
         items old new (FindsAll w s words items old new) }
     ensures only { (w s : ℕ) (words : List ℕ) (items others : List (Item Symbol)) (old new last : Run) → AreModels w
-        items → FindsAll w s words items old new → FindsAll w s words others old last → AreSame items others (last ≡
-        new) }
+        items → FindsAll w s words items old new → IsOneRead w s words items others old new last }
     ensures within { (w s : ℕ) (words : List ℕ) (items : List (Item Symbol)) (old new : Run) → WithinEncodes w s words
         items old new (Within w s words old) }
 {
@@ -84,7 +83,7 @@ pub fn symbols_come_back<Symbol>()
     ensures decoded { (w s : ℕ) (items : List (Item Symbol)) (last : Run) → AfterEncodes w s items last (FindsAll w s
         (sealed w s last) items (initial s) last) }
     ensures only { (w s : ℕ) (items others : List (Item Symbol)) (last end : Run) → AfterEncodes w s items last
-        (FindsAll w s (sealed w s last) others (initial s) end → AreSame items others (end ≡ last)) }
+        (IsOneRead w s (sealed w s last) items others (initial s) last end) }
     ensures exhausted { (w s : ℕ) (items : List (Item Symbol)) (last : Run) → AfterEncodes w s items last (MayEnd w s
         (sealed w s last) last) }
 {

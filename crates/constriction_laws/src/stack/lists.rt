@@ -10,7 +10,8 @@ ghost use Rattle.constriction_stack.specs.Ans.{AnsState, IsValid, IsPush, IsPop,
 ghost use Rattle.constriction_base.specs.Models.{Item, IsModel, models, AreModels, AreKnown};
 ghost use Rattle.constriction_stack.specs.Symbols.{Encodes, Decodes, EncodesAll, DecodesAll};
 ghost use Rattle.constriction_laws.specs.Outcomes.{AreOne};
-ghost use Rattle.constriction_laws.specs.stack.Lists.{AfterDecodes, AfterEncodes, AreReversed, DecodesWords, FromValid};
+ghost use Rattle.constriction_laws.specs.stack.Lists.{AfterDecodes, AfterEncodes, DecodesWords, FromEmpty, FromValid};
+ghost use Rattle.constriction_laws.specs.stack.Lists.{IsOneWayBack};
 ghost use Rattle.constriction_laws.specs.stack.Undone.{Sizes, decode_back, encode_back, decoded_valid};
 
 use crate::lists::{StepsUndo, lists_undo};
@@ -82,7 +83,7 @@ pub fn decodes_undo_encodes<Symbol>()
     ensures back { (w s : ℕ) (items : List (Item Symbol)) (old new : AnsState) → IsSizes w s →
         EncodesAll w s items old new → DecodesAll w s (reverse items) new old }
     ensures only { (w s : ℕ) (items others : List (Item Symbol)) (old new last : AnsState) → AfterEncodes w s items old
-        new (DecodesAll w s others new last → AreReversed items others (last ≡ old)) }
+        new (IsOneWayBack w s items others new last old) }
 {
     lists_undo::<Encoding<Symbol>>()
 }
@@ -109,12 +110,12 @@ pub fn symbols_come_back<Symbol>()
     ensures encoded { (w s : ℕ) (items : List (Item Symbol)) → IsSizes w s → AreModels w items →
         AreKnown items →
         (state : AnsState) × EncodesAll w s items empty state }
-    ensures exported { (w s : ℕ) (items : List (Item Symbol)) (state : AnsState) → IsSizes w s →
-        EncodesAll w s items empty state → BeginsHigh (exported w state) }
-    ensures decoded { (w s : ℕ) (items : List (Item Symbol)) (state : AnsState) → IsSizes w s → EncodesAll w s items
-        empty state → DecodesWords w s (exported w state) (reverse items) empty }
+    ensures exported { (w s : ℕ) (items : List (Item Symbol)) (state : AnsState) → FromEmpty w s items state (BeginsHigh
+        (exported w state)) }
+    ensures decoded { (w s : ℕ) (items : List (Item Symbol)) (state : AnsState) → FromEmpty w s items state
+        (DecodesWords w s (exported w state) (reverse items) empty) }
     ensures only { (w s : ℕ) (items others : List (Item Symbol)) (state last : AnsState) → AfterEncodes w s items empty
-        state (DecodesWords w s (exported w state) others last → AreReversed items others (last ≡ empty)) }
+        state (IsOneWayBack w s items others (filled w s 0 (exported w state)) last empty) }
 {
     decodes_undo_encodes::<Symbol>()
 }

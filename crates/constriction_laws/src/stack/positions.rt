@@ -3,8 +3,8 @@
 //! A position is the number of words below the head, and the head. While the coder only encodes, the words of a
 //! recorded position stay below the words that it writes.
 
-ghost use Rattle.std.specs.Prelude.{◌≡◌, ◌≤◌, ◌⊎◌, ℕ, ◌%◌, ◌^◌, ◌∷◌, List, length, reverse};
-ghost use Rattle.constriction_laws.specs.stack.Lists.{AfterEncodes, AfterTwoLists, AreReversed, DecodesBack};
+ghost use Rattle.std.specs.Prelude.{◌≡◌, ◌≤◌, ℕ, List, length, reverse};
+ghost use Rattle.constriction_laws.specs.stack.Lists.{AddsOneAtMost, AfterEncodes, AfterTwo, DecodesBack, IsOneWayBack};
 ghost use Rattle.constriction_base.specs.Steps.{Step, IsSizes, IsStep};
 ghost use Rattle.constriction_stack.specs.Ans.{AnsState, IsValid, IsPush, filled, exported};
 ghost use Rattle.constriction_stack.specs.Positions.{position_of, sought, Grows};
@@ -14,9 +14,8 @@ use crate::stack::lists::decodes_undo_encodes;
 
 /// A push writes at most one word: the lowest word of the head.
 pub fn one_word_at_most()
-    ensures { (w s : ℕ) (e : Step) (old new : AnsState) → IsSizes w s → IsStep w e →
-        IsPush w s e old new →
-        (new.words ≡ old.words) ⊎ (new.words ≡ old.head % 2 ^ w ∷ old.words) }
+    ensures { (w s : ℕ) (e : Step) (old new : AnsState) → IsSizes w s → IsStep w e → IsPush w s e old new →
+        AddsOneAtMost w old new }
 {}
 
 /// Seeking to a position that was recorded before encodes leads back to the state before these encodes.
@@ -38,13 +37,13 @@ pub fn position_leads_back<Symbol>()
 /// the empty state.
 pub fn symbols_before_a_position<Symbol>()
     ensures decoded { (w s : ℕ) (before since : List (Item Symbol)) (start middle last : AnsState) → IsSizes w s →
-        AreModels w since → AfterTwoLists w s before since start middle last (DecodesBack w s (reverse before) middle
+        AreModels w since → AfterTwo w s before since start middle last (DecodesBack w s (reverse before) middle
         last start) }
     ensures only { (w s : ℕ) (before since others : List (Item Symbol)) (start middle last end : AnsState) → IsSizes w s
-        → AreModels w before → AreModels w since → AfterTwoLists w s before since start middle last (DecodesBack w s
-        others middle last end → AreReversed before others (end ≡ start)) }
+        → AreModels w before → AreModels w since → AfterTwo w s before since start middle last (IsOneWayBack w s before
+        others (sought (position_of middle) last) end start) }
     ensures imported { (w s : ℕ) (before since : List (Item Symbol)) (start middle last : AnsState) → IsSizes w s →
-        IsValid w s start → AfterTwoLists w s before since start middle last (filled w s 0 (exported w last) ≡ last) }
+        IsValid w s start → AfterTwo w s before since start middle last (filled w s 0 (exported w last) ≡ last) }
 {
     decodes_undo_encodes::<Symbol>()
 }

@@ -1,6 +1,6 @@
 //! Codewords of Huffman trees.
 
-ghost use Rattle.constriction_laws.specs.symbol.Cost.{AreCodewordsOf, AreLawful, CostsNoMore, IsPrefixFree, WithCodewords};
+ghost use Rattle.constriction_laws.specs.symbol.Cost.{AreCodewordsOf, AreLawful, IsLeastCost, IsPrefixFree, WithCodewords};
 ghost use Rattle.constriction_laws.specs.symbol.Cost.{cost};
 ghost use Rattle.constriction_symbol.specs.Huffman.{Book, IsHuffman, Tree, huffman, merge};
 ghost use Rattle.std.specs.Prelude.{Bool, List, None, Option, Some, [], ◌∷◌, ◌<◌, ◌≡◌, ◌≤◌, length, ℕ};
@@ -27,13 +27,13 @@ pub fn huffman_knows_its_symbols()
 /// The clause `codewords` compares them with any prefix-free list of codewords. The clause `codebook` compares them
 /// with the codewords of any prefix-free codebook. The clause `tree` is about any tree for which `IsHuffman` holds.
 pub fn least_cost()
-    ensures codewords { (weights : List ℕ) (codewords others : List (List Bool)) → WithCodewords weights (huffman
-        weights) codewords (CostsNoMore weights codewords others) }
+    ensures codewords { (weights : List ℕ) (codewords others : List (List Bool)) → IsLeastCost weights (huffman weights)
+        codewords others }
     ensures codebook { (weights : List ℕ) (codewords others : List (List Bool)) (codeword : ℕ → Option (List Bool)) →
         WithCodewords weights (huffman weights) codewords (WithCodewords weights codeword others (IsPrefixFree codeword
         → cost weights codewords ≤ cost weights others)) }
     ensures tree { (weights : List ℕ) (book : Book) (codewords others : List (List Bool)) → IsHuffman weights book →
-        WithCodewords weights book.codeword codewords (CostsNoMore weights codewords others) }
+        IsLeastCost weights book.codeword codewords others }
 {}
 
 /// The Huffman tree of weights has prefix-free codewords, one for each weight.

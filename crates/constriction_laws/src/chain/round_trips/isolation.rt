@@ -56,8 +56,8 @@ where
         models.now coder.old coder.new) }
     ensures other { C.is_list → IfOk result (λ both. TakesPairs Word.BITS State.BITS PRECISION L.table both.1.items
         others.now same.old same.new) }
-    ensures isolated { C.is_list → FromSameBits coder.old.state same.old.state (IfOk result (λ both. AreIsolatedBy
-        PRECISION M.table both.0.items models.now L.table both.1.items others.now)) }
+    ensures isolated { C.is_list → FromSameBits coder.old.state same.old.state (IfOk result (AreIsolatedBy PRECISION
+        M.table models.now L.table others.now)) }
     ensures err { IfErr result (EndsInTwo C.is_list Word.BITS State.BITS PRECISION M.table models.now coder.old
         coder.new L.table others.now same.old same.new) }
     ensures refused { IfErr result (IfRefused (RefusedInTwo Word.number C.Holds C.ReadWords.own R.Holds R.WriteWords.own

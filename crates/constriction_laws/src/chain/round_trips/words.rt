@@ -5,9 +5,9 @@
 ghost use Rattle.std.specs.Prelude.{◌≡◌, ℕ, List, length, map, reverse, IfErr, IfOk, OnOk};
 ghost use Rattle.constriction_base.specs.Models.{pairs_of};
 ghost use Rattle.constriction_chain.specs.Chain.{ChainState, IsSized};
-ghost use Rattle.constriction_laws.specs.chain.Endings.{ComesBackOver, NotPutBack, UnlessEnded};
+ghost use Rattle.constriction_laws.specs.chain.Endings.{ComesBackOver, UnlessEnded};
 ghost use Rattle.constriction_laws.specs.chain.Lists.{AfterTaking};
-ghost use Rattle.constriction_laws.specs.chain.Pairs.{PairsEnded, PutsBackOnto, TakesApart};
+ghost use Rattle.constriction_laws.specs.chain.Pairs.{PairsEnded, PairsNotPutBack, PutsPairsBack, TakesApart};
 
 use crate::chain::errors::PutBackError;
 use crate::chain::round_trips::coding::{decode_pairs, encode_pairs_reverse};
@@ -76,13 +76,13 @@ where
     M::Probability: WordOf<Word>,
     requires { IsSized Word.BITS State.BITS PRECISION }
     ensures counts { OnOk result (length symbols.now ≡ length models.now) }
-    ensures encoded { IfOk result (λ coder. PutsBackOnto Word.BITS State.BITS PRECISION (map Word.number (reverse
-        remainders.items)) (reverse (pairs_of PRECISION M.table symbols.now models.now)) coder.state) }
+    ensures encoded { IfOk result (λ coder. PutsPairsBack Word.BITS State.BITS PRECISION M.table symbols.now models.now
+        (map Word.number (reverse remainders.items)) coder.state) }
     ensures back { (x after : ChainState) (below : List ℕ) → AfterTaking Word.BITS State.BITS PRECISION (pairs_of
         PRECISION M.table symbols.now models.now) (map Word.number (reverse remainders.items)) x after below (IfOk
         result (λ coder. ComesBackOver x below after.compressed coder.state)) }
-    ensures err { IfErr result (NotPutBack Word.BITS State.BITS PRECISION (map Word.number (reverse remainders.items))
-        (reverse (pairs_of PRECISION M.table symbols.now models.now)) (length symbols.now ≡ length models.now → ⊥)) }
+    ensures err { IfErr result (PairsNotPutBack Word.BITS State.BITS PRECISION M.table (map Word.number (reverse
+        remainders.items)) symbols.now models.now) }
 {
     if symbols.len() != models.len() {
         return Err(PutBackError::UnequalCounts);

@@ -7,13 +7,11 @@
 ghost use Rattle.std.specs.Prelude.{◌≡◌, ◌<◌, length, map, reverse, IfOk, IfErr};
 ghost use Rattle.constriction_base.specs.Models.{pairs_of};
 ghost use Rattle.constriction_base.specs.Steps.{IsSizes};
-ghost use Rattle.constriction_laws.specs.Bounds.{IsBoundedBy, IsRangeBounded};
-ghost use Rattle.constriction_laws.specs.Outcomes.{HasImpossibleItem};
-ghost use Rattle.constriction_queue.specs.Encoder.{left_to_encode, run_by};
-ghost use Rattle.constriction_queue.specs.Range.{initial};
+ghost use Rattle.constriction_laws.specs.Outcomes.{HasImpossibleItem, IfItemsWith};
+ghost use Rattle.constriction_queue.specs.Encoder.{left_to_encode};
 ghost use Rattle.constriction_laws.specs.queue.Outcomes.{LieWithin, NotCoded};
-ghost use Rattle.constriction_laws.specs.queue.Outcomes.{NotRead, ReadsToEnd, SealsAll};
-ghost use Rattle.constriction_laws.specs.queue.Pairs.{GivesSymbolsOf, HoldNoPairs};
+ghost use Rattle.constriction_laws.specs.queue.Outcomes.{NotRead, ReadsToEnd};
+ghost use Rattle.constriction_laws.specs.queue.Pairs.{BoundsPairs, GivesSymbolsOf, HoldNoPairs, IsAsNew, SealsPairs};
 
 use crate::bounds::following::symbols_come_back_before_others;
 use crate::bounds::range_bound;
@@ -54,13 +52,11 @@ where
     M::Probability: WordOf<Word>,
     Backend::WriteError: Drop,
     requires { length symbols.now ≡ length models.now }
-    ensures words { IfOk result (λ all. SealsAll Word.BITS State.BITS
-        (pairs_of PRECISION M.table symbols.now models.now)
-        (run_by Word.BITS State.BITS encoder) (reverse (map Word.number (Backend.words all)))) }
+    ensures words { IfOk result (λ all. SealsPairs Word.BITS State.BITS PRECISION M.table symbols.now models.now encoder
+        (reverse (map Word.number (Backend.words all)))) }
     ensures sizes { IfOk result (λ _. IsSizes Word.BITS State.BITS) }
-    ensures few { run_by Word.BITS State.BITS encoder ≡ initial State.BITS → IfOk result (λ all. IsBoundedBy
-        (IsRangeBounded Word.BITS State.BITS 2) (pairs_of PRECISION M.table symbols.now models.now) (length
-        (Backend.words all))) }
+    ensures few { IsAsNew Word.BITS State.BITS encoder → IfOk result (λ all. BoundsPairs Word.BITS State.BITS PRECISION
+        M.table symbols.now models.now (Backend.words all)) }
     ensures err { IfErr result (NotCoded (HasImpossibleItem (pairs_of PRECISION M.table symbols.now models.now))
         (left_to_encode encoder < length symbols.now)) }
 {
@@ -99,8 +95,8 @@ where
         (pairs_of PRECISION M.table back.0.items models.now) back.1) }
     ensures back { GivesSymbolsOf Word.BITS State.BITS PRECISION M.table (map Word.number (Words.words words))
         models.now result }
-    ensures within { 0 < length models.now → IfOk result (λ back. LieWithin Word.BITS State.BITS
-        (map Word.number (Words.words words)) (pairs_of PRECISION M.table back.0.items models.now)) }
+    ensures within { 0 < length models.now → IfItemsWith PRECISION M.table models.now result (λ items _. LieWithin
+        Word.BITS State.BITS (map Word.number (Words.words words)) items) }
     ensures err { IfErr result (NotRead (HoldNoPairs Word.BITS State.BITS PRECISION M.table (map Word.number
         (Words.words words)) models.now)) }
 {

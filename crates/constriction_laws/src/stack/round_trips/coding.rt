@@ -3,7 +3,7 @@
 ghost use Rattle.std.specs.Prelude.{◌≡◌, length, IfOk, IfErr, OnOk};
 ghost use Rattle.constriction_laws.specs.Outcomes.{HasImpossibleItem, OnlyRefused, UnlessImpossible};
 ghost use Rattle.constriction_stack.specs.Ans.{IsValid};
-ghost use Rattle.constriction_laws.specs.stack.Exporting.{EncodesPairs, UndoesEncodes};
+ghost use Rattle.constriction_laws.specs.stack.Exporting.{PushesPairs, UndoesEncodes};
 ghost use Rattle.constriction_laws.specs.stack.Readings.{DecodesAllBy};
 ghost use Rattle.constriction_stack.specs.Symbols.{DecodesAll};
 ghost use Rattle.constriction_base.specs.Models.{pairs_of};
@@ -39,8 +39,8 @@ where
     M::Probability: WordOf<Word>,
     Backend::WriteError: Drop,
     requires { length symbols.now ≡ length models.now }
-    ensures coded { IsValid Word.BITS State.BITS coder.old.state → OnOk result (EncodesPairs Word.BITS State.BITS
-        PRECISION M.table symbols.now models.now coder.old.state coder.new.state) }
+    ensures coded { IsValid Word.BITS State.BITS coder.old.state → OnOk result (PushesPairs Word.BITS State.BITS
+        PRECISION M.table symbols.now models.now coder.old coder.new) }
     ensures err { IfErr result (UnlessImpossible
         (HasImpossibleItem (pairs_of PRECISION M.table symbols.now models.now))) }
 {

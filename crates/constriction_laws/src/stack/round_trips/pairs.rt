@@ -3,11 +3,10 @@
 ghost use Rattle.std.specs.Prelude.{◌≡◌, length, map, reverse, IfOk, IfErr, OnOk};
 ghost use Rattle.constriction_base.specs.Models.{pairs_of};
 ghost use Rattle.constriction_base.specs.Steps.{IsSizes};
-ghost use Rattle.constriction_laws.specs.Bounds.{IsBoundedBy, IsStackBounded};
 ghost use Rattle.constriction_laws.specs.Outcomes.{HasImpossibleItem, IfItemsWith, UnlessImpossible, UnlessInvalid};
 ghost use Rattle.constriction_stack.specs.Ans.{IsValid, empty};
 ghost use Rattle.constriction_stack.specs.Imports.{ImportRefused};
-ghost use Rattle.constriction_laws.specs.stack.Exporting.{ExportsAll, UndoesExport};
+ghost use Rattle.constriction_laws.specs.stack.Exporting.{BoundsPairs, ExportsAll, UndoesExport};
 ghost use Rattle.constriction_laws.specs.stack.Lists.{LeavesOfWords};
 ghost use Rattle.constriction_laws.specs.stack.Readings.{DecodesFrom};
 
@@ -49,8 +48,8 @@ where
         (reverse (pairs_of PRECISION M.table symbols.now models.now))
         coder.state (map Word.number (Backend.words words))) }
     ensures sizes { OnOk result (IsSizes Word.BITS State.BITS) }
-    ensures few { coder.state ≡ empty → IfOk result (λ words. IsBoundedBy (IsStackBounded Word.BITS State.BITS) (reverse
-        (pairs_of PRECISION M.table symbols.now models.now)) (length (Backend.words words))) }
+    ensures few { coder.state ≡ empty → IfOk result (λ words. BoundsPairs Word.BITS State.BITS PRECISION M.table
+        symbols.now models.now (Backend.words words)) }
     ensures err { IfErr result (UnlessImpossible
         (HasImpossibleItem (pairs_of PRECISION M.table symbols.now models.now))) }
 {

@@ -4,10 +4,9 @@ ghost use Rattle.std.specs.Prelude.{◌≡◌, List, length, map, IfOk, IfErr, O
 ghost use Rattle.constriction_base.specs.Readings.{BeginsHigh};
 ghost use Rattle.constriction_base.specs.Steps.{IsSizes};
 ghost use Rattle.constriction_laws.specs.Outcomes.{IfItems, UnlessInvalid};
-ghost use Rattle.constriction_laws.specs.Readings.{TellsItems};
 ghost use Rattle.constriction_laws.specs.stack.Exporting.{GivesExport};
 ghost use Rattle.constriction_laws.specs.stack.Lists.{HoldsItems};
-ghost use Rattle.constriction_laws.specs.stack.Readings.{DecodesFromIterator, IteratorRefused};
+ghost use Rattle.constriction_laws.specs.stack.Readings.{DecodesFromIterator, GivesTold, HoldsTold, IteratorRefused};
 ghost use Rattle.constriction_stack.specs.Ans.{AnsState};
 
 use crate::errors::RoundTripError;
@@ -80,11 +79,10 @@ where
     requires sizes { IsSizes Word.BITS State.BITS }
     requires can { Iter.can_next items }
     ensures count { IfOk result (λ again. length again.items ≡ length models.now) }
-    ensures read { (words : Iter → List Word) → TellsItems Iter.next_gives words → IfItems PRECISION M.table models.now
-        result (HoldsItems Word.BITS State.BITS (map Word.number (words items))) }
-    ensures back { (words : Iter → List Word) (symbols : List M.Symbol) (state : AnsState) → TellsItems Iter.next_gives
-        words → GivesExport Word.BITS State.BITS PRECISION M.table models.now (map Word.number (words items)) result
-        symbols state }
+    ensures read { HoldsTold Word.number Iter.next_gives Word.BITS State.BITS PRECISION M.table models.now items
+        result }
+    ensures back { GivesTold Word.number Iter.next_gives Word.BITS State.BITS PRECISION M.table models.now items
+        result }
     ensures reads { IfItems PRECISION M.table models.now result (DecodesFromIterator Word.number Iter.next_gives
         Word.BITS State.BITS items) }
     ensures err { IfErr result (UnlessInvalid (IteratorRefused Word.number Iter.next_gives Word.BITS State.BITS
