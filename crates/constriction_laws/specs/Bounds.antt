@@ -6,8 +6,6 @@ use Rattle.std.specs.List.{AllByRecursion}
 use Rattle.constriction_base.specs.Steps.{Step, IsStep}
 use Rattle.constriction_base.specs.Tables.{AtEntry}
 use Rattle.constriction_base.specs.Models.{Item}
-use Rattle.constriction_queue.specs.Range.{initial, run}
-use Rattle.constriction_queue.specs.SelfDelimiting.{SelfDelimits}
 use Rattle.constriction_stack.specs.Ans.{AnsState, IsPush, IsPop, exported}
 
 -- The product of a number for each item.
@@ -89,7 +87,3 @@ IsRangeBounded w s seal steps words = seal ≤ length words
 -- The words are bounded by steps, which are those of the items.
 abbrev pub AreBoundedBy : {S A : Type 0} → (List Step → List A → Type 0) → List (Item S) → List A → Type 0
 AreBoundedBy bounded items words = (steps : List Step) × AreEntries items steps × bounded steps words
-
--- The words are the self-delimiting words of a new range encoder after the steps.
-abbrev pub DelimitsSteps : ℕ → ℕ → List Step → List ℕ → Type 0
-DelimitsSteps w s steps words = SelfDelimits w s (run w s steps (initial s)) words

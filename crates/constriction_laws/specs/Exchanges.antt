@@ -57,7 +57,7 @@ abbrev pub DecodesBySteps : {W B K E S : Type 0} → (W → ℕ) → holding.Gho
     → Model S → AnsValue B → Result S (CoderError Infallible E) → AnsValue B → Type 0
 DecodesBySteps number holds reads w s model old answer new =
     DecodesSymbol (ByBackend (DecodeCall number holds reads w s))
-        (λ old error new. ⊥) model.precision model.table old answer new
+    (λ old error new. ⊥) model.precision model.table old answer new
 
 -- an encode by the steps of a coder over this backend
 abbrev pub EncodesBySteps : {W B K E S : Type 0} → (W → ℕ) → holding.Ghosts B W K → writing.Ghosts B W E → ℕ → ℕ

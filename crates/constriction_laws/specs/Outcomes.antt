@@ -15,7 +15,7 @@ abbrev pub DecodesPairs : {C S M E : Type 0} → (C → Step → Result (Unit {0
     → (M → List (S × ℕ × ℕ)) → List S → List M → C → C → Type 0
 DecodesPairs {S = S} {M = M} decodes halts precision table symbols models old new =
     InTurn (λ (pair : S × M) old new. DecodesByModel decodes halts precision table old pair.1 (Ok pair.0) new)
-        (zip symbols models) old new
+    (zip symbols models) old new
 
 -- of symbols that have a model each so many came, by the first models, and the step by the next one was refused; of any decoder.
 -- Where memory was missing, some came
@@ -67,7 +67,7 @@ abbrev pub IfItems : {S M A E : Type 0} → ℕ → (M → List (S × ℕ × ℕ
     → (List (Item S) → Type 0) → Type 0
 IfItems precision table models result holds = IfOk result (λ again. holds (pairs_of precision table again.items models))
 
--- the same where the call returned more than the symbols
+-- the same of the first part of what the call returned, together with the other part
 abbrev pub IfItemsWith : {S M A T E : Type 0} → ℕ → (M → List (S × ℕ × ℕ)) → List M → Result (Vec S A × T) E
     → (List (Item S) → T → Type 0) → Type 0
 IfItemsWith precision table models result holds =
@@ -77,20 +77,20 @@ IfItemsWith precision table models result holds =
 abbrev pub GivesBack : {S M A E : Type 0} → List M → List S → Result (Vec S A) E → Type 0
 GivesBack models symbols result = length symbols ≡ length models → IfOk result (λ again. again.items ≡ symbols)
 
--- and this holds too
+-- if there is one symbol for each model and the call succeeded, it returned these symbols, and this holds
 abbrev pub GivesBackAnd : {S M A E : Type 0} → List M → List S → Result (Vec S A) E → Type 0 → Type 0
 GivesBackAnd models symbols result holds =
     length symbols ≡ length models → IfOk result (λ again. (again.items ≡ symbols) × holds)
 
--- the same where the call returned more than the symbols
+-- if there is one symbol for each model and the call succeeded, these symbols are the first part of what it returned
 abbrev pub GivesBackWith : {S M A T E : Type 0} → List M → List S → Result (Vec S A × T) E → Type 0
 GivesBackWith models symbols result = length symbols ≡ length models → IfOk result (λ back. back.0.items ≡ symbols)
 
--- and what else it returned has this property
+-- the same, and the other part of what it returned has this property
 abbrev pub GivesBackWithOne : {S M A T E : Type 0} → List M → List S → Result (Vec S A × T) E → (T → Type 0) → Type 0
 GivesBackWithOne models symbols result holds =
     length symbols ≡ length models → IfOk result (λ back. (back.0.items ≡ symbols) × holds back.1)
 
--- what has this property is one value
+-- values that have the property are the same
 abbrev pub AreOne : {A : Type 0} → (A → Type 0) → A → A → Type 0
 AreOne holds one other = holds one → holds other → one ≡ other

@@ -11,17 +11,18 @@ pub mod words;
 ghost use Rattle.std.specs.Prelude.{◌≡◌, ℕ, ◌-◌, ◌/◌, ◌≤◌, ◌^◌, List};
 ghost use Rattle.std.specs.List.{AllByRecursion};
 ghost use Rattle.constriction_base.specs.Steps.{Step, IsSizes, AreSteps, InTurn};
-ghost use Rattle.constriction_stack.specs.Ans.{AnsState, IsPush, IsValid, empty, exported};
-ghost use Rattle.constriction_queue.specs.Range.{run, sealed, initial};
+ghost use Rattle.constriction_stack.specs.Ans.{AnsState, IsValid, empty, exported};
 ghost use Rattle.constriction_laws.specs.Bounds.{Act, Acts, AreAllowed, IsNetBounded, IsRangeBounded, IsStackBounded};
-ghost use Rattle.constriction_laws.specs.Bounds.{DelimitsSteps, IsStackBoundedAt};
+ghost use Rattle.constriction_laws.specs.Bounds.{IsStackBoundedAt};
+ghost use Rattle.constriction_laws.specs.queue.Lists.{DelimitsSteps, sealed_steps};
+ghost use Rattle.constriction_laws.specs.stack.Lists.{Pushes};
 
 /// Bounds the number of words that a stack coder exports, if it started empty and encoded `steps`.
 ///
 /// Each step has one factor on each side of the inequality: `p * 2^k` on the left, `2^P * (2^k + 1)` on the right.
 pub fn stack_bound()
-    ensures { (w s : ℕ) (steps : List Step) (state : AnsState) → IsSizes w s → AreSteps w steps → InTurn (IsPush w s)
-        steps empty state → IsStackBounded w s steps (exported w state) }
+    ensures { (w s : ℕ) (steps : List Step) (state : AnsState) → IsSizes w s → AreSteps w steps → Pushes w s steps empty
+        state → IsStackBounded w s steps (exported w state) }
 {}
 
 /// Bounds the number of words that a stack coder exports, if all symbols have the same precision.
@@ -31,8 +32,8 @@ pub fn stack_bound()
 /// symbols in bits, and `n * log2(1 + 2^-k)`.
 pub fn stack_bound_at_one_precision()
     ensures { (w s precision : ℕ) (steps : List Step) (state : AnsState) → IsSizes w s → AreSteps w steps →
-        AllByRecursion (λ e. e.precision ≡ precision) steps → InTurn (IsPush w s) steps empty state → IsStackBoundedAt w
-        s precision steps (exported w state) }
+        AllByRecursion (λ e. e.precision ≡ precision) steps → Pushes w s steps empty state → IsStackBoundedAt w s
+        precision steps (exported w state) }
 {}
 
 /// Bounds how many exported words a sequence of encodes and decodes adds to a stack coder.
@@ -50,8 +51,8 @@ pub fn stack_net_bound()
 ///
 /// The encoder starts from the initial interval and encodes `steps`.
 pub fn range_bound()
-    ensures { (w s : ℕ) (steps : List Step) → IsSizes w s → AreSteps w steps → IsRangeBounded w s 2 steps (sealed w s
-        (run w s steps (initial s))) }
+    ensures { (w s : ℕ) (steps : List Step) → IsSizes w s → AreSteps w steps → IsRangeBounded w s 2 steps (sealed_steps
+        w s steps) }
 {}
 
 /// Bounds the number of words of a range encoder with a self-delimiting seal.

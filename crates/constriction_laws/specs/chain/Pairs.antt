@@ -50,7 +50,7 @@ abbrev pub PairsNotPutBack : {S M : Type 0} → ℕ → ℕ → ℕ → (M → L
     → PutBackError → Type 0
 PairsNotPutBack w s precision table words symbols models e =
     NotPutBack w s precision words (reverse (pairs_of precision table symbols models))
-        (length symbols ≡ length models → ⊥) e
+    (length symbols ≡ length models → ⊥) e
 
 -- ---- two coders
 

@@ -44,8 +44,8 @@ module _ {W B E Q : Type 0} (number : W → ℕ) (holds : holding.Ghosts B W Q) 
 abbrev pub ReadsFlagged : {A E B : Type 0} → ℕ → ℕ → Model ℕ → Model ℕ → Switch B → Result (Vec ℕ A) E → Switch B
     → Type 0
 ReadsFlagged w s first second old result new = (words : List ℕ) (from : Run) → StandsAt w s words from old.decoder
-    → IfOk result
-    (λ again. ReadTo w s words (flagged_behind old.switched old.flag first second again.items) from new.decoder)
+    → IfOk result (λ again.
+    ReadTo w s words (flagged_behind old.switched old.flag first second again.items) from new.decoder)
 
 -- where its decoder refused, the words hold no list of so many symbols
 abbrev pub HoldNoneFlagged : {T F E B : Type 0} → ℕ → ℕ → Model ℕ → Model ℕ → ℕ → Switch B

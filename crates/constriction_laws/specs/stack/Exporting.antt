@@ -34,7 +34,7 @@ ExportsBinary w s items old words = (last : AnsState) × (m : ℕ) × EncodesAll
 abbrev pub NoBinary : {S : Type 0} → ℕ → ℕ → List (Item S) → AnsState → RoundTripError → Type 0
 NoBinary w s items old e =
     Reasons (HasImpossibleItem items) ⊥
-        (ComesFromNoWords w s items old × (IsValid w s old → LeadsToNoBinary w s (reverse items) old)) (λ taken. ⊥) e
+    (ComesFromNoWords w s items old × (IsValid w s old → LeadsToNoBinary w s (reverse items) old)) (λ taken. ⊥) e
 
 -- Encodes of symbols, each under its own model, from the last to the first.
 abbrev pub EncodesPairs : {S M : Type 0} → ℕ → ℕ → ℕ → (M → List (S × ℕ × ℕ)) → List S → List M → AnsState → AnsState
@@ -77,7 +77,7 @@ abbrev pub GivesExport : {S M A E : Type 0} → ℕ → ℕ → ℕ → (M → L
     → List S → AnsState → Type 0
 GivesExport w s precision table models words result symbols state =
     EncodesPairs w s precision table symbols models empty state → words ≡ exported w state
-        → GivesBack models symbols result
+    → GivesBack models symbols result
 
 -- A call undid an export of some symbols onto a valid state: it returned the symbols, and a coder in that state.
 abbrev pub UndoesExport : {S M A B E : Type 0} → ℕ → ℕ → ℕ → (M → List (S × ℕ × ℕ)) → List M → List ℕ

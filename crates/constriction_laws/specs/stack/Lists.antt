@@ -2,10 +2,10 @@
 -- lists.
 use Rattle.std.specs.Prelude.{◌≡◌, ◌⊎◌, ℕ, ◌%◌, ◌^◌, List, ◌∷◌, reverse}
 use Rattle.constriction_base.specs.Models.{Item, Model, IsModel, AreModels, models}
-use Rattle.constriction_base.specs.Steps.{Step, AreSteps, AreWords, IsSizes}
+use Rattle.constriction_base.specs.Steps.{Step, InTurn, AreSteps, AreWords, IsSizes}
 use Rattle.constriction_base.specs.Tables.{IsTable}
 use Rattle.constriction_base.specs.Writing.{IsOneAbove}
-use Rattle.constriction_stack.specs.Ans.{AnsState, AnsValue, IsValid, empty, filled}
+use Rattle.constriction_stack.specs.Ans.{AnsState, AnsValue, IsPush, IsValid, empty, filled}
 use Rattle.constriction_stack.specs.Binary.{binary_state, binary_words}
 use Rattle.constriction_stack.specs.Positions.{position_of, sought}
 use Rattle.constriction_stack.specs.Symbols.{Decodes, DecodesAll, EncodesAll}
@@ -62,7 +62,7 @@ IsBinaryForm w state words = (m : ℕ) × IsOneAbove w m state.head × (binary_w
 abbrev pub AfterWayBack : {S : Type 0} → ℕ → ℕ → List ℕ → List (Item S) → AnsState → AnsState → Type 0 → Type 0
 AfterWayBack w s words items state last holds =
     IsSizes w s → AreWords w words → AreModels w items → DecodesBinary w s words items state
-        → EncodesAll w s (reverse items) state last → holds
+    → EncodesAll w s (reverse items) state last → holds
 
 -- The state of this head above other words.
 abbrev pub with_words : AnsState → List ℕ → AnsState
@@ -92,3 +92,7 @@ HasTable model = IsTable model.precision model.table
 -- The words are as before, or the low word of the head stands before them.
 abbrev pub AddsOneAtMost : ℕ → AnsState → AnsState → Type 0
 AddsOneAtMost w old new = (new.words ≡ old.words) ⊎ (new.words ≡ old.head % 2 ^ w ∷ old.words)
+
+-- Pushes of the steps, one after the other, lead from the old state to the new one.
+abbrev pub Pushes : ℕ → ℕ → List Step → AnsState → AnsState → Type 0
+Pushes w s steps old new = InTurn (IsPush w s) steps old new

@@ -58,3 +58,11 @@ CostsNoMore weights codewords others =
 abbrev pub IsLeastCost : List ℕ → (ℕ → Option (List Bool)) → List (List Bool) → List (List Bool) → Type 0
 IsLeastCost weights codeword codewords others =
     WithCodewords weights codeword codewords (CostsNoMore weights codewords others)
+
+-- The codewords from 0 on, one for each weight, cost no more than those of any symbols of another codebook, of which no
+-- two mean the same.
+abbrev pub IsNoDearer : {P S : Type 0} → (P → ℕ) → (ℕ → Option (List Bool)) → (S → Option (List Bool))
+    → (S → S → Type 0) → List P → Type 0
+IsNoDearer {S = S} number codeword other same weights = (symbols : List S) (cost others : ℕ)
+    → CostsFromZero number codeword weights cost → AreApart same symbols
+    → Costs other symbols (map number weights) others → cost ≤ others

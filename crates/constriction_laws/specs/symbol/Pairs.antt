@@ -54,7 +54,8 @@ abbrev pub ComeBackUnderEach : {I K S V E : Type 0} → (I → Option (Result Bo
     → (K → S → Option (List Bool)) → (K → List Bool → Type 0) → (K → List Bool → V → Type 0) → (K → S → S → Type 0)
     → List K → List S → List S → List Bool → List Bool → I → I → Type 0
 ComeBackUnderEach next unread codeword reads_on is_invalid same codebooks symbols again code rest old new =
-    AreCodewordsBy codeword codebooks symbols code → unread old ≡ code ++ rest
+    length symbols ≡ length codebooks → length again ≡ length codebooks
+    → AreCodewordsBy codeword codebooks symbols code → unread old ≡ code ++ rest
     → ReadsPairs next codeword reads_on is_invalid (zip again codebooks) old new
     → AreSameBy same codebooks again symbols × (unread new ≡ rest)
 

@@ -3,11 +3,11 @@
 ghost use Rattle.std.specs.Prelude.{◌≡◌, ◌/◌, ◌<◌, ◌++◌, ◌∷◌, ℕ, List};
 ghost use Rattle.constriction_base.specs.Models.{Item, AreModels};
 ghost use Rattle.constriction_base.specs.Steps.{Step, IsSizes, AreSteps, AreWords};
-ghost use Rattle.constriction_queue.specs.Range.{Run, ReadAs, sealed, initial};
+ghost use Rattle.constriction_queue.specs.Range.{Run, sealed, initial};
 ghost use Rattle.constriction_queue.specs.SelfDelimiting.{AreLeast, SelfDelimits, sealed_with_zeros};
 ghost use Rattle.constriction_queue.specs.Symbols.{NarrowsAll, FindsAll, MayEnd};
-ghost use Rattle.constriction_laws.specs.Bounds.{DelimitsSteps};
-ghost use Rattle.constriction_laws.specs.queue.Lists.{AfterBoth, AfterEncodes, AreLostBefore};
+ghost use Rattle.constriction_laws.specs.queue.Lists.{AfterBoth, AfterEncodes, AreLostBefore, DelimitsSteps};
+ghost use Rattle.constriction_laws.specs.queue.Lists.{ReadsSteps};
 
 use crate::queue::lists::decodes_undo_encodes;
 
@@ -31,7 +31,7 @@ pub fn self_delimiting_words<Symbol>()
 /// The encoder starts from the initial interval.
 pub fn self_delimiting_words_are_read()
     ensures { (w s : ℕ) (steps : List Step) (words rest : List ℕ) → IsSizes w s → AreSteps w steps → AreWords w rest →
-        DelimitsSteps w s steps words → ReadAs w s (words ++ rest) steps (initial s) }
+        DelimitsSteps w s steps words → ReadsSteps w s (words ++ rest) steps }
 {}
 
 /// Decoding from a position returns the symbols encoded since then, if the seal is self-delimiting.

@@ -6,12 +6,12 @@
 ghost use Rattle.std.specs.Prelude.{◌≡◌, ℕ, List, reverse, ⊤};
 ghost use Rattle.constriction_base.specs.Readings.{BeginsHigh};
 ghost use Rattle.constriction_base.specs.Steps.{Step, InTurn, IsSizes, AreSteps, AreWords};
-ghost use Rattle.constriction_stack.specs.Ans.{AnsState, IsValid, IsPush, IsPop, filled, exported, empty};
-ghost use Rattle.constriction_base.specs.Models.{Item, IsModel, models, AreModels, AreKnown};
+ghost use Rattle.constriction_stack.specs.Ans.{AnsState, IsValid, IsPop, filled, exported, empty};
+ghost use Rattle.constriction_base.specs.Models.{Item, IsModel, AreModels, AreKnown};
 ghost use Rattle.constriction_stack.specs.Symbols.{Encodes, Decodes, EncodesAll, DecodesAll};
 ghost use Rattle.constriction_laws.specs.Outcomes.{AreOne};
 ghost use Rattle.constriction_laws.specs.stack.Lists.{AfterDecodes, AfterEncodes, DecodesWords, FromEmpty, FromValid};
-ghost use Rattle.constriction_laws.specs.stack.Lists.{IsOneWayBack};
+ghost use Rattle.constriction_laws.specs.stack.Lists.{IsOneWayBack, Pushes};
 ghost use Rattle.constriction_laws.specs.stack.Undone.{Sizes, decode_back, encode_back, decoded_valid};
 
 use crate::lists::{StepsUndo, lists_undo};
@@ -138,12 +138,12 @@ pub fn words_come_back<Symbol>()
 /// The law is about steps alone, without tables. A list of steps can be pushed onto each valid state in exactly one
 /// way.
 pub fn lists_of_entries_undo()
-    ensures pushes { (w s : ℕ) (steps : List Step) (old : AnsState) → FromValid w s steps old ((new : AnsState) × InTurn
-        (IsPush w s) steps old new × IsValid w s new) }
+    ensures pushes { (w s : ℕ) (steps : List Step) (old : AnsState) → FromValid w s steps old ((new : AnsState) × Pushes
+        w s steps old new × IsValid w s new) }
     ensures only { (w s : ℕ) (steps : List Step) (old new other : AnsState) → IsSizes w s → AreSteps w steps → AreOne
-        (InTurn (IsPush w s) steps old) new other }
-    ensures pops_undo { (w s : ℕ) (steps : List Step) (old new : AnsState) →
-        InTurn (IsPush w s) steps old new → InTurn (IsPop w s) (reverse steps) new old }
+        (Pushes w s steps old) new other }
+    ensures pops_undo { (w s : ℕ) (steps : List Step) (old new : AnsState) → Pushes w s steps old new → InTurn (IsPop w
+        s) (reverse steps) new old }
     ensures pushes_undo { (w s : ℕ) (steps : List Step) (old new : AnsState) → FromValid w s steps old (InTurn (IsPop w
-        s) steps old new → InTurn (IsPush w s) (reverse steps) new old) }
+        s) steps old new → Pushes w s (reverse steps) new old) }
 {}

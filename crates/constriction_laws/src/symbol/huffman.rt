@@ -1,7 +1,7 @@
 //! Codewords of Huffman trees.
 
-ghost use Rattle.constriction_laws.specs.symbol.Cost.{AreCodewordsOf, AreLawful, IsLeastCost, IsPrefixFree, WithCodewords};
-ghost use Rattle.constriction_laws.specs.symbol.Cost.{cost};
+ghost use Rattle.constriction_laws.specs.symbol.Cost.{AreCodewordsOf, AreLawful, IsLeastCost, IsPrefixFree};
+ghost use Rattle.constriction_laws.specs.symbol.Cost.{WithCodewords, cost};
 ghost use Rattle.constriction_symbol.specs.Huffman.{Book, IsHuffman, Tree, huffman, merge};
 ghost use Rattle.std.specs.Prelude.{Bool, List, None, Option, Some, [], ◌∷◌, ◌<◌, ◌≡◌, ◌≤◌, length, ℕ};
 

@@ -5,7 +5,7 @@ ghost use Rattle.constriction_laws.specs.declared.errors.Stopped.TheVariants.{Re
 ghost use Rattle.constriction_symbol.specs.declared.codebooks.SymbolCodeError.{SymbolCodeError};
 ghost use Rattle.constriction_laws.specs.symbol.Refusals.{BeginsWithNone};
 ghost use Rattle.constriction_laws.specs.symbol.Pairs.{ComeBackUnder, ComeBackUnderEach, StopsUnder};
-ghost use Rattle.std.specs.Prelude.{Bool, List, length, ◌++◌, ◌≡◌, ℕ};
+ghost use Rattle.std.specs.Prelude.{Bool, List, ◌++◌, ◌≡◌, ℕ};
 
 use constriction_base::backends::Semantics;
 use constriction_symbol::codebooks::DecoderCodebook;
@@ -28,9 +28,9 @@ pub fn symbols_come_back<S: Semantics, R: ReadBitStream<S>, C: DecoderCodebook>(
 /// symbol, a codebook may return another symbol that means the same (`is_same`).
 pub fn mixed_symbols_come_back<S: Semantics, R: ReadBitStream<S>, C: DecoderCodebook>()
     requires { R.is_list }
-    ensures { (codebooks : List C) (symbols again : List C.Symbol) (code rest : List Bool) (old new : R) → length
-        symbols ≡ length codebooks → length again ≡ length codebooks → ComeBackUnderEach R.gives R.unread C.codeword
-        C.reads_on C.is_invalid C.is_same codebooks symbols again code rest old new }
+    ensures { (codebooks : List C) (symbols again : List C.Symbol) (code rest : List Bool) (old new : R) →
+        ComeBackUnderEach R.gives R.unread C.codeword C.reads_on C.is_invalid C.is_same codebooks symbols again code
+        rest old new }
 {}
 
 /// If decoding `amt` symbols stops with a codebook's error, the bits don't begin with the codewords of `amt` symbols.
