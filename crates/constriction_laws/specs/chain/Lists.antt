@@ -8,8 +8,8 @@ use Rattle.constriction_chain.specs.Symbols.{AreModelsAt, PutsBackAll, TakesOffA
 use Rattle.constriction_chain.specs.Words.{remainder_words}
 
 -- Behind decodes of items under lawful models, from a state of a coder, this holds.
-abbrev pub AfterDecodes : {S : Type 0} → ℕ → ℕ → ℕ → List (Item S) → ChainState → ChainState → Type 0 → Type 0
-AfterDecodes w s P items old new holds =
+abbrev pub AfterTakeOff : {S : Type 0} → ℕ → ℕ → ℕ → List (Item S) → ChainState → ChainState → Type 0 → Type 0
+AfterTakeOff w s P items old new holds =
     IsSized w s P → AreModelsAt P items → IsChain w s P old → TakesOffAll w s items old new → holds
 
 -- From states that read the same bits and words this holds.

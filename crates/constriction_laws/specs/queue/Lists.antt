@@ -8,8 +8,8 @@ use Rattle.constriction_queue.specs.SelfDelimiting.{SelfDelimits}
 use Rattle.constriction_queue.specs.Symbols.{FindsAll, NarrowsAll}
 
 -- Behind encodes of items under lawful models, from the initial run, this holds.
-abbrev pub AfterEncodes : {S : Type 0} → ℕ → ℕ → List (Item S) → Run → Type 0 → Type 0
-AfterEncodes w s items last holds = IsSizes w s → AreModels w items → NarrowsAll w s items (initial s) last → holds
+abbrev pub AfterNarrows : {S : Type 0} → ℕ → ℕ → List (Item S) → Run → Type 0 → Type 0
+AfterNarrows w s items last holds = IsSizes w s → AreModels w items → NarrowsAll w s items (initial s) last → holds
 
 -- The same from any interval.
 abbrev pub FromInterval : {S : Type 0} → ℕ → ℕ → List (Item S) → Run → Run → Type 0 → Type 0
@@ -28,8 +28,8 @@ AfterBoth w s before since middle last holds =
     NarrowsAll w s before (initial s) middle → NarrowsAll w s since middle last → holds
 
 -- The same where all models are lawful.
-abbrev pub AfterTwo : {S : Type 0} → ℕ → ℕ → List (Item S) → List (Item S) → Run → Run → Type 0 → Type 0
-AfterTwo w s before since middle last holds =
+abbrev pub AfterLists : {S : Type 0} → ℕ → ℕ → List (Item S) → List (Item S) → Run → Run → Type 0 → Type 0
+AfterLists w s before since middle last holds =
     IsSizes w s → AreModels w before → AreModels w since → AfterBoth w s before since middle last holds
 
 -- If others have the models of the items, they are the items, and this holds.

@@ -66,8 +66,8 @@ SealsPairs w s precision table symbols models encoder words =
     SealsAll w s (pairs_of precision table symbols models) (run_by w s encoder) words
 
 -- These words of a new encoder are bounded by the symbols that it encoded, each under its own model.
-abbrev pub BoundsPairs : {S M W : Type 0} → ℕ → ℕ → ℕ → (M → List (S × ℕ × ℕ)) → List S → List M → List W → Type 0
-BoundsPairs w s precision table symbols models words =
+abbrev pub BoundsSealed : {S M W : Type 0} → ℕ → ℕ → ℕ → (M → List (S × ℕ × ℕ)) → List S → List M → List W → Type 0
+BoundsSealed w s precision table symbols models words =
     AreBoundedBy (IsRangeBounded w s 2) (pairs_of precision table symbols models) words
 
 -- The items that a call decoded are read from the words at which the decoder stood, up to where it stands.

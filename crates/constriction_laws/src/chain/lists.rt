@@ -8,7 +8,7 @@ ghost use Rattle.constriction_base.specs.Models.{Item};
 ghost use Rattle.constriction_chain.specs.Chain.{ChainState, IsChain};
 ghost use Rattle.constriction_chain.specs.Symbols.{TakesOff, TakesOffAll, PutsBack, PutsBackAll};
 ghost use Rattle.constriction_chain.specs.Symbols.{IsModelAt};
-ghost use Rattle.constriction_laws.specs.chain.Lists.{AfterDecodes};
+ghost use Rattle.constriction_laws.specs.chain.Lists.{AfterTakeOff};
 ghost use Rattle.constriction_laws.specs.chain.Undone.{Sizes, decode_back, encode_back, decoded_at};
 
 use crate::lists::{StepsUndo, lists_undo};
@@ -78,11 +78,11 @@ pub fn decodes_undo_encodes<Symbol>()
 ///
 /// The encodes are possible. They lead to the state before the decodes, and to no other state.
 pub fn encodes_undo_decodes<Symbol>()
-    ensures back { (w s P : ℕ) (items : List (Item Symbol)) (old new : ChainState) → AfterDecodes w s P items old new
+    ensures back { (w s P : ℕ) (items : List (Item Symbol)) (old new : ChainState) → AfterTakeOff w s P items old new
         (PutsBackAll w s (reverse items) new old) }
-    ensures only { (w s P : ℕ) (items : List (Item Symbol)) (old new last : ChainState) → AfterDecodes w s P items old
+    ensures only { (w s P : ℕ) (items : List (Item Symbol)) (old new last : ChainState) → AfterTakeOff w s P items old
         new (PutsBackAll w s (reverse items) new last → last ≡ old) }
-    ensures valid { (w s P : ℕ) (items : List (Item Symbol)) (old new : ChainState) → AfterDecodes w s P items old new
+    ensures valid { (w s P : ℕ) (items : List (Item Symbol)) (old new : ChainState) → AfterTakeOff w s P items old new
         (IsChain w s P new) }
 {
     lists_undo::<Decoding<Symbol>>()

@@ -6,7 +6,7 @@ ghost use Rattle.constriction_base.specs.Steps.{Step, IsSizes, AreSteps, AreWord
 ghost use Rattle.constriction_queue.specs.Range.{Run, sealed, initial};
 ghost use Rattle.constriction_queue.specs.SelfDelimiting.{AreLeast, SelfDelimits, sealed_with_zeros};
 ghost use Rattle.constriction_queue.specs.Symbols.{NarrowsAll, FindsAll, MayEnd};
-ghost use Rattle.constriction_laws.specs.queue.Lists.{AfterBoth, AfterEncodes, AreLostBefore, DelimitsSteps};
+ghost use Rattle.constriction_laws.specs.queue.Lists.{AfterBoth, AfterNarrows, AreLostBefore, DelimitsSteps};
 ghost use Rattle.constriction_laws.specs.queue.Lists.{ReadsSteps};
 
 use crate::queue::lists::decodes_undo_encodes;
@@ -22,7 +22,7 @@ pub fn self_delimiting_words<Symbol>()
     ensures two_words { (w s : ℕ) (items : List (Item Symbol)) (last : Run) (words : List ℕ) → IsSizes w s → s / w ≡ 2 →
         AreModels w items → NarrowsAll w s items (initial s) last → SelfDelimits w s last words →
         words ≡ sealed w s last }
-    ensures exhausted { (w s : ℕ) (items : List (Item Symbol)) (last : Run) (words : List ℕ) → AfterEncodes w s items
+    ensures exhausted { (w s : ℕ) (items : List (Item Symbol)) (last : Run) (words : List ℕ) → AfterNarrows w s items
         last (SelfDelimits w s last words → MayEnd w s words last) }
 {}
 
@@ -50,7 +50,7 @@ pub fn symbols_come_back_whatever_follows<Symbol>()
 /// For some words `rest`, decoding the seal with fewer zero words, followed by `rest`, doesn't return the symbols. The
 /// encoder starts from the initial interval and encodes at least one symbol.
 pub fn fewer_zero_words_hold_less<Symbol>()
-    ensures { (w s count fewer : ℕ) (first : Item Symbol) (others : List (Item Symbol)) (last : Run) → AfterEncodes w s
+    ensures { (w s count fewer : ℕ) (first : Item Symbol) (others : List (Item Symbol)) (last : Run) → AfterNarrows w s
         (first ∷ others) last (AreLeast w s last count → fewer < count → AreLostBefore w s (sealed_with_zeros w s last
         fewer) (first ∷ others)) }
 {}

@@ -11,7 +11,7 @@ ghost use Rattle.constriction_base.specs.Models.{Item, IsModel, AreModels, AreKn
 ghost use Rattle.constriction_base.specs.Steps.{IsSizes, AreWords};
 ghost use Rattle.constriction_queue.specs.Range.{Run, IsInterval, Within, sealed, initial};
 ghost use Rattle.constriction_queue.specs.Symbols.{Finds, NarrowsAll, FindsAll, MayEnd};
-ghost use Rattle.constriction_laws.specs.queue.Lists.{AfterEncodes, FromInterval, IsOneRead, WithinEncodes};
+ghost use Rattle.constriction_laws.specs.queue.Lists.{AfterNarrows, FromInterval, IsOneRead, WithinEncodes};
 ghost use Rattle.constriction_laws.specs.queue.Undone.{Reading, TakesBack, read_back};
 
 use crate::lists::{StepsUndo, lists_undo};
@@ -80,11 +80,11 @@ pub fn symbols_of_any_words<Symbol>()
 /// with no words after them, with the same tables in the same order. The decoder returns the same symbols and ends at
 /// the encoder's run, where it may be exhausted.
 pub fn symbols_come_back<Symbol>()
-    ensures decoded { (w s : ℕ) (items : List (Item Symbol)) (last : Run) → AfterEncodes w s items last (FindsAll w s
+    ensures decoded { (w s : ℕ) (items : List (Item Symbol)) (last : Run) → AfterNarrows w s items last (FindsAll w s
         (sealed w s last) items (initial s) last) }
-    ensures only { (w s : ℕ) (items others : List (Item Symbol)) (last end : Run) → AfterEncodes w s items last
+    ensures only { (w s : ℕ) (items others : List (Item Symbol)) (last end : Run) → AfterNarrows w s items last
         (IsOneRead w s (sealed w s last) items others (initial s) last end) }
-    ensures exhausted { (w s : ℕ) (items : List (Item Symbol)) (last : Run) → AfterEncodes w s items last (MayEnd w s
+    ensures exhausted { (w s : ℕ) (items : List (Item Symbol)) (last : Run) → AfterNarrows w s items last (MayEnd w s
         (sealed w s last) last) }
 {
     decodes_undo_encodes::<Symbol>()

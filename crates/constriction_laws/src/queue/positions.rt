@@ -10,7 +10,7 @@ ghost use Rattle.constriction_queue.specs.Encoder.{run_by};
 ghost use Rattle.constriction_queue.specs.Range.{Run, IsAt, IsInterval, number_of_first, sealed};
 ghost use Rattle.constriction_queue.specs.States.{IsPosition};
 ghost use Rattle.constriction_queue.specs.Symbols.{FindsAll};
-ghost use Rattle.constriction_laws.specs.queue.Lists.{AfterTwo, FromInterval, IsOneRead};
+ghost use Rattle.constriction_laws.specs.queue.Lists.{AfterLists, FromInterval, IsOneRead};
 
 use crate::queue::lists::decodes_undo_encodes;
 use constriction_base::backends::{Holds, WriteWords};
@@ -33,9 +33,9 @@ pub fn position_leads_there()
 /// The decoder may read any words that the encoder exports later, until the encoder is cleared. By the clause
 /// `anywhere`, only the interval of the position matters, not the words written before it.
 pub fn symbols_after_a_position<Symbol>()
-    ensures decoded { (w s : ℕ) (before since : List (Item Symbol)) (middle last : Run) → AfterTwo w s before since
+    ensures decoded { (w s : ℕ) (before since : List (Item Symbol)) (middle last : Run) → AfterLists w s before since
         middle last (FindsAll w s (sealed w s last) since middle last) }
-    ensures only { (w s : ℕ) (before since others : List (Item Symbol)) (middle last end : Run) → AfterTwo w s before
+    ensures only { (w s : ℕ) (before since others : List (Item Symbol)) (middle last end : Run) → AfterLists w s before
         since middle last (IsOneRead w s (sealed w s last) since others middle last end) }
     ensures anywhere { (w s : ℕ) (since : List (Item Symbol)) (middle last : Run) → FromInterval w s since middle last
         (FindsAll w s (sealed w s last) since middle last) }

@@ -11,7 +11,7 @@ ghost use Rattle.constriction_laws.specs.Outcomes.{HasImpossibleItem, IfItemsWit
 ghost use Rattle.constriction_queue.specs.Encoder.{left_to_encode};
 ghost use Rattle.constriction_laws.specs.queue.Outcomes.{LieWithin, NotCoded};
 ghost use Rattle.constriction_laws.specs.queue.Outcomes.{NotRead, ReadsToEnd};
-ghost use Rattle.constriction_laws.specs.queue.Pairs.{BoundsPairs, GivesSymbolsOf, HoldNoPairs, IsAsNew, SealsPairs};
+ghost use Rattle.constriction_laws.specs.queue.Pairs.{BoundsSealed, GivesSymbolsOf, HoldNoPairs, IsAsNew, SealsPairs};
 
 use crate::bounds::following::symbols_come_back_before_others;
 use crate::bounds::range_bound;
@@ -55,7 +55,7 @@ where
     ensures words { IfOk result (λ all. SealsPairs Word.BITS State.BITS PRECISION M.table symbols.now models.now encoder
         (reverse (map Word.number (Backend.words all)))) }
     ensures sizes { IfOk result (λ _. IsSizes Word.BITS State.BITS) }
-    ensures few { IsAsNew Word.BITS State.BITS encoder → IfOk result (λ all. BoundsPairs Word.BITS State.BITS PRECISION
+    ensures few { IsAsNew Word.BITS State.BITS encoder → IfOk result (λ all. BoundsSealed Word.BITS State.BITS PRECISION
         M.table symbols.now models.now (Backend.words all)) }
     ensures err { IfErr result (NotCoded (HasImpossibleItem (pairs_of PRECISION M.table symbols.now models.now))
         (left_to_encode encoder < length symbols.now)) }
