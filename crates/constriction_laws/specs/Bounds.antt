@@ -66,3 +66,26 @@ AreEntries [] [] = ⊤
 AreEntries [] (e ∷ es) = ⊥
 AreEntries (item ∷ items) [] = ⊥
 AreEntries (item ∷ items) (e ∷ es) = AtEntry item.model.precision item.model.table item.symbol (λ step. step ≡ e) × AreEntries items es
+
+-- ---- bounds on a number of words
+
+-- These words of a stack coder that started empty and encoded the steps aren't more than the bound.
+abbrev pub IsStackBounded : {A : Type 0} → ℕ → ℕ → List Step → List A → Type 0
+IsStackBounded w s steps words =
+    2 ^ (w * (length words - 1)) * product (share w s) steps ≤ 2 ^ (s - w) * product (rounded_whole w s) steps
+
+-- The same where all steps have one precision, and so the same spare bits.
+abbrev pub IsStackBoundedAt : {A : Type 0} → ℕ → ℕ → ℕ → List Step → List A → Type 0
+IsStackBoundedAt w s precision steps words =
+    2 ^ (w * (length words - 1)) * (product (λ e. e.p) steps * (2 ^ (s - w - precision)) ^ length steps)
+    ≤ 2 ^ (s - w) * ((2 ^ precision) ^ length steps * (2 ^ (s - w - precision) + 1) ^ length steps)
+
+-- These words of a range encoder that encoded the steps aren't more than the bound, if they are `seal` words at least.
+abbrev pub IsRangeBounded : {A : Type 0} → ℕ → ℕ → ℕ → List Step → List A → Type 0
+IsRangeBounded w s seal steps words = seal ≤ length words
+    → 2 ^ (w * (length words - seal)) * (2 ^ s - 1) * product (share w s) steps
+    < 2 ^ s * product (rounded_whole w s) steps
+
+-- The words are bounded by steps, which are those of the items.
+abbrev pub AreBoundedBy : {S A : Type 0} → (List Step → List A → Type 0) → List (Item S) → List A → Type 0
+AreBoundedBy bounded items words = (steps : List Step) × AreEntries items steps × bounded steps words

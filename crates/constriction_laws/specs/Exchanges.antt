@@ -1,11 +1,21 @@
 -- The outcomes of an exchange, which decodes one symbol and then encodes another.
-use Rattle.std.specs.Prelude.{◌≡◌, ◌-◌, ◌<◌, ◌≤◌, ◌^◌, ◌⊎◌, ℕ, Result, Ok, Err}
+use Rattle.std.specs.Prelude.{◌≡◌, ◌-◌, ◌<◌, ◌≤◌, ◌^◌, ◌⊎◌, ℕ, List, [], ◌∷◌, Result, Ok, Err}
 use Rattle.constriction_base.specs.Models.{Model}
-use Rattle.constriction_base.specs.Tables.{Impossible}
+use Rattle.constriction_base.specs.Steps.{Step}
+use Rattle.constriction_base.specs.Tables.{AtEntry, Impossible}
 use Rattle.constriction_base.specs.declared.errors.CoderError.{CoderError}
 use Rattle.constriction_base.specs.declared.errors.CoderError.TheVariants.{Backend}
-use Rattle.constriction_stack.specs.Ans.{AnsState, AnsValue}
-use Rattle.constriction_stack.specs.Symbols.{Decodes}
+use Rattle.constriction_stack.specs.Ans.{AnsState, AnsValue, DecodeCall, EncodeCall}
+use Rattle.constriction_stack.specs.Symbols.{Decodes, Encodes}
+use Rattle.constriction_stream.specs.Symbols.{ByBackend, DecodesSymbol, EncodesSymbol}
+use Rattle.constriction_base.specs.declared.backends.reading.Holds as holding
+use Rattle.constriction_base.specs.declared.backends.reading.ReadWords as reading
+use Rattle.constriction_base.specs.declared.backends.writing.WriteWords as writing
+use Rattle.constriction_base.specs.declared.errors.DefaultEncoderFrontendError.{DefaultEncoderFrontendError}
+use Rattle.constriction_base.specs.declared.errors.DefaultEncoderFrontendError.TheVariants as frontend_error
+use Rattle.std.specs.declared.convert.Infallible.{Infallible}
+use Rattle.constriction_laws.specs.Bounds.{Decode, Encode, IsNetBounded}
+use Rattle.constriction_laws.specs.Outcomes.{model_at}
 use Rattle.constriction_laws.specs.declared.bounds.words.ExchangeError.{ExchangeError}
 use Rattle.constriction_laws.specs.declared.bounds.words.ExchangeError.TheVariants.{LowHead, ImpossibleSymbol, Refused}
 
@@ -44,3 +54,44 @@ abbrev pub StopsExchange : Type 0 → Type 0 → Type 0 → ExchangeError → Ty
 StopsExchange low impossible refused LowHead = low
 StopsExchange low impossible refused ImpossibleSymbol = impossible
 StopsExchange low impossible refused Refused = refused
+
+-- a decode by the steps of a coder over this backend
+abbrev pub DecodesBySteps : {W B K E S : Type 0} → (W → ℕ) → holding.Ghosts B W K → reading.Ghosts B W K E → ℕ → ℕ
+    → Model S → AnsValue B → Result S (CoderError Infallible E) → AnsValue B → Type 0
+DecodesBySteps number holds reads w s model old answer new =
+    DecodesSymbol (ByBackend (DecodeCall number holds reads w s))
+    (λ old error new. ⊥) model.precision model.table old answer new
+
+-- an encode by the steps of a coder over this backend
+abbrev pub EncodesBySteps : {W B K E S : Type 0} → (W → ℕ) → holding.Ghosts B W K → writing.Ghosts B W E → ℕ → ℕ
+    → Model S → S → AnsValue B → Result (Unit {0}) (CoderError DefaultEncoderFrontendError E) → AnsValue B → Type 0
+EncodesBySteps number holds writes w s model symbol old answer new =
+    EncodesSymbol (ByBackend (EncodeCall number holds writes w s)) (λ error. error ≡ frontend_error.ImpossibleSymbol)
+    model.precision model.table symbol old answer new
+
+-- ---- the exchange, by tables of one precision
+
+-- one symbol was taken off, and then the other put on
+abbrev pub Exchanges : {S T : Type 0} → ℕ → ℕ → ℕ → List (S × ℕ × ℕ) → List (T × ℕ × ℕ) → S → T → AnsState → AnsState
+    → Type 0
+Exchanges w s precision off on taken symbol old new =
+    (mid : AnsState) × TakenHigh w s (model_at precision off) taken old mid
+    × Encodes w s (model_at precision on) symbol mid new
+
+-- the words that it added are bounded by the entries of both symbols
+abbrev pub IsExchangeBounded : {S T : Type 0} → ℕ → ℕ → ℕ → List (S × ℕ × ℕ) → List (T × ℕ × ℕ) → S → T → AnsState
+    → AnsState → Type 0
+IsExchangeBounded w s precision off on taken symbol old new = (out put : Step)
+    × AtEntry precision off taken (λ step. step ≡ out) × AtEntry precision on symbol (λ step. step ≡ put)
+    × IsNetBounded w s (Decode out ∷ Encode put ∷ []) old new
+
+-- why it ended early, of a coder with these sizes over this backend
+abbrev pub NotExchanged : {W B K E F S T : Type 0} → (W → ℕ) → holding.Ghosts B W K → reading.Ghosts B W K E
+    → writing.Ghosts B W F → ℕ → ℕ → ℕ → List (S × ℕ × ℕ) → List (T × ℕ × ℕ) → T → AnsValue B → AnsValue B
+    → ExchangeError → Type 0
+NotExchanged {S = S} number holds reads writes w s precision off on symbol old new e = StopsExchange
+    (StopsLow w s (model_at precision off) old.state new.state)
+    (StopsImpossible w s (model_at precision off) (model_at precision on) symbol old.state new.state)
+    (RefusesOff {S = S} w s (DecodesBySteps number holds reads w s (model_at precision off)) old new
+    ⊎ RefusesOn w s (model_at precision off) (DecodesBySteps number holds reads w s (model_at precision off))
+    (EncodesBySteps number holds writes w s (model_at precision on) symbol) old new) e

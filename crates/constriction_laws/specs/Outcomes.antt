@@ -1,14 +1,21 @@
 -- The reasons why lists of symbols weren't encoded or decoded.
-use Rattle.std.specs.Prelude.{◌≡◌, ℕ, ◌<◌, ◌≤◌, ⊤, List, ◌∷◌, ◌++◌, Result, Ok, Err, length, drop}
+use Rattle.std.specs.Prelude.{◌≡◌, ℕ, ◌<◌, ◌≤◌, ⊤, List, ◌∷◌, ◌++◌, Result, Ok, Err, IfOk, Vec, length, drop}
 use Rattle.std.specs.List.{zip}
 use Rattle.constriction_base.specs.Steps.{Step, InTurn}
 use Rattle.constriction_base.specs.Tables.{Impossible}
-use Rattle.constriction_base.specs.Models.{Item}
+use Rattle.constriction_base.specs.Models.{Item, Model, pairs_of}
 use Rattle.constriction_stream.specs.Symbols.{DecodesByModel}
 use Rattle.constriction_laws.specs.declared.errors.Stopped.{Stopped}
 use Rattle.constriction_laws.specs.declared.errors.Stopped.TheVariants.{Refused, NoMemory}
 use Rattle.constriction_laws.specs.declared.errors.RoundTripError.{RoundTripError}
 use Rattle.constriction_laws.specs.declared.errors.RoundTripError.TheVariants as trip
+
+-- decodes of the symbols, each under its own model, lead from one decoder to another
+abbrev pub DecodesPairs : {C S M E : Type 0} → (C → Step → Result (Unit {0}) E → C → Type 0) → (C → E → C → Type 0) → ℕ
+    → (M → List (S × ℕ × ℕ)) → List S → List M → C → C → Type 0
+DecodesPairs {S = S} {M = M} decodes halts precision table symbols models old new =
+    InTurn (λ (pair : S × M) old new. DecodesByModel decodes halts precision table old pair.1 (Ok pair.0) new)
+    (zip symbols models) old new
 
 -- A list of decodes, one for each model, stops early on any decoder. `Refused(e)`: the first `taken` models gave
 -- symbols, and the decode under the next model fails with e. `NoMemory`: decodes under the first models of the list
@@ -51,3 +58,42 @@ UnlessImpossible impossible e = Reasons impossible ⊥ ⊥ (λ taken. ⊥) e
 -- holds.
 abbrev pub UnlessInvalid : Type 0 → RoundTripError → Type 0
 UnlessInvalid invalid e = Reasons ⊥ ⊥ invalid (λ taken. ⊥) e
+
+-- ---- symbols that a call returned
+
+-- the model of this precision and table
+abbrev pub model_at : {S : Type 0} → ℕ → List (S × ℕ × ℕ) → Model S
+model_at precision table = record { precision = precision; table = table }
+
+-- if the call succeeded, its symbols, each under its own model, are items with this property
+abbrev pub IfItems : {S M A E : Type 0} → ℕ → (M → List (S × ℕ × ℕ)) → List M → Result (Vec S A) E
+    → (List (Item S) → Type 0) → Type 0
+IfItems precision table models result holds = IfOk result (λ again. holds (pairs_of precision table again.items models))
+
+-- the same of the first part of what the call returned, together with the other part
+abbrev pub IfItemsWith : {S M A T E : Type 0} → ℕ → (M → List (S × ℕ × ℕ)) → List M → Result (Vec S A × T) E
+    → (List (Item S) → T → Type 0) → Type 0
+IfItemsWith precision table models result holds =
+    IfOk result (λ back. holds (pairs_of precision table back.0.items models) back.1)
+
+-- if there is one symbol for each model and the call succeeded, it returned these symbols
+abbrev pub GivesBack : {S M A E : Type 0} → List M → List S → Result (Vec S A) E → Type 0
+GivesBack models symbols result = length symbols ≡ length models → IfOk result (λ again. again.items ≡ symbols)
+
+-- if there is one symbol for each model and the call succeeded, it returned these symbols, and this holds
+abbrev pub GivesBackAnd : {S M A E : Type 0} → List M → List S → Result (Vec S A) E → Type 0 → Type 0
+GivesBackAnd models symbols result holds =
+    length symbols ≡ length models → IfOk result (λ again. (again.items ≡ symbols) × holds)
+
+-- if there is one symbol for each model and the call succeeded, these symbols are the first part of what it returned
+abbrev pub GivesBackWith : {S M A T E : Type 0} → List M → List S → Result (Vec S A × T) E → Type 0
+GivesBackWith models symbols result = length symbols ≡ length models → IfOk result (λ back. back.0.items ≡ symbols)
+
+-- the same, and the other part of what it returned has this property
+abbrev pub GivesBackWithOne : {S M A T E : Type 0} → List M → List S → Result (Vec S A × T) E → (T → Type 0) → Type 0
+GivesBackWithOne models symbols result holds =
+    length symbols ≡ length models → IfOk result (λ back. (back.0.items ≡ symbols) × holds back.1)
+
+-- values that have the property are the same
+abbrev pub AreOne : {A : Type 0} → (A → Type 0) → A → A → Type 0
+AreOne holds one other = holds one → holds other → one ≡ other

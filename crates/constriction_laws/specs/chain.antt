@@ -1,3 +1,5 @@
 pub mod Endings
 pub mod Isolating
+pub mod Lists
+pub mod Pairs
 pub mod Undone

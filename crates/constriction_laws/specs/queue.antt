@@ -1,4 +1,6 @@
 pub mod Concatenated
 pub mod Flagging
+pub mod Lists
 pub mod Outcomes
+pub mod Pairs
 pub mod Undone

@@ -1,3 +1,4 @@
 pub mod Exporting
+pub mod Lists
 pub mod Readings
 pub mod Undone

@@ -1,2 +1,3 @@
 pub mod Cost
+pub mod Pairs
 pub mod Refusals

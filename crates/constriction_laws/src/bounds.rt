@@ -8,23 +8,21 @@
 pub mod following;
 pub mod words;
 
-ghost use Rattle.std.specs.Prelude.{◌≡◌, ℕ, ◌-◌, ◌*◌, ◌/◌, ◌<◌, ◌≤◌, ◌^◌, ◌+◌, List, length};
+ghost use Rattle.std.specs.Prelude.{◌≡◌, ℕ, ◌-◌, ◌/◌, ◌≤◌, ◌^◌, List};
 ghost use Rattle.std.specs.List.{AllByRecursion};
 ghost use Rattle.constriction_base.specs.Steps.{Step, IsSizes, AreSteps, InTurn};
-ghost use Rattle.constriction_stack.specs.Ans.{AnsState, IsPush, IsValid, empty, exported};
-ghost use Rattle.constriction_queue.specs.Range.{run, sealed, initial};
-ghost use Rattle.constriction_queue.specs.SelfDelimiting.{SelfDelimits};
-ghost use Rattle.constriction_laws.specs.Bounds.{Act, Acts, AreAllowed, IsNetBounded, product, rounded_whole};
-ghost use Rattle.constriction_laws.specs.Bounds.{share};
+ghost use Rattle.constriction_stack.specs.Ans.{AnsState, IsValid, empty, exported};
+ghost use Rattle.constriction_laws.specs.Bounds.{Act, Acts, AreAllowed, IsNetBounded, IsRangeBounded, IsStackBounded};
+ghost use Rattle.constriction_laws.specs.Bounds.{IsStackBoundedAt};
+ghost use Rattle.constriction_laws.specs.queue.Lists.{DelimitsSteps, sealed_steps};
+ghost use Rattle.constriction_laws.specs.stack.Lists.{Pushes};
 
 /// Bounds the number of words that a stack coder exports, if it started empty and encoded `steps`.
 ///
 /// Each step has one factor on each side of the inequality: `p * 2^k` on the left, `2^P * (2^k + 1)` on the right.
 pub fn stack_bound()
-    ensures { (w s : ℕ) (steps : List Step) (state : AnsState) → IsSizes w s → AreSteps w steps →
-        InTurn (IsPush w s) steps empty state →
-        2 ^ (w * (length (exported w state) - 1)) * product (share w s) steps
-        ≤ 2 ^ (s - w) * product (rounded_whole w s) steps }
+    ensures { (w s : ℕ) (steps : List Step) (state : AnsState) → IsSizes w s → AreSteps w steps → Pushes w s steps empty
+        state → IsStackBounded w s steps (exported w state) }
 {}
 
 /// Bounds the number of words that a stack coder exports, if all symbols have the same precision.
@@ -34,10 +32,8 @@ pub fn stack_bound()
 /// content of all symbols in bits, and `n * log2(1 + 2^-k)`.
 pub fn stack_bound_at_one_precision()
     ensures { (w s precision : ℕ) (steps : List Step) (state : AnsState) → IsSizes w s → AreSteps w steps →
-        AllByRecursion (λ e. e.precision ≡ precision) steps → InTurn (IsPush w s) steps empty state →
-        2 ^ (w * (length (exported w state) - 1))
-        * (product (λ e. e.p) steps * (2 ^ (s - w - precision)) ^ length steps)
-        ≤ 2 ^ (s - w) * ((2 ^ precision) ^ length steps * (2 ^ (s - w - precision) + 1) ^ length steps) }
+        AllByRecursion (λ e. e.precision ≡ precision) steps → Pushes w s steps empty state → IsStackBoundedAt w s
+        precision steps (exported w state) }
 {}
 
 /// Bounds how many exported words a sequence of encodes and decodes adds to a stack coder.
@@ -55,10 +51,8 @@ pub fn stack_net_bound()
 ///
 /// These words include the seal. The encoder starts from the initial interval and encodes `steps`.
 pub fn range_bound()
-    ensures { (w s : ℕ) (steps : List Step) → IsSizes w s → AreSteps w steps →
-        2 ≤ length (sealed w s (run w s steps (initial s))) →
-        2 ^ (w * (length (sealed w s (run w s steps (initial s))) - 2)) * (2 ^ s - 1) * product (share w s) steps
-        < 2 ^ s * product (rounded_whole w s) steps }
+    ensures { (w s : ℕ) (steps : List Step) → IsSizes w s → AreSteps w steps → IsRangeBounded w s 2 steps (sealed_steps
+        w s steps) }
 {}
 
 /// Bounds the number of words that a range encoder exports with a self-delimiting seal.
@@ -66,8 +60,6 @@ pub fn range_bound()
 /// The encoder starts from the initial interval and encodes `steps`. The bound holds if there are at least `s / w`
 /// words, counting the seal. A head is `s / w` words wide.
 pub fn self_delimiting_bound()
-    ensures { (w s : ℕ) (steps : List Step) (words : List ℕ) → IsSizes w s → AreSteps w steps →
-        SelfDelimits w s (run w s steps (initial s)) words → s / w ≤ length words →
-        2 ^ (w * (length words - s / w)) * (2 ^ s - 1) * product (share w s) steps
-        < 2 ^ s * product (rounded_whole w s) steps }
+    ensures { (w s : ℕ) (steps : List Step) (words : List ℕ) → IsSizes w s → AreSteps w steps → DelimitsSteps w s steps
+        words → IsRangeBounded w s (s / w) steps words }
 {}

@@ -1,10 +1,7 @@
 //! Decoding a list of symbols from any decoder into a vector.
 
-ghost use Rattle.std.specs.Prelude.{◌≡◌, length, Ok, IfOk, IfErr};
-ghost use Rattle.std.specs.List.{zip};
-ghost use Rattle.constriction_base.specs.Steps.{InTurn};
-ghost use Rattle.constriction_stream.specs.Symbols.{DecodesByModel};
-ghost use Rattle.constriction_laws.specs.Outcomes.{StopsAmong};
+ghost use Rattle.std.specs.Prelude.{◌≡◌, length, IfOk, IfErr};
+ghost use Rattle.constriction_laws.specs.Outcomes.{DecodesPairs, StopsAmong};
 
 use crate::errors::Stopped;
 use constriction_base::errors::CoderError;
@@ -35,9 +32,8 @@ where
     M: DecoderModel<PRECISION>,
     M::Probability: WordOf<C::Word>,
     ensures count { IfOk result (λ symbols. length symbols.items ≡ length models.now) }
-    ensures steps { IfOk result (λ symbols. InTurn
-        (λ pair old new. DecodesByModel C.decodes C.halts PRECISION M.table old pair.1 (Ok pair.0) new)
-        (zip symbols.items models.now) decoder.old decoder.new) }
+    ensures steps { IfOk result (λ symbols. DecodesPairs C.decodes C.halts PRECISION M.table symbols.items models.now
+        decoder.old decoder.new) }
     ensures err { IfErr result
         (λ e. StopsAmong C.decodes C.halts PRECISION M.table models.now e.0 decoder.old e.1 decoder.new) }
 {

@@ -1,5 +1,6 @@
 -- Symbols that a switch returns before and after its flag, and the reasons why it stops.
-use Rattle.std.specs.Prelude.{◌≡◌, ◌≤◌, ◌<◌, ◌||◌, ℕ, Bool, List, Ok, Err, length, if◌then◌else◌}
+use Rattle.std.specs.Prelude.{◌≡◌, ◌≤◌, ◌<◌, ◌||◌, ℕ, Bool, List, Result, Ok, Err, Vec, IfOk, IfErr, MatchResult}
+use Rattle.std.specs.Prelude.{length, if◌then◌else◌}
 use Rattle.constriction_base.specs.Models.{Model, Item, items_of}
 use Rattle.constriction_base.specs.Steps.{InTurn}
 use Rattle.constriction_base.specs.declared.backends.reading.Holds as holding
@@ -11,7 +12,7 @@ use Rattle.constriction_queue.specs.Range.{Run}
 use Rattle.constriction_queue.specs.declared.decoder.symbols.DecoderFrontendError.{DecoderFrontendError}
 use Rattle.constriction_laws.specs.declared.errors.Stopped.{Stopped}
 use Rattle.constriction_laws.specs.declared.errors.Stopped.TheVariants as stopped
-use Rattle.constriction_laws.specs.queue.Outcomes.{ReadTo}
+use Rattle.constriction_laws.specs.queue.Outcomes.{HoldNone, InvalidWhere, ReadTo}
 
 -- The symbols, each with its model. If `switched` is true, all models are `second`. Otherwise the models are `first` up
 -- to and including the flag, and then `second`.
@@ -37,3 +38,28 @@ module _ {W B E Q : Type 0} (number : W → ℕ) (holds : holding.Ghosts B W Q) 
   StopsFlagged amt given mid (stopped.Refused e) new =
       (length given < amt) × DecodesUnder number holds reads w s (next_model new.switched first second) mid (Err e) new.decoder
   StopsFlagged amt given mid stopped.NoMemory new = new.decoder ≡ mid
+
+-- ---- a list of decodes
+
+-- the symbols that a switch gave are read from the words at which its decoder stood, up to where it stands
+abbrev pub ReadsFlagged : {A E B : Type 0} → ℕ → ℕ → Model ℕ → Model ℕ → Switch B → Result (Vec ℕ A) E → Switch B
+    → Type 0
+ReadsFlagged w s first second old result new = (words : List ℕ) (from : Run) → StandsAt w s words from old.decoder
+    → IfOk result (λ again.
+    ReadTo w s words (flagged_behind old.switched old.flag first second again.items) from new.decoder)
+
+-- where its decoder refused, the words hold no list of so many symbols
+abbrev pub HoldNoneFlagged : {T F E B : Type 0} → ℕ → ℕ → Model ℕ → Model ℕ → ℕ → Switch B
+    → Result T (Stopped (CoderError F E)) → Type 0
+HoldNoneFlagged w s first second amt old result = (words : List ℕ) (from : Run) → StandsAt w s words from old.decoder
+    → IfErr result (InvalidWhere (HoldNone w s words (flagged_behind old.switched old.flag first second) amt from))
+
+-- a switch gave symbols, which are those returned, and then came to its new state, or stopped
+abbrev pub StepsFlagged : {W B E Q A : Type 0} → (W → ℕ) → holding.Ghosts B W Q → reading.Ghosts B W Q E → ℕ → ℕ
+    → Model ℕ → Model ℕ → ℕ → Switch B → Result (Vec ℕ A) (Stopped (CoderError DecoderFrontendError E)) → Switch B
+    → Type 0
+StepsFlagged {B = B} number holds reads w s first second amt old result new = (given : List ℕ) × (mid : Decoder B)
+    × IfOk result (λ again. again.items ≡ given)
+    × GivesFlagged number holds reads w s first second amt old given mid new
+    × MatchResult result (λ _. new.decoder ≡ mid)
+    (λ e. StopsFlagged number holds reads w s first second amt given mid e new)

@@ -1,12 +1,15 @@
 -- Stack coders over backends without a list of words, such as iterators: imports and decodes in terms of reads.
-use Rattle.std.specs.Prelude.{ℕ, ◌<◌, ◌^◌, List, Option, Result, map}
+use Rattle.std.specs.Prelude.{◌≡◌, ℕ, ◌<◌, ◌^◌, Bool, false, List, Option, Result, Vec, map}
+use Rattle.constriction_base.specs.Iterators.{FusedRead}
 use Rattle.constriction_base.specs.Steps.{InTurn}
 use Rattle.constriction_base.specs.Tables.{AtEntry}
 use Rattle.constriction_base.specs.Models.{Model, Item}
-use Rattle.constriction_stack.specs.Imports.{FilledBy}
+use Rattle.constriction_stack.specs.Imports.{FilledBy, ImportRefused}
 use Rattle.constriction_stack.specs.Ans.{AnsState, AnsValue, IsNext, RefillsBy, empty, popped_head}
-use Rattle.constriction_laws.specs.Readings.{TellsWords}
-use Rattle.constriction_laws.specs.stack.Exporting.{ExportsAll}
+use Rattle.constriction_laws.specs.Outcomes.{IfItems}
+use Rattle.constriction_laws.specs.Readings.{TellsItems, TellsWords}
+use Rattle.constriction_laws.specs.stack.Exporting.{ExportsAll, GivesExport}
+use Rattle.constriction_laws.specs.stack.Lists.{AreReversed, HoldsItems}
 
 -- The state of a coder over a backend whose words the function `words` lists.
 abbrev pub told : {W B : Type 0} → (W → ℕ) → (B → List W) → AnsValue B → AnsState
@@ -31,3 +34,38 @@ DecodesFrom {B = B} number reads w s given items last =
 -- after encoding the items.
 abbrev pub TellsExport : {S W E B : Type 0} → (W → ℕ) → (B → Result (Option W) E → B → Type 0) → (B → List W) → ℕ → ℕ → List (Item S) → B → Type 0
 TellsExport number reads words w s items given = TellsWords reads words × ExportsAll w s items empty (map number (words given))
+
+-- Decodes of the items by reads from an iterator, behind an import from it.
+abbrev pub DecodesFromIterator : {S W E I : Type 0} → (W → ℕ) → (I → Option (Result W E) → I → Type 0) → ℕ → ℕ → I
+    → List (Item S) → Type 0
+DecodesFromIterator {I = I} number gives w s given items =
+    (last : AnsValue (I × Bool)) × DecodesFrom number (FusedRead gives) w s (given, false) items last
+
+-- An import by reads from an iterator is refused.
+abbrev pub IteratorRefused : {W E I : Type 0} → (W → ℕ) → (I → Option (Result W E) → I → Type 0) → ℕ → ℕ → I → Type 0
+IteratorRefused {I = I} number gives w s given =
+    (rest : I) × (done : Bool) × ImportRefused number (FusedRead gives) w s (given, false) (rest, done)
+
+-- Items that are decoded by reads from an export of other items, under their models in reverse order, are these in
+-- reverse order, and nothing is left.
+abbrev pub ComeBackByReads : {S W E B : Type 0} → (W → ℕ) → (B → Result (Option W) E → B → Type 0) → (B → List W) → ℕ
+    → ℕ → List (Item S) → List (Item S) → B → AnsValue B → Type 0
+ComeBackByReads number reads words w s items others given last =
+    TellsExport number reads words w s items given → DecodesFrom number reads w s given others last
+    → AreReversed items others (told number words last ≡ empty)
+
+-- Whatever function tells the words of the iterator, the symbols that a call returned are decoded from an import of
+-- them.
+abbrev pub HoldsTold : {S M W E A F I : Type 0} → (W → ℕ) → (I → Option (Result W E) → I → Type 0) → ℕ → ℕ → ℕ
+    → (M → List (S × ℕ × ℕ)) → List M → I → Result (Vec S A) F → Type 0
+HoldsTold {W = W} {I = I} number gives w s precision table models given result =
+    (words : I → List W) → TellsItems gives words
+    → IfItems precision table models result (HoldsItems w s (map number (words given)))
+
+-- Whatever function tells the words of the iterator, a call returned the symbols if the words are those of their
+-- encodes from an empty coder.
+abbrev pub GivesTold : {S M W E A F I : Type 0} → (W → ℕ) → (I → Option (Result W E) → I → Type 0) → ℕ → ℕ → ℕ
+    → (M → List (S × ℕ × ℕ)) → List M → I → Result (Vec S A) F → Type 0
+GivesTold {S = S} {W = W} {I = I} number gives w s precision table models given result =
+    (words : I → List W) (symbols : List S) (state : AnsState)
+    → TellsItems gives words → GivesExport w s precision table models (map number (words given)) result symbols state

@@ -1,5 +1,6 @@
 -- The cost of codewords under weights, and prefix-free codewords.
-use Rattle.std.specs.Prelude.{◌≡◌, ℕ, ◌+◌, ◌*◌, ◌<◌, Bool, List, [], ◌∷◌, ◌++◌, length, map, get_or, Option, Some, AllPairs}
+use Rattle.std.specs.Prelude.{◌≡◌, ℕ, ◌+◌, ◌*◌, ◌<◌, ◌≤◌, Bool, List, [], ◌∷◌, ◌++◌, length, map, get_or, Option, Some}
+use Rattle.std.specs.Prelude.{AllPairs}
 use Rattle.constriction_symbol.specs.Huffman.{symbols_from}
 use Rattle.constriction_symbol.specs.Lists.{AreEach}
 
@@ -37,3 +38,31 @@ Costs codeword symbols weights total =
 abbrev pub CostsFromZero : {P : Type 0} → (P → ℕ) → (ℕ → Option (List Bool)) → List P → ℕ → Type 0
 CostsFromZero number codeword weights total =
     Costs codeword (symbols_from 0 (length weights)) (map number weights) total
+
+-- No codeword of the codebook begins another.
+abbrev pub IsPrefixFree : {S : Type 0} → (S → Option (List Bool)) → Type 0
+IsPrefixFree {S} codeword =
+    (s t : S) (bits tail : List Bool) → codeword s ≡ Some bits → codeword t ≡ Some (bits ++ tail) → s ≡ t
+
+-- Where the codewords are those of a codebook, one for each weight, this holds.
+abbrev pub WithCodewords : List ℕ → (ℕ → Option (List Bool)) → List (List Bool) → Type 0 → Type 0
+WithCodewords weights codeword codewords holds =
+    length codewords ≡ length weights → AreCodewordsOf codeword codewords → holds
+
+-- The codewords cost no more than others, one for each weight, of which none begins another.
+abbrev pub CostsNoMore : List ℕ → List (List Bool) → List (List Bool) → Type 0
+CostsNoMore weights codewords others =
+    length others ≡ length weights → AreLawful others → cost weights codewords ≤ cost weights others
+
+-- Codewords of this codebook, one for each weight, cost no more than others, of which none begins another.
+abbrev pub IsLeastCost : List ℕ → (ℕ → Option (List Bool)) → List (List Bool) → List (List Bool) → Type 0
+IsLeastCost weights codeword codewords others =
+    WithCodewords weights codeword codewords (CostsNoMore weights codewords others)
+
+-- The codewords from 0 on, one for each weight, cost no more than those of any symbols of another codebook, of which no
+-- two mean the same.
+abbrev pub IsNoDearer : {P S : Type 0} → (P → ℕ) → (ℕ → Option (List Bool)) → (S → Option (List Bool))
+    → (S → S → Type 0) → List P → Type 0
+IsNoDearer {S = S} number codeword other same weights = (symbols : List S) (cost others : ℕ)
+    → CostsFromZero number codeword weights cost → AreApart same symbols
+    → Costs other symbols (map number weights) others → cost ≤ others

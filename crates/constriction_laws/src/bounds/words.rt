@@ -2,15 +2,9 @@
 //!
 //! The bound is proved from the coder's public contract and the laws of [`bounds`](crate::bounds) alone.
 
-ghost use Rattle.std.specs.Prelude.{◌≡◌, ◌-◌, ◌<◌, ◌≤◌, ◌^◌, ◌⊎◌, [], ◌∷◌, IfOk, IfErr, MatchBool};
-ghost use Rattle.constriction_base.specs.Steps.{Step, IsSizes};
-ghost use Rattle.constriction_base.specs.Tables.{AtEntry};
-ghost use Rattle.constriction_stack.specs.Ans.{AnsState};
-ghost use Rattle.constriction_stack.specs.Symbols.{Encodes};
-ghost use Rattle.constriction_stream.specs.Symbols.{DecodesSymbol, EncodesSymbol};
-ghost use Rattle.constriction_laws.specs.Exchanges.{RefusesOff, RefusesOn, StopsExchange, StopsImpossible, StopsLow};
-ghost use Rattle.constriction_laws.specs.Exchanges.{TakenHigh};
-ghost use Rattle.constriction_laws.specs.Bounds.{Decode, Encode, IsNetBounded};
+ghost use Rattle.std.specs.Prelude.{◌-◌, ◌<◌, ◌≤◌, ◌^◌, IfOk, IfErr, MatchBool};
+ghost use Rattle.constriction_base.specs.Steps.{IsSizes};
+ghost use Rattle.constriction_laws.specs.Exchanges.{Exchanges, IsExchangeBounded, NotExchanged};
 
 use crate::bounds::stack_net_bound;
 use constriction_base::backends::{Holds, ReadWords, Stack, WriteWords};
@@ -72,29 +66,12 @@ where
     E::Probability: WordOf<Word>,
     Backend::ReadError: Drop,
     Backend::WriteError: Drop,
-    ensures net { IfOk result (λ taken. (out put : Step)
-        × AtEntry PRECISION (D.table off.now) taken (λ step. step ≡ out)
-        × AtEntry PRECISION (E.table on.now) symbol.now (λ step. step ≡ put)
-        × IsNetBounded Word.BITS State.BITS (Decode out ∷ Encode put ∷ []) coder.old.state coder.new.state) }
-    ensures done { IfOk result (λ taken. (mid : AnsState)
-        × TakenHigh Word.BITS State.BITS record { precision = PRECISION; table = D.table off.now } taken
-        coder.old.state mid
-        × Encodes Word.BITS State.BITS record { precision = PRECISION; table = E.table on.now } symbol.now
-        mid coder.new.state) }
-    ensures err { IfErr result (StopsExchange
-        (StopsLow Word.BITS State.BITS record { precision = PRECISION; table = D.table off.now }
-        coder.old.state coder.new.state)
-        (StopsImpossible Word.BITS State.BITS record { precision = PRECISION; table = D.table off.now }
-        record { precision = PRECISION; table = E.table on.now } symbol.now coder.old.state coder.new.state)
-        (RefusesOff Word.BITS State.BITS
-        (DecodesSymbol (⟦<AnsCoder<Word, State, Backend> as Decode<PRECISION>>⟧.decodes)
-        (⟦<AnsCoder<Word, State, Backend> as Decode<PRECISION>>⟧.halts) PRECISION (D.table off.now)) coder.old coder.new
-        ⊎ RefusesOn Word.BITS State.BITS record { precision = PRECISION; table = D.table off.now }
-        (DecodesSymbol (⟦<AnsCoder<Word, State, Backend> as Decode<PRECISION>>⟧.decodes)
-        (⟦<AnsCoder<Word, State, Backend> as Decode<PRECISION>>⟧.halts) PRECISION (D.table off.now))
-        (EncodesSymbol (⟦<AnsCoder<Word, State, Backend> as Encode<PRECISION>>⟧.encodes)
-        (⟦<AnsCoder<Word, State, Backend> as Encode<PRECISION>>⟧.is_impossible_symbol) PRECISION (E.table on.now)
-        symbol.now) coder.old coder.new)) }
+    ensures net { IfOk result (λ taken. IsExchangeBounded Word.BITS State.BITS PRECISION (D.table off.now) (E.table
+        on.now) taken symbol.now coder.old.state coder.new.state) }
+    ensures done { IfOk result (λ taken. Exchanges Word.BITS State.BITS PRECISION (D.table off.now) (E.table on.now)
+        taken symbol.now coder.old.state coder.new.state) }
+    ensures err { IfErr result (NotExchanged Word.number Backend.Holds Backend.ReadWords.own Backend.WriteWords.own
+        Word.BITS State.BITS PRECISION (D.table off.now) (E.table on.now) symbol.now coder.old coder.new) }
 {
     if is_low::<Word, State>(coder.state()) {
         return Err(ExchangeError::LowHead);

@@ -1,8 +1,9 @@
 //! Isolation: another model for one symbol changes only that symbol and the remainders.
 
-ghost use Rattle.std.specs.Prelude.{◌≡◌, ℕ, List};
+ghost use Rattle.std.specs.Prelude.{ℕ, List};
 ghost use Rattle.constriction_chain.specs.Chain.{ChainState};
 ghost use Rattle.constriction_chain.specs.Runs.{Event, IsRun, decodings, AreIsolated};
+ghost use Rattle.constriction_laws.specs.chain.Lists.{FromSameBits};
 
 /// If two coders begin with the same compressed head and words, decodes under equal tables return equal symbols.
 ///
@@ -10,6 +11,6 @@ ghost use Rattle.constriction_chain.specs.Runs.{Event, IsRun, decodings, AreIsol
 /// with the `k`-th decode of the other. It covers the decodes before the first decode at which the precisions of the
 /// two coders differ.
 pub fn symbols_are_isolated<A>()
-    ensures { (w s : ℕ) (x x' y y' : ChainState) (es es' : List (Event A)) → x.h ≡ x'.h → x.compressed ≡ x'.compressed
-        → IsRun w s x es y → IsRun w s x' es' y' → AreIsolated (decodings es) (decodings es') }
+    ensures { (w s : ℕ) (x u y v : ChainState) (es fs : List (Event A)) → FromSameBits x u (IsRun w s x es y → IsRun w s
+        u fs v → AreIsolated (decodings es) (decodings fs)) }
 {}

@@ -5,9 +5,10 @@
 
 ghost use Rattle.std.specs.Prelude.{◌≡◌, ℕ, List, reverse, ⊤};
 ghost use Rattle.constriction_base.specs.Models.{Item};
-ghost use Rattle.constriction_chain.specs.Chain.{ChainState, IsChain, IsSized};
-ghost use Rattle.constriction_chain.specs.Symbols.{AreModelsAt, TakesOff, TakesOffAll, PutsBack, PutsBackAll};
+ghost use Rattle.constriction_chain.specs.Chain.{ChainState, IsChain};
+ghost use Rattle.constriction_chain.specs.Symbols.{TakesOff, TakesOffAll, PutsBack, PutsBackAll};
 ghost use Rattle.constriction_chain.specs.Symbols.{IsModelAt};
+ghost use Rattle.constriction_laws.specs.chain.Lists.{AfterTakeOff};
 ghost use Rattle.constriction_laws.specs.chain.Undone.{Sizes, decode_back, encode_back, decoded_at};
 
 use crate::lists::{StepsUndo, lists_undo};
@@ -77,15 +78,12 @@ pub fn decodes_undo_encodes<Symbol>()
 ///
 /// The encodes are possible. They lead to the state before the decodes, and to no other state.
 pub fn encodes_undo_decodes<Symbol>()
-    ensures back { (w s P : ℕ) (items : List (Item Symbol)) (old new : ChainState) → IsSized w s P →
-        AreModelsAt P items → IsChain w s P old →
-        TakesOffAll w s items old new → PutsBackAll w s (reverse items) new old }
-    ensures only { (w s P : ℕ) (items : List (Item Symbol)) (old new last : ChainState) → IsSized w s P →
-        AreModelsAt P items → IsChain w s P old →
-        TakesOffAll w s items old new → PutsBackAll w s (reverse items) new last → last ≡ old }
-    ensures valid { (w s P : ℕ) (items : List (Item Symbol)) (old new : ChainState) → IsSized w s P →
-        AreModelsAt P items → IsChain w s P old →
-        TakesOffAll w s items old new → IsChain w s P new }
+    ensures back { (w s P : ℕ) (items : List (Item Symbol)) (old new : ChainState) → AfterTakeOff w s P items old new
+        (PutsBackAll w s (reverse items) new old) }
+    ensures only { (w s P : ℕ) (items : List (Item Symbol)) (old new last : ChainState) → AfterTakeOff w s P items old
+        new (PutsBackAll w s (reverse items) new last → last ≡ old) }
+    ensures valid { (w s P : ℕ) (items : List (Item Symbol)) (old new : ChainState) → AfterTakeOff w s P items old new
+        (IsChain w s P new) }
 {
     lists_undo::<Decoding<Symbol>>()
 }

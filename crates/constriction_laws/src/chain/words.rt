@@ -1,15 +1,15 @@
 //! A coder made from the remainders restores the words when it encodes the symbols decoded from the words.
 
-ghost use Rattle.std.specs.Prelude.{◌≡◌, ◌≤◌, ℕ, List, reverse, ◌++◌};
+ghost use Rattle.std.specs.Prelude.{◌≡◌, ◌≤◌, ℕ, List, ◌++◌};
 ghost use Rattle.constriction_base.specs.Models.{Item};
 ghost use Rattle.constriction_base.specs.Steps.{AreWords};
 ghost use Rattle.constriction_chain.specs.Chain.{ChainState, IsSized};
 ghost use Rattle.constriction_laws.specs.chain.Endings.{BeginInBinary};
+ghost use Rattle.constriction_laws.specs.chain.Lists.{CanBePutBack, ComeBackOver};
 ghost use Rattle.constriction_chain.specs.Imports.{FromBinary, FromCompressed, FromRemainders, IsWhole};
 ghost use Rattle.constriction_chain.specs.Imports.{compressed_words};
-ghost use Rattle.constriction_chain.specs.Symbols.{AreModelsAt, TakesOffAll, PutsBackAll};
+ghost use Rattle.constriction_chain.specs.Symbols.{AreModelsAt, TakesOffAll};
 ghost use Rattle.constriction_base.specs.Writing.{IsOneAbove};
-ghost use Rattle.constriction_chain.specs.Words.{remainder_words};
 
 /// Importing a list of words leads to at most one coder. This holds for each of the three imports.
 ///
@@ -39,19 +39,12 @@ pub fn one_coder()
 /// The words of step 6, followed by the compressed words that the decodes left, are the original words. After step 5,
 /// the remainders are exactly the list `below`.
 pub fn words_come_back<Symbol>()
-    ensures encoded { (w s P : ℕ) (below : List ℕ) (items : List (Item Symbol)) (x y : ChainState) →
-        IsSized w s P → AreModelsAt P items → AreWords w below → IsWhole w s P x → TakesOffAll w s items x y →
-        (z last : ChainState) × FromRemainders w s P (remainder_words w y ++ below) z
-        × PutsBackAll w s (reverse items) z last }
+    ensures encoded { (w s P : ℕ) (below : List ℕ) (items : List (Item Symbol)) (x y : ChainState) → IsSized w s P →
+        AreModelsAt P items → AreWords w below → IsWhole w s P x → TakesOffAll w s items x y → CanBePutBack w s P items
+        below y }
     ensures compressed { (w s P : ℕ) (words below : List ℕ) (items : List (Item Symbol)) (x y z last : ChainState) →
-        IsSized w s P → AreModelsAt P items →
-        FromCompressed w s P words x → TakesOffAll w s items x y →
-        FromRemainders w s P (remainder_words w y ++ below) z → PutsBackAll w s (reverse items) z last →
-        (last.h ≡ 1) × (last.remainders ≡ below) × (words ≡ compressed_words w last ++ y.compressed) }
+        ComeBackOver w s P items below (FromCompressed w s P words x) x y z last (words ≡ compressed_words w last ++
+        y.compressed) }
     ensures binary { (w s P : ℕ) (words below : List ℕ) (items : List (Item Symbol)) (x y z last : ChainState) →
-        IsSized w s P → AreModelsAt P items →
-        FromBinary w s P words x → TakesOffAll w s items x y →
-        FromRemainders w s P (remainder_words w y ++ below) z → PutsBackAll w s (reverse items) z last →
-        (last.h ≡ 1) × (last.remainders ≡ below)
-        × BeginInBinary w words last y.compressed }
+        ComeBackOver w s P items below (FromBinary w s P words x) x y z last (BeginInBinary w words last y.compressed) }
 {}

@@ -1,15 +1,13 @@
 //! Two models in one stream, separated by a flag symbol.
 
-ghost use Rattle.std.specs.Prelude.{◌≡◌, ◌++◌, ℕ, List, length, IfOk, IfErr, MatchResult};
+ghost use Rattle.std.specs.Prelude.{◌≡◌, ℕ, List, length, IfOk};
 ghost use Rattle.constriction_base.specs.Models.{Model, IsModel};
 ghost use Rattle.constriction_base.specs.Steps.{IsSizes, AreWords};
-ghost use Rattle.constriction_queue.specs.Decoder.{Decoder, StandsAt};
 ghost use Rattle.constriction_queue.specs.Flagged.{flagged};
-ghost use Rattle.constriction_laws.specs.queue.Flagging.{GivesFlagged, StopsFlagged, flagged_behind};
-ghost use Rattle.constriction_queue.specs.Range.{Run, initial};
-ghost use Rattle.constriction_queue.specs.SelfDelimiting.{SelfDelimits};
-ghost use Rattle.constriction_laws.specs.queue.Outcomes.{HoldNone, InvalidWhere, ReadTo};
-ghost use Rattle.constriction_queue.specs.Symbols.{FindsAll, NarrowsAll};
+ghost use Rattle.constriction_laws.specs.Outcomes.{model_at};
+ghost use Rattle.constriction_laws.specs.queue.Flagging.{HoldNoneFlagged, ReadsFlagged, StepsFlagged};
+ghost use Rattle.constriction_laws.specs.queue.Lists.{AreFoundAlike, AreReadBefore};
+ghost use Rattle.constriction_queue.specs.Range.{Run};
 
 use crate::errors::Stopped;
 use crate::queue::following::symbols_come_back_whatever_follows;
@@ -25,11 +23,9 @@ use std::alloc::Global;
 /// The decoder starts from the interval `old`. It uses the model `first` up to and including the flag, and then
 /// `second`. The words also determine the interval after the list.
 pub fn one_list_of_flagged_symbols()
-    ensures { (w s flag : ℕ) (first second : Model ℕ) (words symbols others : List ℕ) (old new last : Run) →
-        IsModel w first → IsModel w second → length others ≡ length symbols →
-        FindsAll w s words (flagged flag first second symbols) old new →
-        FindsAll w s words (flagged flag first second others) old last →
-        (others ≡ symbols) × (last ≡ new) }
+    ensures { (w s flag : ℕ) (first second : Model ℕ) (words symbols others : List ℕ) (old new last : Run) → IsModel w
+        first → IsModel w second → length others ≡ length symbols → AreFoundAlike w s words (flagged flag first second)
+        symbols others old new last }
 {}
 
 /// Decoding self-delimiting words returns the encoded symbols with a flag among them, whatever words follow.
@@ -37,10 +33,9 @@ pub fn one_list_of_flagged_symbols()
 /// The encoder starts from the initial interval. Symbols up to and including the flag have the model `first`. All later
 /// symbols have the model `second`.
 pub fn flagged_symbols_come_back()
-    ensures { (w s flag : ℕ) (first second : Model ℕ) (symbols words rest : List ℕ) (last : Run) → IsSizes w s →
-        IsModel w first → IsModel w second → AreWords w rest →
-        NarrowsAll w s (flagged flag first second symbols) (initial s) last → SelfDelimits w s last words →
-        FindsAll w s (words ++ rest) (flagged flag first second symbols) (initial s) last }
+    ensures { (w s flag : ℕ) (first second : Model ℕ) (symbols words rest : List ℕ) (last : Run) → IsSizes w s → IsModel
+        w first → IsModel w second → AreWords w rest → AreReadBefore w s (flagged flag first second symbols) last words
+        rest }
 {
     symbols_come_back_whatever_follows::<usize>()
 }
@@ -76,25 +71,13 @@ where
     M1::Probability: WordOf<Word>,
     M2::Probability: WordOf<Word>,
     ensures count { IfOk result (λ again. length again.items ≡ amt) }
-    ensures decoded { Backend.is_list → (words : List ℕ) (old : Run) →
-        StandsAt Word.BITS State.BITS words old switch.old.decoder → IfOk result (λ again.
-        ReadTo Word.BITS State.BITS words (flagged_behind switch.old.switched switch.old.flag
-        record { precision = P1; table = M1.table first.now }
-        record { precision = P2; table = M2.table second.now } again.items) old switch.new.decoder) }
-    ensures steps { (given : List ℕ) × (mid : Decoder Backend) × IfOk result (λ again. again.items ≡ given)
-        × GivesFlagged Word.number Backend.Holds Backend.ReadWords.own Word.BITS State.BITS
-        record { precision = P1; table = M1.table first.now } record { precision = P2; table = M2.table second.now }
-        amt switch.old given mid switch.new
-        × MatchResult result (λ _. switch.new.decoder ≡ mid)
-        (λ e. StopsFlagged Word.number Backend.Holds Backend.ReadWords.own Word.BITS State.BITS
-        record { precision = P1; table = M1.table first.now } record { precision = P2; table = M2.table second.now }
-        amt given mid e switch.new) }
+    ensures decoded { Backend.is_list → ReadsFlagged Word.BITS State.BITS (model_at P1 (M1.table first.now)) (model_at
+        P2 (M2.table second.now)) switch.old result switch.new }
+    ensures steps { StepsFlagged Word.number Backend.Holds Backend.ReadWords.own Word.BITS State.BITS (model_at P1
+        (M1.table first.now)) (model_at P2 (M2.table second.now)) amt switch.old result switch.new }
     ensures flag { switch.new.flag ≡ switch.old.flag }
-    ensures err { Backend.is_list → (words : List ℕ) (old : Run) →
-        StandsAt Word.BITS State.BITS words old switch.old.decoder →
-        IfErr result (InvalidWhere (HoldNone Word.BITS State.BITS words
-        (flagged_behind switch.old.switched switch.old.flag record { precision = P1; table = M1.table first.now }
-        record { precision = P2; table = M2.table second.now }) amt old)) }
+    ensures err { Backend.is_list → HoldNoneFlagged Word.BITS State.BITS (model_at P1 (M1.table first.now)) (model_at P2
+        (M2.table second.now)) amt switch.old result }
 {
     let mut symbols = Vec::new(alloc);
     'decode: for _ in 0..amt {

@@ -3,9 +3,11 @@
 ghost use Rattle.std.specs.Prelude.{◌≡◌, ◌/◌, ◌<◌, ◌++◌, ◌∷◌, ℕ, List};
 ghost use Rattle.constriction_base.specs.Models.{Item, AreModels};
 ghost use Rattle.constriction_base.specs.Steps.{Step, IsSizes, AreSteps, AreWords};
-ghost use Rattle.constriction_queue.specs.Range.{Run, ReadAs, run, sealed, initial};
+ghost use Rattle.constriction_queue.specs.Range.{Run, sealed, initial};
 ghost use Rattle.constriction_queue.specs.SelfDelimiting.{AreLeast, SelfDelimits, sealed_with_zeros};
 ghost use Rattle.constriction_queue.specs.Symbols.{NarrowsAll, FindsAll, MayEnd};
+ghost use Rattle.constriction_laws.specs.queue.Lists.{AfterBoth, AfterNarrows, AreLostBefore, DelimitsSteps};
+ghost use Rattle.constriction_laws.specs.queue.Lists.{ReadsSteps};
 
 use crate::queue::lists::decodes_undo_encodes;
 
@@ -20,9 +22,8 @@ pub fn self_delimiting_words<Symbol>()
     ensures two_words { (w s : ℕ) (items : List (Item Symbol)) (last : Run) (words : List ℕ) → IsSizes w s → s / w ≡ 2 →
         AreModels w items → NarrowsAll w s items (initial s) last → SelfDelimits w s last words →
         words ≡ sealed w s last }
-    ensures exhausted { (w s : ℕ) (items : List (Item Symbol)) (last : Run) (words : List ℕ) → IsSizes w s →
-        AreModels w items → NarrowsAll w s items (initial s) last → SelfDelimits w s last words →
-        MayEnd w s words last }
+    ensures exhausted { (w s : ℕ) (items : List (Item Symbol)) (last : Run) (words : List ℕ) → AfterNarrows w s items
+        last (SelfDelimits w s last words → MayEnd w s words last) }
 {}
 
 /// A decoder reads the encoded steps from self-delimiting words, whatever words follow.
@@ -30,7 +31,7 @@ pub fn self_delimiting_words<Symbol>()
 /// The encoder starts from the initial interval.
 pub fn self_delimiting_words_are_read()
     ensures { (w s : ℕ) (steps : List Step) (words rest : List ℕ) → IsSizes w s → AreSteps w steps → AreWords w rest →
-        SelfDelimits w s (run w s steps (initial s)) words → ReadAs w s (words ++ rest) steps (initial s) }
+        DelimitsSteps w s steps words → ReadsSteps w s (words ++ rest) steps }
 {}
 
 /// Decoding from a position returns the symbols encoded after it, if the seal is self-delimiting.
@@ -38,9 +39,8 @@ pub fn self_delimiting_words_are_read()
 /// Any words may follow the seal. The position may be the start, where no symbol has been encoded.
 pub fn symbols_come_back_whatever_follows<Symbol>()
     ensures { (w s : ℕ) (before since : List (Item Symbol)) (middle last : Run) (words rest : List ℕ) → IsSizes w s →
-        AreModels w before → AreModels w since → AreWords w rest →
-        NarrowsAll w s before (initial s) middle → NarrowsAll w s since middle last → SelfDelimits w s last words →
-        FindsAll w s (words ++ rest) since middle last }
+        AreModels w before → AreModels w since → AreWords w rest → AfterBoth w s before since middle last (SelfDelimits
+        w s last words → FindsAll w s (words ++ rest) since middle last) }
 {
     decodes_undo_encodes::<Symbol>()
 }
@@ -50,9 +50,7 @@ pub fn symbols_come_back_whatever_follows<Symbol>()
 /// There are words `rest` that spoil decoding: if `rest` follows a seal with fewer zero words, the decoder doesn't
 /// return the symbols. The encoder starts from the initial interval and encodes at least one symbol.
 pub fn fewer_zero_words_hold_less<Symbol>()
-    ensures { (w s count fewer : ℕ) (first : Item Symbol) (others : List (Item Symbol)) (last : Run) → IsSizes w s →
-        AreModels w (first ∷ others) → NarrowsAll w s (first ∷ others) (initial s) last →
-        AreLeast w s last count → fewer < count →
-        (rest : List ℕ) × AreWords w rest × ((end : Run) →
-        FindsAll w s (sealed_with_zeros w s last fewer ++ rest) (first ∷ others) (initial s) end → ⊥) }
+    ensures { (w s count fewer : ℕ) (first : Item Symbol) (others : List (Item Symbol)) (last : Run) → AfterNarrows w s
+        (first ∷ others) last (AreLeast w s last count → fewer < count → AreLostBefore w s (sealed_with_zeros w s last
+        fewer) (first ∷ others)) }
 {}

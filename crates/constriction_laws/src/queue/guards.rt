@@ -4,15 +4,14 @@
 //! of the law here are the clauses `heads` and `back` of that call. They say that the guard's encoder has the same
 //! heads, and holds the words of the seal above the encoder's words.
 
-ghost use Rattle.std.specs.Prelude.{◌≡◌, ℕ, drop};
-ghost use Rattle.constriction_queue.specs.Encoder.{Encoder, HasHeads, Without, run_by, sealed_by};
+ghost use Rattle.std.specs.Prelude.{◌≡◌, ℕ};
+ghost use Rattle.constriction_queue.specs.Encoder.{Encoder, run_by, sealed_by};
+ghost use Rattle.constriction_laws.specs.queue.Lists.{AfterGuard};
 
 /// Removing the words that a guard wrote restores the encoder's interval and the words that it would export.
 pub fn shown_words_go<Backend>()
-    ensures run { (w s count : ℕ) (encoder shown left : Encoder Backend) → HasHeads encoder shown →
-        drop count shown.words ≡ encoder.words → Without count shown left →
-        run_by w s left ≡ run_by w s encoder }
-    ensures words { (w s count : ℕ) (encoder shown left : Encoder Backend) → HasHeads encoder shown →
-        drop count shown.words ≡ encoder.words → Without count shown left →
-        sealed_by w s left ≡ sealed_by w s encoder }
+    ensures run { (w s count : ℕ) (encoder shown left : Encoder Backend) → AfterGuard count encoder shown left (run_by w
+        s left ≡ run_by w s encoder) }
+    ensures words { (w s count : ℕ) (encoder shown left : Encoder Backend) → AfterGuard count encoder shown left
+        (sealed_by w s left ≡ sealed_by w s encoder) }
 {}

@@ -8,10 +8,11 @@
 //! digits of this number are the first `n + s/w` words. Digits past the last word are 0.
 
 ghost use Rattle.std.specs.Prelude.{◌≡◌, ◌↔◌, ◌∷◌, ℕ, List};
-ghost use Rattle.constriction_base.specs.Models.{Item, IsModel, models, AreModels, AreKnown};
+ghost use Rattle.constriction_base.specs.Models.{Item, IsModel, AreModels, AreKnown};
 ghost use Rattle.constriction_base.specs.Steps.{IsSizes, AreWords};
 ghost use Rattle.constriction_queue.specs.Range.{Run, IsInterval, Within, sealed, initial};
 ghost use Rattle.constriction_queue.specs.Symbols.{Finds, NarrowsAll, FindsAll, MayEnd};
+ghost use Rattle.constriction_laws.specs.queue.Lists.{AfterNarrows, FromInterval, IsOneRead, WithinEncodes};
 ghost use Rattle.constriction_laws.specs.queue.Undone.{Reading, TakesBack, read_back};
 
 use crate::lists::{StepsUndo, lists_undo};
@@ -46,24 +47,18 @@ pub fn one_list_of_encodes<Symbol>()
         (new : Run) × NarrowsAll w s items old new }
     ensures unique { (w s : ℕ) (items : List (Item Symbol)) (old new other : Run) → AreModels w items →
         NarrowsAll w s items old new → NarrowsAll w s items old other → new ≡ other }
-    ensures interval { (w s : ℕ) (items : List (Item Symbol)) (old new : Run) → IsSizes w s →
-        AreModels w items → IsInterval w s old →
-        NarrowsAll w s items old new → IsInterval w s new }
+    ensures interval { (w s : ℕ) (items : List (Item Symbol)) (old new : Run) → FromInterval w s items old new
+        (IsInterval w s new) }
 {}
 
 /// If words lie within the encoder's interval after the last encode, decoding them returns exactly the encoded symbols.
 pub fn decodes_undo_encodes<Symbol>()
-    ensures back { (w s : ℕ) (words : List ℕ) (items : List (Item Symbol)) (old new : Run) → IsSizes w s →
-        AreWords w words → AreModels w items → IsInterval w s old →
-        NarrowsAll w s items old new → Within w s words new →
-        FindsAll w s words items old new }
-    ensures only { (w s : ℕ) (words : List ℕ) (items others : List (Item Symbol)) (old new last : Run) →
-        AreModels w items →
-        FindsAll w s words items old new → FindsAll w s words others old last → models others ≡ models items →
-        (others ≡ items) × (last ≡ new) }
-    ensures within { (w s : ℕ) (words : List ℕ) (items : List (Item Symbol)) (old new : Run) → IsSizes w s →
-        AreWords w words → AreModels w items → IsInterval w s old →
-        NarrowsAll w s items old new → Within w s words new → Within w s words old }
+    ensures back { (w s : ℕ) (words : List ℕ) (items : List (Item Symbol)) (old new : Run) → WithinEncodes w s words
+        items old new (FindsAll w s words items old new) }
+    ensures only { (w s : ℕ) (words : List ℕ) (items others : List (Item Symbol)) (old new last : Run) → AreModels w
+        items → FindsAll w s words items old new → IsOneRead w s words items others old new last }
+    ensures within { (w s : ℕ) (words : List ℕ) (items : List (Item Symbol)) (old new : Run) → WithinEncodes w s words
+        items old new (Within w s words old) }
 {
     lists_undo::<Encoding<Symbol>>()
 }
@@ -86,14 +81,12 @@ pub fn symbols_of_any_words<Symbol>()
 /// with no words after them, with the same tables in the same order. The decoder returns the same symbols and ends at
 /// the encoder's interval. There, the decoder reports that it may be exhausted.
 pub fn symbols_come_back<Symbol>()
-    ensures decoded { (w s : ℕ) (items : List (Item Symbol)) (last : Run) → IsSizes w s → AreModels w items →
-        NarrowsAll w s items (initial s) last → FindsAll w s (sealed w s last) items (initial s) last }
-    ensures only { (w s : ℕ) (items others : List (Item Symbol)) (last end : Run) → IsSizes w s →
-        AreModels w items → NarrowsAll w s items (initial s) last →
-        FindsAll w s (sealed w s last) others (initial s) end → models others ≡ models items →
-        (others ≡ items) × (end ≡ last) }
-    ensures exhausted { (w s : ℕ) (items : List (Item Symbol)) (last : Run) → IsSizes w s → AreModels w items →
-        NarrowsAll w s items (initial s) last → MayEnd w s (sealed w s last) last }
+    ensures decoded { (w s : ℕ) (items : List (Item Symbol)) (last : Run) → AfterNarrows w s items last (FindsAll w s
+        (sealed w s last) items (initial s) last) }
+    ensures only { (w s : ℕ) (items others : List (Item Symbol)) (last end : Run) → AfterNarrows w s items last
+        (IsOneRead w s (sealed w s last) items others (initial s) last end) }
+    ensures exhausted { (w s : ℕ) (items : List (Item Symbol)) (last : Run) → AfterNarrows w s items last (MayEnd w s
+        (sealed w s last) last) }
 {
     decodes_undo_encodes::<Symbol>()
 }

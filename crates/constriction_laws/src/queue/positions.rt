@@ -5,12 +5,13 @@
 //! words.
 
 ghost use Rattle.std.specs.Prelude.{◌≡◌, ◌/◌, ◌^◌, ℕ, List, drop};
-ghost use Rattle.constriction_base.specs.Models.{Item, models, AreModels};
+ghost use Rattle.constriction_base.specs.Models.{Item};
 ghost use Rattle.constriction_base.specs.Steps.{IsSizes, AreWords};
 ghost use Rattle.constriction_queue.specs.Encoder.{run_by};
-ghost use Rattle.constriction_queue.specs.Range.{Run, IsAt, IsInterval, number_of_first, sealed, initial};
+ghost use Rattle.constriction_queue.specs.Range.{Run, IsAt, IsInterval, number_of_first, sealed};
 ghost use Rattle.constriction_queue.specs.States.{IsPosition};
-ghost use Rattle.constriction_queue.specs.Symbols.{NarrowsAll, FindsAll};
+ghost use Rattle.constriction_queue.specs.Symbols.{FindsAll};
+ghost use Rattle.constriction_laws.specs.queue.Lists.{AfterLists, FromInterval, IsOneRead};
 
 use crate::queue::lists::decodes_undo_encodes;
 use constriction_base::backends::{Holds, WriteWords};
@@ -33,18 +34,12 @@ pub fn position_leads_there()
 /// The decoder may read the words of any later export, if the encoder isn't cleared before that export. By the clause
 /// `anywhere`, only the interval of the position matters, not the words written before it.
 pub fn symbols_after_a_position<Symbol>()
-    ensures decoded { (w s : ℕ) (before since : List (Item Symbol)) (middle last : Run) → IsSizes w s →
-        AreModels w before → AreModels w since →
-        NarrowsAll w s before (initial s) middle → NarrowsAll w s since middle last →
-        FindsAll w s (sealed w s last) since middle last }
-    ensures only { (w s : ℕ) (before since others : List (Item Symbol)) (middle last end : Run) → IsSizes w s →
-        AreModels w before → AreModels w since →
-        NarrowsAll w s before (initial s) middle → NarrowsAll w s since middle last →
-        FindsAll w s (sealed w s last) others middle end → models others ≡ models since →
-        (others ≡ since) × (end ≡ last) }
-    ensures anywhere { (w s : ℕ) (since : List (Item Symbol)) (middle last : Run) → IsSizes w s → AreModels w since →
-        IsInterval w s middle → NarrowsAll w s since middle last →
-        FindsAll w s (sealed w s last) since middle last }
+    ensures decoded { (w s : ℕ) (before since : List (Item Symbol)) (middle last : Run) → AfterLists w s before since
+        middle last (FindsAll w s (sealed w s last) since middle last) }
+    ensures only { (w s : ℕ) (before since others : List (Item Symbol)) (middle last end : Run) → AfterLists w s before
+        since middle last (IsOneRead w s (sealed w s last) since others middle last end) }
+    ensures anywhere { (w s : ℕ) (since : List (Item Symbol)) (middle last : Run) → FromInterval w s since middle last
+        (FindsAll w s (sealed w s last) since middle last) }
 {
     decodes_undo_encodes::<Symbol>()
 }

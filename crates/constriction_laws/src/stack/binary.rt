@@ -3,20 +3,20 @@
 //! A binary form may be any list of words, even if the first word in reading order is 0. In the state, the head has a
 //! leading 1 above these words. The binary form leaves out this 1.
 
-ghost use Rattle.std.specs.Prelude.{◌≡◌, ◌≤◌, ℕ, List, reverse};
+ghost use Rattle.std.specs.Prelude.{◌≡◌, ◌≤◌, ℕ, List};
 ghost use Rattle.constriction_base.specs.Steps.{IsSizes, AreWords};
 ghost use Rattle.constriction_stack.specs.Ans.{AnsState, IsValid};
 ghost use Rattle.constriction_base.specs.Writing.{IsOneAbove};
 ghost use Rattle.constriction_stack.specs.Binary.{binary_state, binary_words};
-ghost use Rattle.constriction_base.specs.Models.{Item, AreModels};
-ghost use Rattle.constriction_stack.specs.Symbols.{EncodesAll, DecodesAll};
+ghost use Rattle.constriction_base.specs.Models.{Item};
+ghost use Rattle.constriction_laws.specs.stack.Lists.{AfterWayBack, IsBinaryForm};
 
 use crate::stack::lists::encodes_undo_decodes;
 
 /// Importing any words in binary form leads to a valid state, which exports the same words.
 pub fn binary_export_of_import()
-    ensures words { (w s : ℕ) (words : List ℕ) → IsSizes w s → AreWords w words →
-        (m : ℕ) × IsOneAbove w m (binary_state w s words).head × (binary_words w m (binary_state w s words) ≡ words) }
+    ensures words { (w s : ℕ) (words : List ℕ) → IsSizes w s → AreWords w words → IsBinaryForm w (binary_state w s
+        words) words }
     ensures valid { (w s : ℕ) (words : List ℕ) → IsSizes w s → AreWords w words →
         IsValid w s (binary_state w s words) }
 {}
@@ -43,16 +43,10 @@ pub fn one_binary_form()
 /// Import the words in binary form and decode any number of symbols, each under its own table. Encode the same symbols
 /// from the last to the first under the same tables, and export in binary form. The words are the same.
 pub fn binary_words_come_back<Symbol>()
-    ensures state { (w s : ℕ) (words : List ℕ) (items : List (Item Symbol)) (state last : AnsState) →
-        IsSizes w s → AreWords w words → AreModels w items →
-        DecodesAll w s items (binary_state w s words) state →
-        EncodesAll w s (reverse items) state last →
-        last ≡ binary_state w s words }
-    ensures words { (w s : ℕ) (words : List ℕ) (items : List (Item Symbol)) (state last : AnsState) →
-        IsSizes w s → AreWords w words → AreModels w items →
-        DecodesAll w s items (binary_state w s words) state →
-        EncodesAll w s (reverse items) state last →
-        (m : ℕ) × IsOneAbove w m last.head × (binary_words w m last ≡ words) }
+    ensures state { (w s : ℕ) (words : List ℕ) (items : List (Item Symbol)) (state last : AnsState) → AfterWayBack w s
+        words items state last (last ≡ binary_state w s words) }
+    ensures words { (w s : ℕ) (words : List ℕ) (items : List (Item Symbol)) (state last : AnsState) → AfterWayBack w s
+        words items state last (IsBinaryForm w last words) }
 {
     encodes_undo_decodes::<Symbol>()
 }

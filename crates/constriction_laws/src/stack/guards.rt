@@ -10,16 +10,14 @@ ghost use Rattle.constriction_stack.specs.Ans.{AnsState, IsValid, exported, fill
 ghost use Rattle.constriction_base.specs.Writing.{IsOneAbove};
 ghost use Rattle.constriction_stack.specs.Binary.{binary_state, binary_words};
 ghost use Rattle.constriction_stack.specs.Guards.{without};
+ghost use Rattle.constriction_laws.specs.stack.Lists.{with_words};
 
 /// A guard lends the words of the export: importing them restores the coder's state.
 pub fn shown_words_are_exported()
-    ensures compressed { (w s : ℕ) (state shown : AnsState) → IsSizes w s → IsValid w s state →
-        shown ≡ record { head = state.head; words = exported w state } →
-        filled w s 0 shown.words ≡ state }
-    ensures binary { (w s m : ℕ) (state shown : AnsState) → IsSizes w s → IsValid w s state →
-        IsOneAbove w m state.head →
-        shown ≡ record { head = state.head; words = binary_words w m state } →
-        binary_state w s shown.words ≡ state }
+    ensures compressed { (w s : ℕ) (state shown : AnsState) → IsSizes w s → IsValid w s state → shown ≡ with_words state
+        (exported w state) → filled w s 0 shown.words ≡ state }
+    ensures binary { (w s m : ℕ) (state shown : AnsState) → IsSizes w s → IsValid w s state → IsOneAbove w m state.head
+        → shown ≡ with_words state (binary_words w m state) → binary_state w s shown.words ≡ state }
 {}
 
 /// Removing the words that a guard appended restores the state.
@@ -27,10 +25,8 @@ pub fn shown_words_are_exported()
 /// The appended words are the words of the head. The clause `compressed` is about a guard that lends the exported
 /// words. The clause `binary` is about a guard that lends the binary form.
 pub fn shown_words_go()
-    ensures compressed { (w : ℕ) (state shown : AnsState) →
-        shown ≡ record { head = state.head; words = exported w state } →
-        without (count_of_words w state.head) shown ≡ state }
-    ensures binary { (w m : ℕ) (state shown : AnsState) →
-        shown ≡ record { head = state.head; words = binary_words w m state } →
-        without m shown ≡ state }
+    ensures compressed { (w : ℕ) (state shown : AnsState) → shown ≡ with_words state (exported w state) → without
+        (count_of_words w state.head) shown ≡ state }
+    ensures binary { (w m : ℕ) (state shown : AnsState) → shown ≡ with_words state (binary_words w m state) → without m
+        shown ≡ state }
 {}

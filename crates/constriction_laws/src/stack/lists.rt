@@ -6,9 +6,12 @@
 ghost use Rattle.std.specs.Prelude.{◌≡◌, ℕ, List, reverse, ⊤};
 ghost use Rattle.constriction_base.specs.Readings.{BeginsHigh};
 ghost use Rattle.constriction_base.specs.Steps.{Step, InTurn, IsSizes, AreSteps, AreWords};
-ghost use Rattle.constriction_stack.specs.Ans.{AnsState, IsValid, IsPush, IsPop, filled, exported, empty};
-ghost use Rattle.constriction_base.specs.Models.{Item, IsModel, models, AreModels, AreKnown};
+ghost use Rattle.constriction_stack.specs.Ans.{AnsState, IsValid, IsPop, filled, exported, empty};
+ghost use Rattle.constriction_base.specs.Models.{Item, IsModel, AreModels, AreKnown};
 ghost use Rattle.constriction_stack.specs.Symbols.{Encodes, Decodes, EncodesAll, DecodesAll};
+ghost use Rattle.constriction_laws.specs.Outcomes.{AreOne};
+ghost use Rattle.constriction_laws.specs.stack.Lists.{AfterDecodes, AfterEncodes, DecodesWords, FromEmpty, FromValid};
+ghost use Rattle.constriction_laws.specs.stack.Lists.{IsOneWayBack, Pushes};
 ghost use Rattle.constriction_laws.specs.stack.Undone.{Sizes, decode_back, encode_back, decoded_valid};
 
 use crate::lists::{StepsUndo, lists_undo};
@@ -69,9 +72,8 @@ pub fn one_list_of_encodes<Symbol>()
     ensures exists { (w s : ℕ) (items : List (Item Symbol)) (old : AnsState) →
         IsSizes w s → AreModels w items → AreKnown items → IsValid w s old →
         (new : AnsState) × EncodesAll w s items old new × IsValid w s new }
-    ensures unique { (w s : ℕ) (items : List (Item Symbol)) (old new other : AnsState) →
-        IsSizes w s → AreModels w items →
-        EncodesAll w s items old new → EncodesAll w s items old other → new ≡ other }
+    ensures unique { (w s : ℕ) (items : List (Item Symbol)) (old new other : AnsState) → AfterEncodes w s items old new
+        (EncodesAll w s items old other → new ≡ other) }
 {}
 
 /// Decodes under the same tables in reverse order undo encodes.
@@ -80,11 +82,8 @@ pub fn one_list_of_encodes<Symbol>()
 pub fn decodes_undo_encodes<Symbol>()
     ensures back { (w s : ℕ) (items : List (Item Symbol)) (old new : AnsState) → IsSizes w s →
         EncodesAll w s items old new → DecodesAll w s (reverse items) new old }
-    ensures only { (w s : ℕ) (items others : List (Item Symbol)) (old new last : AnsState) →
-        IsSizes w s → AreModels w items →
-        EncodesAll w s items old new → DecodesAll w s others new last →
-        models others ≡ reverse (models items) →
-        (others ≡ reverse items) × (last ≡ old) }
+    ensures only { (w s : ℕ) (items others : List (Item Symbol)) (old new last : AnsState) → AfterEncodes w s items old
+        new (IsOneWayBack w s items others new last old) }
 {
     lists_undo::<Encoding<Symbol>>()
 }
@@ -93,15 +92,12 @@ pub fn decodes_undo_encodes<Symbol>()
 ///
 /// The encodes lead to the state before the decodes, which has to be valid.
 pub fn encodes_undo_decodes<Symbol>()
-    ensures back { (w s : ℕ) (items : List (Item Symbol)) (old new : AnsState) → IsSizes w s →
-        AreModels w items → IsValid w s old →
-        DecodesAll w s items old new → EncodesAll w s (reverse items) new old }
-    ensures only { (w s : ℕ) (items : List (Item Symbol)) (old new last : AnsState) → IsSizes w s →
-        AreModels w items → IsValid w s old →
-        DecodesAll w s items old new → EncodesAll w s (reverse items) new last → last ≡ old }
-    ensures valid { (w s : ℕ) (items : List (Item Symbol)) (old new : AnsState) → IsSizes w s →
-        AreModels w items → IsValid w s old →
-        DecodesAll w s items old new → IsValid w s new }
+    ensures back { (w s : ℕ) (items : List (Item Symbol)) (old new : AnsState) → AfterDecodes w s items old new
+        (EncodesAll w s (reverse items) new old) }
+    ensures only { (w s : ℕ) (items : List (Item Symbol)) (old new last : AnsState) → AfterDecodes w s items old new
+        (EncodesAll w s (reverse items) new last → last ≡ old) }
+    ensures valid { (w s : ℕ) (items : List (Item Symbol)) (old new : AnsState) → AfterDecodes w s items old new
+        (IsValid w s new) }
 {
     lists_undo::<Decoding<Symbol>>()
 }
@@ -114,17 +110,12 @@ pub fn symbols_come_back<Symbol>()
     ensures encoded { (w s : ℕ) (items : List (Item Symbol)) → IsSizes w s → AreModels w items →
         AreKnown items →
         (state : AnsState) × EncodesAll w s items empty state }
-    ensures exported { (w s : ℕ) (items : List (Item Symbol)) (state : AnsState) → IsSizes w s →
-        EncodesAll w s items empty state → BeginsHigh (exported w state) }
-    ensures decoded { (w s : ℕ) (items : List (Item Symbol)) (state : AnsState) → IsSizes w s →
-        EncodesAll w s items empty state →
-        DecodesAll w s (reverse items) (filled w s 0 (exported w state)) empty }
-    ensures only { (w s : ℕ) (items others : List (Item Symbol)) (state last : AnsState) →
-        IsSizes w s → AreModels w items →
-        EncodesAll w s items empty state →
-        DecodesAll w s others (filled w s 0 (exported w state)) last →
-        models others ≡ reverse (models items) →
-        (others ≡ reverse items) × (last ≡ empty) }
+    ensures exported { (w s : ℕ) (items : List (Item Symbol)) (state : AnsState) → FromEmpty w s items state (BeginsHigh
+        (exported w state)) }
+    ensures decoded { (w s : ℕ) (items : List (Item Symbol)) (state : AnsState) → FromEmpty w s items state
+        (DecodesWords w s (exported w state) (reverse items) empty) }
+    ensures only { (w s : ℕ) (items others : List (Item Symbol)) (state last : AnsState) → AfterEncodes w s items empty
+        state (IsOneWayBack w s items others (filled w s 0 (exported w state)) last empty) }
 {
     decodes_undo_encodes::<Symbol>()
 }
@@ -147,15 +138,12 @@ pub fn words_come_back<Symbol>()
 /// The law is about steps alone, without tables. A list of steps can be pushed onto each valid state in exactly one
 /// way.
 pub fn lists_of_entries_undo()
-    ensures pushes { (w s : ℕ) (steps : List Step) (old : AnsState) → IsSizes w s →
-        AreSteps w steps → IsValid w s old →
-        (new : AnsState) × InTurn (IsPush w s) steps old new × IsValid w s new }
-    ensures only { (w s : ℕ) (steps : List Step) (old new other : AnsState) → IsSizes w s →
-        AreSteps w steps →
-        InTurn (IsPush w s) steps old new → InTurn (IsPush w s) steps old other → new ≡ other }
-    ensures pops_undo { (w s : ℕ) (steps : List Step) (old new : AnsState) →
-        InTurn (IsPush w s) steps old new → InTurn (IsPop w s) (reverse steps) new old }
-    ensures pushes_undo { (w s : ℕ) (steps : List Step) (old new : AnsState) → IsSizes w s →
-        AreSteps w steps → IsValid w s old →
-        InTurn (IsPop w s) steps old new → InTurn (IsPush w s) (reverse steps) new old }
+    ensures pushes { (w s : ℕ) (steps : List Step) (old : AnsState) → FromValid w s steps old ((new : AnsState) × Pushes
+        w s steps old new × IsValid w s new) }
+    ensures only { (w s : ℕ) (steps : List Step) (old new other : AnsState) → IsSizes w s → AreSteps w steps → AreOne
+        (Pushes w s steps old) new other }
+    ensures pops_undo { (w s : ℕ) (steps : List Step) (old new : AnsState) → Pushes w s steps old new → InTurn (IsPop w
+        s) (reverse steps) new old }
+    ensures pushes_undo { (w s : ℕ) (steps : List Step) (old new : AnsState) → FromValid w s steps old (InTurn (IsPop w
+        s) steps old new → Pushes w s (reverse steps) new old) }
 {}

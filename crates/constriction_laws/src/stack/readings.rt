@@ -4,13 +4,13 @@
 //! that reads return these words one by one. Then a decode that reads from the backend (a decode by reads) equals a
 //! decode from the list.
 
-ghost use Rattle.std.specs.Prelude.{◌≡◌, ℕ, List, reverse};
+ghost use Rattle.std.specs.Prelude.{ℕ, List};
 ghost use Rattle.constriction_base.specs.Iterators.{FusedRead};
 ghost use Rattle.constriction_base.specs.Steps.{IsSizes};
-ghost use Rattle.constriction_stack.specs.Ans.{AnsValue, empty};
+ghost use Rattle.constriction_stack.specs.Ans.{AnsValue};
 ghost use Rattle.constriction_laws.specs.Readings.{TellsWords, TellsItems, words_left};
-ghost use Rattle.constriction_laws.specs.stack.Readings.{told, DecodesBy, DecodesAllBy, DecodesFrom, TellsExport};
-ghost use Rattle.constriction_base.specs.Models.{Model, Item, models, AreModels};
+ghost use Rattle.constriction_laws.specs.stack.Readings.{told, ComeBackByReads, DecodesBy, DecodesAllBy};
+ghost use Rattle.constriction_base.specs.Models.{Model, Item, AreModels};
 ghost use Rattle.constriction_stack.specs.Symbols.{Decodes, DecodesAll};
 
 use crate::stack::lists::symbols_come_back;
@@ -49,11 +49,9 @@ pub fn decodes_are_words<Symbol, Word: BitArray, Backend: ReadWords<Word, Stack>
 /// decode with the same tables in reverse order. The symbols are the same, last symbol first. No word is left, and the
 /// coder is empty.
 pub fn symbols_come_back_by_reads<Symbol, Word: BitArray, Backend: ReadWords<Word, Stack>>()
-    ensures { (words : Backend → List Word) (w s : ℕ) (items others : List (Item Symbol)) (given : Backend)
-        (last : AnsValue Backend) → IsSizes w s → AreModels w items →
-        TellsExport Word.number Backend.reads words w s items given →
-        DecodesFrom Word.number Backend.reads w s given others last → models others ≡ reverse (models items) →
-        (others ≡ reverse items) × (told Word.number words last ≡ empty) }
+    ensures { (words : Backend → List Word) (w s : ℕ) (items others : List (Item Symbol)) (given : Backend) (last :
+        AnsValue Backend) → IsSizes w s → AreModels w items → ComeBackByReads Word.number Backend.reads words w s items
+        others given last }
 {
     symbols_come_back::<Symbol>();
     imports_are_words::<Word, Backend>();

@@ -4,10 +4,11 @@
 
 ghost use Rattle.std.specs.Prelude.{◌≡◌, ℕ};
 ghost use Rattle.constriction_base.specs.Steps.{Step, IsSizes, IsStep};
-ghost use Rattle.constriction_base.specs.Tables.{IsTable};
 ghost use Rattle.constriction_stack.specs.Ans.{AnsState, IsValid, IsNext, pop, IsPush};
 ghost use Rattle.constriction_base.specs.Models.{Model, IsModel, Knows};
 ghost use Rattle.constriction_stack.specs.Symbols.{Encodes, Decodes};
+ghost use Rattle.constriction_laws.specs.Outcomes.{AreOne};
+ghost use Rattle.constriction_laws.specs.stack.Lists.{AfterDecode, HasTable};
 
 /// An entry can be pushed onto each valid state, in exactly one way.
 pub fn one_push()
@@ -32,30 +33,24 @@ pub fn one_encode<Symbol>()
     ensures exists { (w s : ℕ) (model : Model Symbol) (symbol : Symbol) (old : AnsState) →
         IsSizes w s → IsModel w model → Knows model symbol → IsValid w s old →
         (new : AnsState) × Encodes w s model symbol old new }
-    ensures unique { (w s : ℕ) (model : Model Symbol) (symbol : Symbol) (old new other : AnsState) →
-        IsSizes w s → IsModel w model →
-        Encodes w s model symbol old new → Encodes w s model symbol old other → new ≡ other }
+    ensures unique { (w s : ℕ) (model : Model Symbol) (symbol : Symbol) (old new other : AnsState) → IsSizes w s →
+        IsModel w model → AreOne (Encodes w s model symbol old) new other }
 {}
 
 /// Decoding from a state, valid or not, returns exactly one symbol and leads to exactly one state.
 pub fn one_decode<Symbol>()
-    ensures exists { (w s : ℕ) (model : Model Symbol) (old : AnsState) →
-        IsTable model.precision model.table →
-        (symbol : Symbol) × (new : AnsState) × Decodes w s model symbol old new }
-    ensures unique { (w s : ℕ) (model : Model Symbol) (symbol other : Symbol) (old new last : AnsState) →
-        IsTable model.precision model.table → Decodes w s model symbol old new →
-        Decodes w s model other old last →
-        (symbol ≡ other) × (new ≡ last) }
+    ensures exists { (w s : ℕ) (model : Model Symbol) (old : AnsState) → HasTable model → (symbol : Symbol) × (new :
+        AnsState) × Decodes w s model symbol old new }
+    ensures unique { (w s : ℕ) (model : Model Symbol) (symbol other : Symbol) (old new last : AnsState) → HasTable model
+        → Decodes w s model symbol old new → Decodes w s model other old last → (symbol ≡ other) × (new ≡ last) }
 {}
 
 /// A decode under the same table undoes an encode: it returns the symbol, and leads to the state before the encode.
 pub fn decode_undoes_encode<Symbol>()
     ensures back { (w s : ℕ) (model : Model Symbol) (symbol : Symbol) (old new : AnsState) →
         Encodes w s model symbol old new → Decodes w s model symbol new old }
-    ensures only { (w s : ℕ) (model : Model Symbol) (symbol again : Symbol) (old new last : AnsState) →
-        IsTable model.precision model.table → Encodes w s model symbol old new →
-        Decodes w s model again new last →
-        (again ≡ symbol) × (last ≡ old) }
+    ensures only { (w s : ℕ) (model : Model Symbol) (symbol again : Symbol) (old new last : AnsState) → HasTable model →
+        Encodes w s model symbol old new → Decodes w s model again new last → (again ≡ symbol) × (last ≡ old) }
     ensures valid { (w s : ℕ) (model : Model Symbol) (symbol : Symbol) (old new : AnsState) →
         Encodes w s model symbol old new → IsValid w s new }
 {}
@@ -64,10 +59,8 @@ pub fn decode_undoes_encode<Symbol>()
 pub fn encode_undoes_decode<Symbol>()
     ensures back { (w s : ℕ) (model : Model Symbol) (symbol : Symbol) (old new : AnsState) →
         IsValid w s old → Decodes w s model symbol old new → Encodes w s model symbol new old }
-    ensures only { (w s : ℕ) (model : Model Symbol) (symbol : Symbol) (old new last : AnsState) →
-        IsSizes w s → IsModel w model → IsValid w s old →
-        Decodes w s model symbol old new → Encodes w s model symbol new last → last ≡ old }
-    ensures valid { (w s : ℕ) (model : Model Symbol) (symbol : Symbol) (old new : AnsState) →
-        IsSizes w s → IsModel w model → IsValid w s old →
-        Decodes w s model symbol old new → IsValid w s new }
+    ensures only { (w s : ℕ) (model : Model Symbol) (symbol : Symbol) (old new last : AnsState) → AfterDecode w s model
+        symbol old new (Encodes w s model symbol new last → last ≡ old) }
+    ensures valid { (w s : ℕ) (model : Model Symbol) (symbol : Symbol) (old new : AnsState) → AfterDecode w s model
+        symbol old new (IsValid w s new) }
 {}

@@ -4,10 +4,10 @@
 //! [`least_cost`](crate::symbol::huffman::least_cost) compares definitions. The law here is about the tree that
 //! `EncoderHuffmanTree::from_probabilities` makes.
 
-ghost use Rattle.constriction_laws.specs.symbol.Cost.{AreApart, Costs, CostsFromZero};
+ghost use Rattle.constriction_laws.specs.symbol.Cost.{CostsFromZero, IsNoDearer};
 ghost use Rattle.constriction_laws.specs.symbol.Refusals.{HaveNoTree};
 ghost use Rattle.constriction_symbol.specs.Merging.{MakesTree};
-ghost use Rattle.std.specs.Prelude.{IfErr, IfOk, List, map, ◌-◌, ◌^◌, ◌≤◌, ℕ};
+ghost use Rattle.std.specs.Prelude.{IfErr, IfOk, ◌-◌, ◌^◌, ℕ};
 
 use constriction_symbol::codebooks::Codebook;
 use constriction_symbol::huffman::{EncoderHuffmanTree, HuffmanError};
@@ -38,10 +38,8 @@ pub fn tree_of_least_cost<P: BitArray, C: Codebook>(
     ensures ok { IfOk result (λ tree. MakesTree P.number P.BITS (2 ^ 62 - 1) weights.now tree) }
     ensures known { IfOk result (λ tree. (cost : ℕ) ×
         CostsFromZero P.number (⟦<EncoderHuffmanTree as Codebook>⟧.codeword tree) weights.now cost) }
-    ensures least { IfOk result (λ tree. (other : C) (symbols : List C.Symbol) (cost others : ℕ) →
-        CostsFromZero P.number (⟦<EncoderHuffmanTree as Codebook>⟧.codeword tree) weights.now cost →
-        AreApart (C.is_same other) symbols →
-        Costs (C.codeword other) symbols (map P.number weights.now) others → cost ≤ others) }
+    ensures least { IfOk result (λ tree. (other : C) → IsNoDearer P.number (⟦<EncoderHuffmanTree as Codebook>⟧.codeword
+        tree) (C.codeword other) (C.is_same other) weights.now) }
     ensures err { IfErr result (λ e. HaveNoTree P.number P.BITS (2 ^ 62 - 1) weights.now e) }
 {
     EncoderHuffmanTree::from_probabilities(alloc, weights)

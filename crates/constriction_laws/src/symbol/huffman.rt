@@ -1,8 +1,9 @@
 //! Codewords of Huffman trees.
 
-ghost use Rattle.constriction_laws.specs.symbol.Cost.{AreCodewordsOf, AreLawful, cost};
+ghost use Rattle.constriction_laws.specs.symbol.Cost.{AreCodewordsOf, AreLawful, IsLeastCost, IsPrefixFree};
+ghost use Rattle.constriction_laws.specs.symbol.Cost.{WithCodewords, cost};
 ghost use Rattle.constriction_symbol.specs.Huffman.{Book, IsHuffman, Tree, huffman, merge};
-ghost use Rattle.std.specs.Prelude.{Bool, List, None, Option, Some, [], ◌++◌, ◌∷◌, ◌<◌, ◌≡◌, ◌≤◌, length, ℕ};
+ghost use Rattle.std.specs.Prelude.{Bool, List, None, Option, Some, [], ◌∷◌, ◌<◌, ◌≡◌, ◌≤◌, length, ℕ};
 
 /// Merging turns a nonempty list of weights into exactly one tree.
 pub fn one_tree()
@@ -11,8 +12,7 @@ pub fn one_tree()
 
 /// No codeword of a Huffman tree begins another.
 pub fn huffman_is_prefix_free()
-    ensures { (weights : List ℕ) (s t : ℕ) (bits tail : List Bool) →
-        huffman weights s ≡ Some bits → huffman weights t ≡ Some (bits ++ tail) → s ≡ t }
+    ensures { (weights : List ℕ) → IsPrefixFree (huffman weights) }
 {}
 
 /// In a Huffman tree of `n` weights, exactly the numbers below `n` have a codeword.
@@ -27,20 +27,13 @@ pub fn huffman_knows_its_symbols()
 /// The clause `codewords` compares them with any prefix-free list of codewords. The clause `codebook` compares them
 /// with the codewords of any prefix-free codebook. The clause `tree` is about any tree for which `IsHuffman` holds.
 pub fn least_cost()
-    ensures codewords { (weights : List ℕ) (codewords others : List (List Bool)) →
-        length codewords ≡ length weights → AreCodewordsOf (huffman weights) codewords →
-        length others ≡ length weights → AreLawful others →
-        cost weights codewords ≤ cost weights others }
+    ensures codewords { (weights : List ℕ) (codewords others : List (List Bool)) → IsLeastCost weights (huffman weights)
+        codewords others }
     ensures codebook { (weights : List ℕ) (codewords others : List (List Bool)) (codeword : ℕ → Option (List Bool)) →
-        length codewords ≡ length weights → AreCodewordsOf (huffman weights) codewords →
-        length others ≡ length weights → AreCodewordsOf codeword others →
-        ((s t : ℕ) (bits tail : List Bool) → codeword s ≡ Some bits → codeword t ≡ Some (bits ++ tail) → s ≡ t) →
-        cost weights codewords ≤ cost weights others }
-    ensures tree { (weights : List ℕ) (book : Book) (codewords others : List (List Bool)) →
-        IsHuffman weights book →
-        length codewords ≡ length weights → AreCodewordsOf book.codeword codewords →
-        length others ≡ length weights → AreLawful others →
-        cost weights codewords ≤ cost weights others }
+        WithCodewords weights (huffman weights) codewords (WithCodewords weights codeword others (IsPrefixFree codeword
+        → cost weights codewords ≤ cost weights others)) }
+    ensures tree { (weights : List ℕ) (book : Book) (codewords others : List (List Bool)) → IsHuffman weights book →
+        IsLeastCost weights book.codeword codewords others }
 {}
 
 /// The Huffman tree of weights has prefix-free codewords, one for each weight.

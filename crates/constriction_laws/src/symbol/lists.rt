@@ -1,13 +1,11 @@
 //! Lists of symbols that are decoded from their codewords.
 
-ghost use Rattle.constriction_symbol.specs.Lists.{AreCodewords, AreCodewordsBy, AreEach, AreSameBy};
-ghost use Rattle.constriction_symbol.specs.Lists.{ReadsAll, ReadsPairs};
 ghost use Rattle.constriction_base.specs.declared.errors.CoderError.TheVariants.{Frontend};
 ghost use Rattle.constriction_laws.specs.declared.errors.Stopped.TheVariants.{Refused};
 ghost use Rattle.constriction_symbol.specs.declared.codebooks.SymbolCodeError.{SymbolCodeError};
-ghost use Rattle.constriction_laws.specs.symbol.Refusals.{BeginsWithNone, StopsReading};
-ghost use Rattle.std.specs.List.{zip};
-ghost use Rattle.std.specs.Prelude.{Bool, List, length, ◌++◌, ◌≡◌, ℕ};
+ghost use Rattle.constriction_laws.specs.symbol.Refusals.{BeginsWithNone};
+ghost use Rattle.constriction_laws.specs.symbol.Pairs.{ComeBackUnder, ComeBackUnderEach, StopsUnder};
+ghost use Rattle.std.specs.Prelude.{Bool, List, ◌++◌, ◌≡◌, ℕ};
 
 use constriction_base::backends::Semantics;
 use constriction_symbol::codebooks::DecoderCodebook;
@@ -19,10 +17,8 @@ use constriction_symbol::reading::ReadBitStream;
 /// may return another symbol that means the same (`is_same`). Each decode reads exactly one codeword.
 pub fn symbols_come_back<S: Semantics, R: ReadBitStream<S>, C: DecoderCodebook>()
     requires { R.is_list }
-    ensures { (codebook : C) (symbols again : List C.Symbol) (code rest : List Bool) (old new : R) →
-        AreCodewords (C.codeword codebook) symbols code → R.unread old ≡ code ++ rest → length again ≡ length symbols →
-        ReadsAll R.gives (C.codeword codebook) (C.reads_on codebook) (C.is_invalid codebook) again old new →
-        AreEach (C.is_same codebook) again symbols × (R.unread new ≡ rest) }
+    ensures { (codebook : C) (symbols again : List C.Symbol) (code rest : List Bool) (old new : R) → ComeBackUnder
+        R.gives R.unread C.codeword C.reads_on C.is_invalid C.is_same codebook symbols again code rest old new }
 {}
 
 /// Decoding codewords, each with its own codebook, returns their symbols.
@@ -33,10 +29,8 @@ pub fn symbols_come_back<S: Semantics, R: ReadBitStream<S>, C: DecoderCodebook>(
 pub fn mixed_symbols_come_back<S: Semantics, R: ReadBitStream<S>, C: DecoderCodebook>()
     requires { R.is_list }
     ensures { (codebooks : List C) (symbols again : List C.Symbol) (code rest : List Bool) (old new : R) →
-        length symbols ≡ length codebooks → length again ≡ length codebooks →
-        AreCodewordsBy C.codeword codebooks symbols code → R.unread old ≡ code ++ rest →
-        ReadsPairs R.gives C.codeword C.reads_on C.is_invalid (zip again codebooks) old new →
-        AreSameBy C.is_same codebooks again symbols × (R.unread new ≡ rest) }
+        ComeBackUnderEach R.gives R.unread C.codeword C.reads_on C.is_invalid C.is_same codebooks symbols again code
+        rest old new }
 {}
 
 /// If decoding `amt` symbols stops with a codebook's error, the bits don't begin with the codewords of `amt` symbols.
@@ -46,8 +40,6 @@ pub fn mixed_symbols_come_back<S: Semantics, R: ReadBitStream<S>, C: DecoderCode
 pub fn refused_where_none_begin<S: Semantics, R: ReadBitStream<S>, C: DecoderCodebook>()
     requires { R.is_list }
     ensures { (codebook : C) (amt : ℕ) (bits tail : List Bool) (old new : R) (e : SymbolCodeError C.InvalidCodeword) →
-        R.unread old ≡ bits ++ tail →
-        StopsReading R.gives (C.codeword codebook) (C.reads_on codebook) (C.is_invalid codebook)
-        amt old (Refused (Frontend e)) new →
-        BeginsWithNone (C.codeword codebook) amt bits }
+        R.unread old ≡ bits ++ tail → StopsUnder R.gives C.codeword C.reads_on C.is_invalid codebook amt old (Refused
+        (Frontend e)) new → BeginsWithNone (C.codeword codebook) amt bits }
 {}

@@ -1,6 +1,7 @@
 //! The words of lists of bits.
 
 ghost use Rattle.constriction_base.specs.Steps.{AreWords};
+ghost use Rattle.constriction_laws.specs.Outcomes.{AreOne};
 ghost use Rattle.constriction_symbol.specs.Bits.{HasStackWords, IsQueueWords, IsStackWords};
 ghost use Rattle.std.specs.Prelude.{Bool, List, ◌≡◌, ℕ};
 
@@ -12,12 +13,12 @@ pub fn one_stack_of_words()
 
 /// The bits of a stack determine its list of words, so a guard lends the words that an export returns.
 pub fn one_list_of_stack_words()
-    ensures { (w : ℕ) (bits : List Bool) (words others : List ℕ) → AreWords w words → AreWords w others →
-        IsStackWords w bits words → IsStackWords w bits others → words ≡ others }
+    ensures { (w : ℕ) (bits : List Bool) (words others : List ℕ) → AreWords w words → AreWords w others → AreOne
+        (IsStackWords w bits) words others }
 {}
 
 /// The bits of a queue determine its list of words.
 pub fn one_list_of_queue_words()
-    ensures { (w : ℕ) (bits : List Bool) (words others : List ℕ) → AreWords w words → AreWords w others →
-        IsQueueWords w bits words → IsQueueWords w bits others → words ≡ others }
+    ensures { (w : ℕ) (bits : List Bool) (words others : List ℕ) → AreWords w words → AreWords w others → AreOne
+        (IsQueueWords w bits) words others }
 {}

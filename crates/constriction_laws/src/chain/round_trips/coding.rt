@@ -4,7 +4,8 @@ ghost use Rattle.std.specs.Prelude.{◌≡◌, length, reverse, IfErr, IfOk, OnO
 ghost use Rattle.constriction_base.specs.Models.{pairs_of};
 ghost use Rattle.constriction_chain.specs.Symbols.{TakesOffAll, PutsBackAll};
 ghost use Rattle.constriction_laws.specs.Outcomes.{IfRefused};
-ghost use Rattle.constriction_laws.specs.chain.Endings.{EndsEarly, NotEncoded, RefusedAmong, UnlessEnded};
+ghost use Rattle.constriction_laws.specs.chain.Endings.{NotEncoded, UnlessEnded};
+ghost use Rattle.constriction_laws.specs.chain.Pairs.{PairsEndEarly, PairsRefused};
 
 use crate::errors::{RoundTripError, Stopped};
 use crate::round_trips as any_coder;
@@ -42,13 +43,10 @@ where
     ensures count { IfOk result (λ again. length again.items ≡ length models.now) }
     ensures decoded { C.is_list → IfOk result (λ again. TakesOffAll Word.BITS State.BITS
         (pairs_of PRECISION M.table again.items models.now) coder.old.state coder.new.state) }
-    ensures err { IfErr result (UnlessEnded (λ taken. EndsEarly C.is_list Word.BITS State.BITS PRECISION
-        (λ given. pairs_of PRECISION M.table given models.now)
-        (length models.now) coder.old.state taken coder.new.state)) }
-    ensures refused { IfErr result (IfRefused (RefusedAmong
-        (⟦<ChainCoder<Word, State, C, R, PRECISION> as Decode<PRECISION>>⟧.decodes)
-        (⟦<ChainCoder<Word, State, C, R, PRECISION> as Decode<PRECISION>>⟧.halts)
-        PRECISION M.table models.now coder.old coder.new)) }
+    ensures err { IfErr result (UnlessEnded (λ taken. PairsEndEarly C.is_list Word.BITS State.BITS PRECISION M.table
+        models.now coder.old.state taken coder.new.state)) }
+    ensures refused { IfErr result (IfRefused (PairsRefused Word.number C.Holds C.ReadWords.own R.Holds R.WriteWords.own
+        Word.BITS State.BITS PRECISION M.table models.now coder.old coder.new)) }
 {
     match any_coder::decode_by_models::<_, _, PRECISION>(alloc, coder, models) {
         Ok(symbols) => Ok(symbols),

@@ -2,13 +2,10 @@
 //!
 //! The law [`symbols_are_isolated`] also covers decodes with changes of the precision between them.
 
-ghost use Rattle.std.specs.Prelude.{◌≡◌, ◌⊎◌, length, IfErr, IfOk};
-ghost use Rattle.constriction_base.specs.Models.{pairs_of};
-ghost use Rattle.constriction_chain.specs.Runs.{AreIsolated};
-ghost use Rattle.constriction_chain.specs.Symbols.{TakesOffAll};
+ghost use Rattle.std.specs.Prelude.{IfErr, IfOk};
 ghost use Rattle.constriction_laws.specs.Outcomes.{IfRefused};
-ghost use Rattle.constriction_laws.specs.chain.Endings.{EndsEarly, RefusedAmong, TookOff, UnlessEnded};
-ghost use Rattle.constriction_laws.specs.chain.Isolating.{decodings_by};
+ghost use Rattle.constriction_laws.specs.chain.Lists.{FromSameBits};
+ghost use Rattle.constriction_laws.specs.chain.Pairs.{AreIsolatedBy, AreOneEach, EndsInTwo, RefusedInTwo, TakesPairs};
 
 use crate::chain::isolation::symbols_are_isolated;
 use crate::chain::round_trips::coding::decode_pairs;
@@ -54,32 +51,17 @@ where
     M::Symbol: Drop,
     C::ReadError: Drop,
     R::WriteError: Drop,
-    ensures count { IfOk result (λ both. (length both.0.items ≡ length models.now)
-        × (length both.1.items ≡ length others.now)) }
-    ensures first { C.is_list → IfOk result (λ both. TakesOffAll Word.BITS State.BITS
-        (pairs_of PRECISION M.table both.0.items models.now) coder.old.state coder.new.state) }
-    ensures other { C.is_list → IfOk result (λ both. TakesOffAll Word.BITS State.BITS
-        (pairs_of PRECISION L.table both.1.items others.now) same.old.state same.new.state) }
-    ensures isolated { C.is_list → coder.old.state.h ≡ same.old.state.h →
-        coder.old.state.compressed ≡ same.old.state.compressed →
-        IfOk result (λ both. AreIsolated (decodings_by PRECISION M.table both.0.items models.now)
-        (decodings_by PRECISION L.table both.1.items others.now)) }
-    ensures err { IfErr result (UnlessEnded (λ taken.
-        (EndsEarly C.is_list Word.BITS State.BITS PRECISION (λ given. pairs_of PRECISION M.table given models.now)
-        (length models.now) coder.old.state taken coder.new.state × (same.new ≡ same.old))
-        ⊎ (TookOff C.is_list Word.BITS State.BITS (λ given. pairs_of PRECISION M.table given models.now)
-        (length models.now) coder.old.state coder.new.state
-        × EndsEarly C.is_list Word.BITS State.BITS PRECISION (λ given. pairs_of PRECISION L.table given others.now)
-        (length others.now) same.old.state taken same.new.state))) }
-    ensures refused { IfErr result (IfRefused
-        ((RefusedAmong (⟦<ChainCoder<Word, State, C, R, PRECISION> as Decode<PRECISION>>⟧.decodes)
-        (⟦<ChainCoder<Word, State, C, R, PRECISION> as Decode<PRECISION>>⟧.halts)
-        PRECISION M.table models.now coder.old coder.new × (same.new ≡ same.old))
-        ⊎ (TookOff C.is_list Word.BITS State.BITS (λ given. pairs_of PRECISION M.table given models.now)
-        (length models.now) coder.old.state coder.new.state
-        × RefusedAmong (⟦<ChainCoder<Word, State, C, R, PRECISION> as Decode<PRECISION>>⟧.decodes)
-        (⟦<ChainCoder<Word, State, C, R, PRECISION> as Decode<PRECISION>>⟧.halts)
-        PRECISION L.table others.now same.old same.new))) }
+    ensures count { IfOk result (AreOneEach models.now others.now) }
+    ensures first { C.is_list → IfOk result (λ both. TakesPairs Word.BITS State.BITS PRECISION M.table both.0.items
+        models.now coder.old coder.new) }
+    ensures other { C.is_list → IfOk result (λ both. TakesPairs Word.BITS State.BITS PRECISION L.table both.1.items
+        others.now same.old same.new) }
+    ensures isolated { C.is_list → FromSameBits coder.old.state same.old.state (IfOk result (AreIsolatedBy PRECISION
+        M.table models.now L.table others.now)) }
+    ensures err { IfErr result (EndsInTwo C.is_list Word.BITS State.BITS PRECISION M.table models.now coder.old
+        coder.new L.table others.now same.old same.new) }
+    ensures refused { IfErr result (IfRefused (RefusedInTwo Word.number C.Holds C.ReadWords.own R.Holds R.WriteWords.own
+        Word.BITS State.BITS PRECISION M.table models.now coder.old coder.new L.table others.now same.old same.new)) }
 {
     let one = decode_pairs(alloc, coder, models)?;
     let two = decode_pairs(alloc, same, others)?;

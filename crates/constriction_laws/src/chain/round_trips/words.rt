@@ -2,13 +2,12 @@
 //!
 //! The law [`words_come_back`](crate::chain::words::words_come_back) joins the states of the two halves.
 
-ghost use Rattle.std.specs.Prelude.{◌≡◌, ◌<◌, ◌++◌, ℕ, List, length, map, reverse, IfErr, IfOk, OnOk};
+ghost use Rattle.std.specs.Prelude.{◌≡◌, ℕ, List, length, map, reverse, IfErr, IfOk, OnOk};
 ghost use Rattle.constriction_base.specs.Models.{pairs_of};
 ghost use Rattle.constriction_chain.specs.Chain.{ChainState, IsSized};
-ghost use Rattle.constriction_chain.specs.Imports.{FromRemainders, IsWhole};
-ghost use Rattle.constriction_chain.specs.Symbols.{TakesOffAll, PutsBackAll};
-ghost use Rattle.constriction_chain.specs.Words.{remainder_words};
-ghost use Rattle.constriction_laws.specs.chain.Endings.{ComesBackOver, Ended, NotPutBack, UnlessEnded};
+ghost use Rattle.constriction_laws.specs.chain.Endings.{ComesBackOver, UnlessEnded};
+ghost use Rattle.constriction_laws.specs.chain.Lists.{AfterTaking};
+ghost use Rattle.constriction_laws.specs.chain.Pairs.{PairsEnded, PairsNotPutBack, PutsPairsBack, TakesApart};
 
 use crate::chain::errors::PutBackError;
 use crate::chain::round_trips::coding::{decode_pairs, encode_pairs_reverse};
@@ -42,13 +41,10 @@ where
     M::Probability: WordOf<Word>,
     M::Symbol: Drop,
     ensures count { IfOk result (λ taken. length taken.0.items ≡ length models.now) }
-    ensures words { IfOk result (λ taken. (after : ChainState)
-        × TakesOffAll Word.BITS State.BITS (pairs_of PRECISION M.table taken.0.items models.now) coder.state after
-        × (map Word.number (reverse taken.1.items) ≡ after.compressed)
-        × (map Word.number (reverse taken.2.items) ≡ remainder_words Word.BITS after)) }
-    ensures err { IfErr result (UnlessEnded (λ taken. (taken < length models.now) × (after : ChainState)
-        × Ended Word.BITS State.BITS PRECISION
-        (λ given. pairs_of PRECISION M.table given models.now) taken coder.state after)) }
+    ensures words { IfOk result (λ taken. TakesApart Word.number Word.BITS State.BITS (pairs_of PRECISION M.table
+        taken.0.items models.now) coder.state taken.1.items taken.2.items) }
+    ensures err { IfErr result (UnlessEnded (PairsEnded Word.BITS State.BITS PRECISION M.table models.now
+        coder.state)) }
 {
     let mut coder = coder;
     let symbols = decode_pairs(alloc, &mut coder, models)?;
@@ -80,16 +76,13 @@ where
     M::Probability: WordOf<Word>,
     requires { IsSized Word.BITS State.BITS PRECISION }
     ensures counts { OnOk result (length symbols.now ≡ length models.now) }
-    ensures encoded { IfOk result (λ coder. (before : ChainState)
-        × FromRemainders Word.BITS State.BITS PRECISION (map Word.number (reverse remainders.items)) before
-        × PutsBackAll Word.BITS State.BITS (reverse (pairs_of PRECISION M.table symbols.now models.now)) before
-        coder.state) }
-    ensures back { (x after : ChainState) (below : List ℕ) → IsWhole Word.BITS State.BITS PRECISION x →
-        TakesOffAll Word.BITS State.BITS (pairs_of PRECISION M.table symbols.now models.now) x after →
-        map Word.number (reverse remainders.items) ≡ remainder_words Word.BITS after ++ below →
-        IfOk result (λ coder. ComesBackOver x below after.compressed coder.state) }
-    ensures err { IfErr result (NotPutBack Word.BITS State.BITS PRECISION (map Word.number (reverse remainders.items))
-        (reverse (pairs_of PRECISION M.table symbols.now models.now)) (length symbols.now ≡ length models.now → ⊥)) }
+    ensures encoded { IfOk result (λ coder. PutsPairsBack Word.BITS State.BITS PRECISION M.table symbols.now models.now
+        (map Word.number (reverse remainders.items)) coder.state) }
+    ensures back { (x after : ChainState) (below : List ℕ) → AfterTaking Word.BITS State.BITS PRECISION (pairs_of
+        PRECISION M.table symbols.now models.now) (map Word.number (reverse remainders.items)) x after below (IfOk
+        result (λ coder. ComesBackOver x below after.compressed coder.state)) }
+    ensures err { IfErr result (PairsNotPutBack Word.BITS State.BITS PRECISION M.table (map Word.number (reverse
+        remainders.items)) symbols.now models.now) }
 {
     if symbols.len() != models.len() {
         return Err(PutBackError::UnequalCounts);

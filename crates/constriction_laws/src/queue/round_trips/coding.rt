@@ -5,10 +5,11 @@ ghost use Rattle.std.specs.Prelude.{◌≡◌, ◌↔◌, ◌+◌, ◌<◌, ◌�
 ghost use Rattle.constriction_base.specs.Models.{pairs_of};
 ghost use Rattle.constriction_laws.specs.Outcomes.{HasImpossibleItem};
 ghost use Rattle.constriction_queue.specs.Decoder.{MayBeExhausted, StandsAt};
-ghost use Rattle.constriction_queue.specs.Encoder.{left_to_encode, run_by};
+ghost use Rattle.constriction_queue.specs.Encoder.{left_to_encode};
 ghost use Rattle.constriction_queue.specs.Range.{Run};
-ghost use Rattle.constriction_laws.specs.queue.Outcomes.{GivesNone, NotCoded, NotRead, ReadTo};
-ghost use Rattle.constriction_queue.specs.Symbols.{NarrowsAll, FindsAll, MayEnd};
+ghost use Rattle.constriction_laws.specs.queue.Outcomes.{GivesNone, NotCoded, NotRead};
+ghost use Rattle.constriction_laws.specs.queue.Pairs.{GivesFound, NarrowsBy, ReadsOnward, pairs_by};
+ghost use Rattle.constriction_queue.specs.Symbols.{MayEnd};
 
 use crate::errors::{RoundTripError, Stopped};
 use crate::round_trips as any_coder;
@@ -46,9 +47,8 @@ where
     M::Probability: WordOf<Word>,
     Backend::WriteError: Drop,
     requires { length symbols.now ≡ length models.now }
-    ensures narrowed { IfOk result (λ _. NarrowsAll Word.BITS State.BITS
-        (pairs_of PRECISION M.table symbols.now models.now)
-        (run_by Word.BITS State.BITS encoder.old) (run_by Word.BITS State.BITS encoder.new)) }
+    ensures narrowed { IfOk result (λ _. NarrowsBy Word.BITS State.BITS (pairs_of PRECISION M.table symbols.now
+        models.now) encoder.old encoder.new) }
     ensures fewer_left { left_to_encode encoder.old ≤ left_to_encode encoder.new + length symbols.now }
     ensures err { IfErr result (NotCoded (HasImpossibleItem (pairs_of PRECISION M.table symbols.now models.now))
         (left_to_encode encoder.old < length symbols.now)) }
@@ -87,17 +87,12 @@ where
     M::Probability: WordOf<Word>,
     Backend::ReadError: Drop,
     ensures count { IfOk result (λ again. length again.items ≡ length models.now) }
-    ensures decoded { Backend.is_list → (words : List ℕ) (old : Run) →
-        StandsAt Word.BITS State.BITS words old decoder.old →
-        IfOk result (λ again. ReadTo Word.BITS State.BITS words
-        (pairs_of PRECISION M.table again.items models.now) old decoder.new) }
-    ensures back { Backend.is_list → (words : List ℕ) (symbols : List M.Symbol) (old last : Run) →
-        StandsAt Word.BITS State.BITS words old decoder.old →
-        FindsAll Word.BITS State.BITS words (pairs_of PRECISION M.table symbols models.now) old last →
-        length symbols ≡ length models.now →
-        IfOk result (λ again. (again.items ≡ symbols) × StandsAt Word.BITS State.BITS words last decoder.new) }
-    ensures err { IfErr result (NotRead (GivesNone Backend.is_list Word.BITS State.BITS
-        (λ symbols. pairs_of PRECISION M.table symbols models.now) (length models.now) decoder.old)) }
+    ensures decoded { Backend.is_list → ReadsOnward Word.BITS State.BITS PRECISION M.table models.now decoder.old result
+        decoder.new }
+    ensures back { Backend.is_list → GivesFound Word.BITS State.BITS PRECISION M.table models.now decoder.old result
+        decoder.new }
+    ensures err { IfErr result (NotRead (GivesNone Backend.is_list Word.BITS State.BITS (pairs_by PRECISION M.table
+        models.now) (length models.now) decoder.old)) }
 {
     match any_coder::decode_by_models::<_, _, PRECISION>(alloc, decoder, models) {
         Ok(again) => Ok(again),

@@ -6,11 +6,11 @@
 
 ghost use Rattle.std.specs.Prelude.{◌≡◌, List, length, IfOk, IfErr};
 ghost use Rattle.constriction_base.specs.Models.{pairs_of};
-ghost use Rattle.constriction_queue.specs.Encoder.{run_by, sealed_by, HasHeads};
-ghost use Rattle.constriction_queue.specs.Range.{initial};
+ghost use Rattle.constriction_queue.specs.Encoder.{sealed_by, HasHeads};
+ghost use Rattle.constriction_laws.specs.Outcomes.{GivesBack};
 ghost use Rattle.constriction_laws.specs.queue.Concatenated.{ReadsItems};
-ghost use Rattle.constriction_laws.specs.queue.Outcomes.{HoldNone, NotRead};
-ghost use Rattle.constriction_queue.specs.Symbols.{NarrowsAll};
+ghost use Rattle.constriction_laws.specs.queue.Outcomes.{NotRead};
+ghost use Rattle.constriction_laws.specs.queue.Pairs.{HasEncoded, HoldNoPairs};
 
 use crate::errors::RoundTripError;
 use crate::queue::lists::symbols_come_back;
@@ -46,14 +46,12 @@ where
     ensures count { IfOk result (λ again. length again.items ≡ length models.now) }
     ensures read { IfOk result (λ again. ReadsItems Word.BITS State.BITS (sealed_by Word.BITS State.BITS encoder.old)
         (pairs_of PRECISION M.table again.items models.now)) }
-    ensures back { (symbols : List M.Symbol) →
-        NarrowsAll Word.BITS State.BITS (pairs_of PRECISION M.table symbols models.now)
-        (initial State.BITS) (run_by Word.BITS State.BITS encoder.old) → length symbols ≡ length models.now →
-        IfOk result (λ again. again.items ≡ symbols) }
+    ensures back { (symbols : List M.Symbol) → HasEncoded Word.BITS State.BITS (pairs_of PRECISION M.table symbols
+        models.now) encoder.old → GivesBack models.now symbols result }
     ensures heads { HasHeads encoder.old encoder.new }
     ensures kept { encoder.new.words ≡ encoder.old.words }
-    ensures err { IfErr result (NotRead (HoldNone Word.BITS State.BITS (sealed_by Word.BITS State.BITS encoder.old)
-        (λ symbols. pairs_of PRECISION M.table symbols models.now) (length models.now) (initial State.BITS))) }
+    ensures err { IfErr result (NotRead (HoldNoPairs Word.BITS State.BITS PRECISION M.table (sealed_by Word.BITS
+        State.BITS encoder.old) models.now)) }
 {
     let Ok(guard) = encoder.get_compressed() else {
         return Err(RoundTripError::Refused);

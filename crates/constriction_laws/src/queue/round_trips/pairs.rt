@@ -4,17 +4,14 @@
 //! symbols they encode. Its clauses `sealed`, `followed` and `delimited` assume that an encoder made the words, and so
 //! join the two halves.
 
-ghost use Rattle.std.specs.Prelude.{◌≡◌, ◌<◌, ◌≤◌, ◌-◌, ◌*◌, ◌^◌, ◌/◌, ◌++◌, ℕ, List, length, map, reverse, IfOk, IfErr, IsTrue};
+ghost use Rattle.std.specs.Prelude.{◌≡◌, ◌<◌, length, map, reverse, IfOk, IfErr};
 ghost use Rattle.constriction_base.specs.Models.{pairs_of};
-ghost use Rattle.constriction_base.specs.Steps.{Step, IsSizes};
-ghost use Rattle.constriction_laws.specs.Bounds.{AreEntries, product, rounded_whole, share};
-ghost use Rattle.constriction_laws.specs.Outcomes.{HasImpossibleItem};
-ghost use Rattle.constriction_queue.specs.Encoder.{left_to_encode, run_by};
-ghost use Rattle.constriction_queue.specs.Range.{Run, initial};
-ghost use Rattle.constriction_laws.specs.queue.Outcomes.{HoldNone, LieWithin, NotCoded};
-ghost use Rattle.constriction_laws.specs.queue.Outcomes.{NotRead, ReadsToEnd, SealsAll};
-ghost use Rattle.constriction_laws.specs.queue.Concatenated.{DelimitsItems};
-ghost use Rattle.constriction_queue.specs.Symbols.{FindsAll};
+ghost use Rattle.constriction_base.specs.Steps.{IsSizes};
+ghost use Rattle.constriction_laws.specs.Outcomes.{HasImpossibleItem, IfItemsWith};
+ghost use Rattle.constriction_queue.specs.Encoder.{left_to_encode};
+ghost use Rattle.constriction_laws.specs.queue.Outcomes.{LieWithin, NotCoded};
+ghost use Rattle.constriction_laws.specs.queue.Outcomes.{NotRead, ReadsToEnd};
+ghost use Rattle.constriction_laws.specs.queue.Pairs.{BoundsSealed, GivesSymbolsOf, HoldNoPairs, IsAsNew, SealsPairs};
 
 use crate::bounds::following::symbols_come_back_before_others;
 use crate::bounds::range_bound;
@@ -55,16 +52,11 @@ where
     M::Probability: WordOf<Word>,
     Backend::WriteError: Drop,
     requires { length symbols.now ≡ length models.now }
-    ensures words { IfOk result (λ all. SealsAll Word.BITS State.BITS
-        (pairs_of PRECISION M.table symbols.now models.now)
-        (run_by Word.BITS State.BITS encoder) (reverse (map Word.number (Backend.words all)))) }
+    ensures words { IfOk result (λ all. SealsPairs Word.BITS State.BITS PRECISION M.table symbols.now models.now encoder
+        (reverse (map Word.number (Backend.words all)))) }
     ensures sizes { IfOk result (λ _. IsSizes Word.BITS State.BITS) }
-    ensures few { run_by Word.BITS State.BITS encoder ≡ initial State.BITS → IfOk result (λ all. (steps : List Step)
-        × AreEntries (pairs_of PRECISION M.table symbols.now models.now) steps
-        × (2 ≤ length (Backend.words all) →
-        2 ^ (Word.BITS * (length (Backend.words all) - 2)) * (2 ^ State.BITS - 1)
-        * product (share Word.BITS State.BITS) steps
-        < 2 ^ State.BITS * product (rounded_whole Word.BITS State.BITS) steps)) }
+    ensures few { IsAsNew Word.BITS State.BITS encoder → IfOk result (λ all. BoundsSealed Word.BITS State.BITS PRECISION
+        M.table symbols.now models.now (Backend.words all)) }
     ensures err { IfErr result (NotCoded (HasImpossibleItem (pairs_of PRECISION M.table symbols.now models.now))
         (left_to_encode encoder < length symbols.now)) }
 {
@@ -101,29 +93,12 @@ where
     ensures count { IfOk result (λ back. length back.0.items ≡ length models.now) }
     ensures read { IfOk result (λ back. ReadsToEnd Word.BITS State.BITS (map Word.number (Words.words words))
         (pairs_of PRECISION M.table back.0.items models.now) back.1) }
-    ensures back { (symbols : List M.Symbol) (last : Run) →
-        FindsAll Word.BITS State.BITS (map Word.number (Words.words words))
-        (pairs_of PRECISION M.table symbols models.now) (initial State.BITS) last →
-        length symbols ≡ length models.now → IfOk result (λ back. back.0.items ≡ symbols) }
-    ensures sealed { (symbols : List M.Symbol) → SealsAll Word.BITS State.BITS
-        (pairs_of PRECISION M.table symbols models.now) (initial State.BITS)
-        (map Word.number (Words.words words)) → length symbols ≡ length models.now →
-        IfOk result (λ back. (back.0.items ≡ symbols) × IsTrue back.1) }
-    ensures followed { (symbols : List M.Symbol) (own rest : List ℕ) → State.BITS / Word.BITS ≡ 2 →
-        SealsAll Word.BITS State.BITS (pairs_of PRECISION M.table symbols models.now) (initial State.BITS) own →
-        map Word.number (Words.words words) ≡ own ++ rest → length symbols ≡ length models.now →
-        IfOk result (λ back. back.0.items ≡ symbols) }
-    ensures delimited { (symbols : List M.Symbol) (own rest : List ℕ) →
-        DelimitsItems Word.BITS State.BITS (pairs_of PRECISION M.table symbols models.now) own →
-        map Word.number (Words.words words) ≡ own ++ rest → length symbols ≡ length models.now →
-        IfOk result (λ back. back.0.items ≡ symbols) }
-    ensures within { 0 < length models.now → IfOk result (λ back. LieWithin Word.BITS State.BITS
-        (map Word.number (Words.words words)) (pairs_of PRECISION M.table back.0.items models.now)) }
-    ensures lying { (symbols : List M.Symbol) → length symbols ≡ length models.now → LieWithin Word.BITS State.BITS
-        (map Word.number (Words.words words)) (pairs_of PRECISION M.table symbols models.now) →
-        IfOk result (λ back. back.0.items ≡ symbols) }
-    ensures err { IfErr result (NotRead (HoldNone Word.BITS State.BITS (map Word.number (Words.words words))
-        (λ symbols. pairs_of PRECISION M.table symbols models.now) (length models.now) (initial State.BITS))) }
+    ensures back { GivesSymbolsOf Word.BITS State.BITS PRECISION M.table (map Word.number (Words.words words))
+        models.now result }
+    ensures within { 0 < length models.now → IfItemsWith PRECISION M.table models.now result (λ items _. LieWithin
+        Word.BITS State.BITS (map Word.number (Words.words words)) items) }
+    ensures err { IfErr result (NotRead (HoldNoPairs Word.BITS State.BITS PRECISION M.table (map Word.number
+        (Words.words words)) models.now)) }
 {
     symbols_come_back::<M::Symbol>();
     symbols_of_any_words::<M::Symbol>();

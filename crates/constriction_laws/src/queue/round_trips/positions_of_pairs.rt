@@ -3,13 +3,11 @@
 //! The law [`symbols_after_a_position`](crate::queue::positions::symbols_after_a_position) says which symbols these
 //! are.
 
-ghost use Rattle.std.specs.Prelude.{◌≡◌, ◌<◌, ◌≤◌, List, length, map, IfOk, IfErr};
-ghost use Rattle.constriction_base.specs.Models.{pairs_of};
+ghost use Rattle.std.specs.Prelude.{◌≡◌, ◌≤◌, length, map, IfOk, IfErr};
 ghost use Rattle.constriction_base.specs.Steps.{IsSizes};
 ghost use Rattle.constriction_queue.specs.Range.{Run};
-ghost use Rattle.constriction_queue.specs.States.{IsPosition, lower_of, range_of};
-ghost use Rattle.constriction_laws.specs.queue.Outcomes.{NoneAt};
-ghost use Rattle.constriction_queue.specs.Symbols.{FindsAll};
+ghost use Rattle.constriction_laws.specs.Outcomes.{IfItems};
+ghost use Rattle.constriction_laws.specs.queue.Pairs.{GivesFrom, HoldFrom, IsRecorded, NoPairsAt};
 
 use crate::errors::RoundTripError;
 use crate::queue::concatenated::DecodeError;
@@ -47,17 +45,12 @@ where
     requires { IsSizes Word.BITS State.BITS }
     ensures place { IfOk result (λ _. position.0 ≤ length words.items) }
     ensures count { IfOk result (λ again. length again.items ≡ length models.now) }
-    ensures read { (there : Run) → IsPosition State.BITS there position.0 (lower_of position.1) (range_of position.1) →
-        IfOk result (λ again. (last : Run) × FindsAll Word.BITS State.BITS (map Word.number words.items)
-        (pairs_of PRECISION M.table again.items models.now) there last) }
-    ensures back { (symbols : List M.Symbol) (there last : Run) →
-        IsPosition State.BITS there position.0 (lower_of position.1) (range_of position.1) →
-        FindsAll Word.BITS State.BITS (map Word.number words.items)
-        (pairs_of PRECISION M.table symbols models.now) there last →
-        length symbols ≡ length models.now → IfOk result (λ again. again.items ≡ symbols) }
-    ensures err { IfErr result (NoneAt Word.BITS State.BITS (map Word.number words.items)
-        (λ symbols. pairs_of PRECISION M.table symbols models.now) (length models.now)
-        position.0 (lower_of position.1) (range_of position.1)) }
+    ensures read { (there : Run) → IsRecorded State.BITS there position → IfItems PRECISION M.table models.now result
+        (HoldFrom Word.number Word.BITS State.BITS words.items there) }
+    ensures back { GivesFrom Word.BITS State.BITS PRECISION M.table (map Word.number words.items) models.now position
+        result }
+    ensures err { IfErr result (NoPairsAt Word.BITS State.BITS PRECISION M.table (map Word.number words.items)
+        models.now position) }
 {
     let mut decoder = match RangeDecoder::<Word, State, Cursor<Word, Vec<Word>>>::from_compressed(
         words,

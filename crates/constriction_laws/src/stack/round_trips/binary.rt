@@ -3,12 +3,10 @@
 ghost use Rattle.std.specs.Prelude.{◌≡◌, ℕ, List, length, map, reverse, IfOk, IfErr};
 ghost use Rattle.constriction_base.specs.Models.{pairs_of};
 ghost use Rattle.constriction_base.specs.Steps.{IsSizes, AreWords};
-ghost use Rattle.constriction_laws.specs.Outcomes.{HasImpossibleItem, OnlyRefused, Reasons};
-ghost use Rattle.constriction_base.specs.Writing.{IsOneAbove};
-ghost use Rattle.constriction_stack.specs.Ans.{AnsState, IsValid};
-ghost use Rattle.constriction_stack.specs.Binary.{binary_state, binary_words};
-ghost use Rattle.constriction_stack.specs.Symbols.{DecodesAll, EncodesAll};
-ghost use Rattle.constriction_laws.specs.stack.Exporting.{ComesFromNoWords, LeadsToNoBinary};
+ghost use Rattle.constriction_laws.specs.Outcomes.{IfItemsWith, OnlyRefused};
+ghost use Rattle.constriction_stack.specs.Ans.{IsValid};
+ghost use Rattle.constriction_laws.specs.stack.Exporting.{ExportsBinary, NoBinary};
+ghost use Rattle.constriction_laws.specs.stack.Lists.{DecodesBinary, LeavesOfBinary};
 
 use crate::errors::RoundTripError;
 use crate::stack::binary::{binary_words_come_back, one_binary_form};
@@ -43,9 +41,8 @@ where
     Backend::ReadError: Drop,
     requires { IsSizes Word.BITS State.BITS }
     ensures count { IfOk result (λ back. length back.0.items ≡ length models.now) }
-    ensures read { Backend.is_list → IfOk result (λ back. DecodesAll Word.BITS State.BITS
-        (pairs_of PRECISION M.table back.0.items models.now)
-        (binary_state Word.BITS State.BITS (map Word.number (Backend.words words))) back.1.state) }
+    ensures read { Backend.is_list → IfItemsWith PRECISION M.table models.now result (LeavesOfBinary Word.BITS
+        State.BITS (map Word.number (Backend.words words))) }
     ensures err { IfErr result OnlyRefused }
 {
     let Ok(mut coder) = AnsCoder::<Word, State, Backend>::from_binary(words) else {
@@ -82,17 +79,14 @@ where
     Backend::WriteError: Drop,
     requires sizes { IsSizes Word.BITS State.BITS }
     requires count { length symbols.now ≡ length models.now }
-    ensures words { IsValid Word.BITS State.BITS coder.state → IfOk result (λ again. (last : AnsState) × (m : ℕ)
-        × EncodesAll Word.BITS State.BITS (reverse (pairs_of PRECISION M.table symbols.now models.now)) coder.state last
-        × IsOneAbove Word.BITS m last.head
-        × (map Word.number (Backend.words again) ≡ binary_words Word.BITS m last)) }
-    ensures back { (words : List ℕ) → AreWords Word.BITS words → DecodesAll Word.BITS State.BITS
-        (pairs_of PRECISION M.table symbols.now models.now) (binary_state Word.BITS State.BITS words) coder.state →
-        IfOk result (λ again. map Word.number (Backend.words again) ≡ words) }
-    ensures err { IfErr result (Reasons (HasImpossibleItem (pairs_of PRECISION M.table symbols.now models.now)) ⊥
-        (ComesFromNoWords Word.BITS State.BITS (pairs_of PRECISION M.table symbols.now models.now) coder.state
-        × (IsValid Word.BITS State.BITS coder.state → LeadsToNoBinary Word.BITS State.BITS
-        (reverse (pairs_of PRECISION M.table symbols.now models.now)) coder.state)) (λ taken. ⊥)) }
+    ensures words { IsValid Word.BITS State.BITS coder.state → IfOk result (λ again. ExportsBinary Word.BITS State.BITS
+        (reverse (pairs_of PRECISION M.table symbols.now models.now)) coder.state (map Word.number (Backend.words
+        again))) }
+    ensures back { (words : List ℕ) → AreWords Word.BITS words → DecodesBinary Word.BITS State.BITS words (pairs_of
+        PRECISION M.table symbols.now models.now) coder.state → IfOk result (λ again. map Word.number (Backend.words
+        again) ≡ words) }
+    ensures err { IfErr result (NoBinary Word.BITS State.BITS (pairs_of PRECISION M.table symbols.now models.now)
+        coder.state) }
 {
     let mut coder = coder;
     encode_pairs_reverse(&mut coder, symbols, models)?;

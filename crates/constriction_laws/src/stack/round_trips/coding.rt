@@ -1,10 +1,11 @@
 //! List calls of the stack coder. Their contracts use the laws' definitions to describe the states that they reach.
 
-ghost use Rattle.std.specs.Prelude.{◌≡◌, List, length, reverse, IfOk, IfErr, OnOk};
+ghost use Rattle.std.specs.Prelude.{◌≡◌, length, IfOk, IfErr, OnOk};
 ghost use Rattle.constriction_laws.specs.Outcomes.{HasImpossibleItem, OnlyRefused, UnlessImpossible};
-ghost use Rattle.constriction_stack.specs.Ans.{AnsState, IsValid};
+ghost use Rattle.constriction_stack.specs.Ans.{IsValid};
+ghost use Rattle.constriction_laws.specs.stack.Exporting.{PushesPairs, UndoesEncodes};
 ghost use Rattle.constriction_laws.specs.stack.Readings.{DecodesAllBy};
-ghost use Rattle.constriction_stack.specs.Symbols.{EncodesAll, DecodesAll};
+ghost use Rattle.constriction_stack.specs.Symbols.{DecodesAll};
 ghost use Rattle.constriction_base.specs.Models.{pairs_of};
 
 use crate::errors::RoundTripError;
@@ -40,8 +41,8 @@ where
     M::Probability: WordOf<Word>,
     Backend::WriteError: Drop,
     requires { length symbols.now ≡ length models.now }
-    ensures coded { IsValid Word.BITS State.BITS coder.old.state → OnOk result (EncodesAll Word.BITS State.BITS
-        (reverse (pairs_of PRECISION M.table symbols.now models.now)) coder.old.state coder.new.state) }
+    ensures coded { IsValid Word.BITS State.BITS coder.old.state → OnOk result (PushesPairs Word.BITS State.BITS
+        PRECISION M.table symbols.now models.now coder.old coder.new) }
     ensures err { IfErr result (UnlessImpossible
         (HasImpossibleItem (pairs_of PRECISION M.table symbols.now models.now))) }
 {
@@ -76,11 +77,8 @@ where
         (pairs_of PRECISION M.table again.items models.now) coder.old.state coder.new.state) }
     ensures read { IfOk result (λ again. DecodesAllBy Word.number Backend.reads Word.BITS State.BITS
         (pairs_of PRECISION M.table again.items models.now) coder.old coder.new) }
-    ensures back { Backend.is_list → (symbols : List M.Symbol) (before : AnsState) →
-        EncodesAll Word.BITS State.BITS (reverse (pairs_of PRECISION M.table symbols models.now))
-        before coder.old.state →
-        length symbols ≡ length models.now →
-        IfOk result (λ again. (again.items ≡ symbols) × (coder.new.state ≡ before)) }
+    ensures back { Backend.is_list → UndoesEncodes Word.BITS State.BITS PRECISION M.table models.now coder.old.state
+        result coder.new.state }
     ensures err { IfErr result OnlyRefused }
 {
     match any_coder::decode_by_models::<_, _, PRECISION>(alloc, coder, models) {

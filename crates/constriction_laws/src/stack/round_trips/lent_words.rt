@@ -1,11 +1,11 @@
 //! Symbols decoded from the words that a coder lends through a guard. The coder is unchanged afterwards.
 
-ghost use Rattle.std.specs.Prelude.{◌≡◌, List, length, reverse, IfOk, IfErr, OnOk};
-ghost use Rattle.constriction_base.specs.Models.{pairs_of};
+ghost use Rattle.std.specs.Prelude.{◌≡◌, length, IfOk, IfErr, OnOk};
 ghost use Rattle.constriction_base.specs.Readings.{BeginsHigh};
-ghost use Rattle.constriction_laws.specs.Outcomes.{UnlessInvalid};
-ghost use Rattle.constriction_stack.specs.Ans.{AnsState, IsValid, exported, filled};
-ghost use Rattle.constriction_stack.specs.Symbols.{DecodesAll, EncodesAll};
+ghost use Rattle.constriction_laws.specs.Outcomes.{IfItems, UnlessInvalid};
+ghost use Rattle.constriction_laws.specs.stack.Exporting.{GivesEncoded};
+ghost use Rattle.constriction_laws.specs.stack.Lists.{HoldsItems};
+ghost use Rattle.constriction_stack.specs.Ans.{exported};
 
 use crate::errors::RoundTripError;
 use crate::stack::guards::shown_words_are_exported;
@@ -39,13 +39,9 @@ pub fn decode_lent_words<
 where
     M::Probability: WordOf<Word>,
     ensures count { IfOk result (λ again. length again.items ≡ length models.now) }
-    ensures read { IfOk result (λ again. (last : AnsState) × DecodesAll Word.BITS State.BITS
-        (pairs_of PRECISION M.table again.items models.now)
-        (filled Word.BITS State.BITS 0 (exported Word.BITS coder.old.state)) last) }
-    ensures back { (symbols : List M.Symbol) (before : AnsState) → IsValid Word.BITS State.BITS coder.old.state →
-        EncodesAll Word.BITS State.BITS (reverse (pairs_of PRECISION M.table symbols models.now))
-        before coder.old.state → length symbols ≡ length models.now →
-        IfOk result (λ again. again.items ≡ symbols) }
+    ensures read { IfItems PRECISION M.table models.now result (HoldsItems Word.BITS State.BITS (exported Word.BITS
+        coder.old.state)) }
+    ensures back { GivesEncoded Word.BITS State.BITS PRECISION M.table models.now coder.old.state result }
     ensures high { OnOk result (BeginsHigh (exported Word.BITS coder.old.state)) }
     ensures kept { coder.new.state ≡ coder.old.state }
     ensures err { IfErr result (UnlessInvalid (BeginsHigh (exported Word.BITS coder.old.state) → ⊥)) }

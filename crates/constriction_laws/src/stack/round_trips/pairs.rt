@@ -1,14 +1,13 @@
 //! Symbols, each with its own model, and the words that a coder exports.
 
-ghost use Rattle.std.specs.Prelude.{◌≡◌, ◌≤◌, ◌-◌, ◌*◌, ◌^◌, List, length, map, reverse, IfOk, IfErr, OnOk};
+ghost use Rattle.std.specs.Prelude.{◌≡◌, length, map, reverse, IfOk, IfErr, OnOk};
 ghost use Rattle.constriction_base.specs.Models.{pairs_of};
-ghost use Rattle.constriction_base.specs.Steps.{Step, IsSizes};
-ghost use Rattle.constriction_laws.specs.Bounds.{AreEntries, product, rounded_whole, share};
-ghost use Rattle.constriction_laws.specs.Outcomes.{HasImpossibleItem, UnlessImpossible, UnlessInvalid};
-ghost use Rattle.constriction_stack.specs.Ans.{AnsState, IsValid, empty, filled};
+ghost use Rattle.constriction_base.specs.Steps.{IsSizes};
+ghost use Rattle.constriction_laws.specs.Outcomes.{HasImpossibleItem, IfItemsWith, UnlessImpossible, UnlessInvalid};
+ghost use Rattle.constriction_stack.specs.Ans.{IsValid, empty};
 ghost use Rattle.constriction_stack.specs.Imports.{ImportRefused};
-ghost use Rattle.constriction_stack.specs.Symbols.{DecodesAll};
-ghost use Rattle.constriction_laws.specs.stack.Exporting.{ExportsAll};
+ghost use Rattle.constriction_laws.specs.stack.Exporting.{BoundsPairs, ExportsAll, UndoesExport};
+ghost use Rattle.constriction_laws.specs.stack.Lists.{LeavesOfWords};
 ghost use Rattle.constriction_laws.specs.stack.Readings.{DecodesFrom};
 
 use crate::bounds::stack_bound;
@@ -49,10 +48,8 @@ where
         (reverse (pairs_of PRECISION M.table symbols.now models.now))
         coder.state (map Word.number (Backend.words words))) }
     ensures sizes { OnOk result (IsSizes Word.BITS State.BITS) }
-    ensures few { coder.state ≡ empty → IfOk result (λ words. (steps : List Step)
-        × AreEntries (reverse (pairs_of PRECISION M.table symbols.now models.now)) steps
-        × (2 ^ (Word.BITS * (length (Backend.words words) - 1)) * product (share Word.BITS State.BITS) steps
-        ≤ 2 ^ (State.BITS - Word.BITS) * product (rounded_whole Word.BITS State.BITS) steps)) }
+    ensures few { coder.state ≡ empty → IfOk result (λ words. BoundsPairs Word.BITS State.BITS PRECISION M.table
+        symbols.now models.now (Backend.words words)) }
     ensures err { IfErr result (UnlessImpossible
         (HasImpossibleItem (pairs_of PRECISION M.table symbols.now models.now))) }
 {
@@ -91,15 +88,12 @@ where
     Backend::ReadError: Drop,
     requires { IsSizes Word.BITS State.BITS }
     ensures count { IfOk result (λ back. length back.0.items ≡ length models.now) }
-    ensures read { Backend.is_list → IfOk result (λ back. DecodesAll Word.BITS State.BITS
-        (pairs_of PRECISION M.table back.0.items models.now)
-        (filled Word.BITS State.BITS 0 (map Word.number (Backend.words words))) back.1.state) }
+    ensures read { Backend.is_list → IfItemsWith PRECISION M.table models.now result (LeavesOfWords Word.BITS State.BITS
+        (map Word.number (Backend.words words))) }
     ensures reads { IfOk result (λ back. DecodesFrom Word.number Backend.reads Word.BITS State.BITS words
         (pairs_of PRECISION M.table back.0.items models.now) back.1) }
-    ensures back { Backend.is_list → (symbols : List M.Symbol) (old : AnsState) → IsValid Word.BITS State.BITS old →
-        ExportsAll Word.BITS State.BITS (reverse (pairs_of PRECISION M.table symbols models.now)) old
-        (map Word.number (Backend.words words)) → length symbols ≡ length models.now →
-        IfOk result (λ back. (back.0.items ≡ symbols) × (back.1.state ≡ old)) }
+    ensures back { Backend.is_list → UndoesExport Word.BITS State.BITS PRECISION M.table models.now (map Word.number
+        (Backend.words words)) result }
     ensures err { IfErr result (UnlessInvalid ((rest : Backend)
         × ImportRefused Word.number Backend.reads Word.BITS State.BITS words rest)) }
 {

@@ -1,11 +1,8 @@
 //! Symbols decoded from recorded positions.
 
-ghost use Rattle.std.specs.Prelude.{◌≡◌, ◌≤◌, ◌<◌, List, length, reverse, IfOk, IfErr, OnOk};
-ghost use Rattle.constriction_base.specs.Models.{pairs_of};
-ghost use Rattle.constriction_laws.specs.Outcomes.{UnlessInvalid};
-ghost use Rattle.constriction_stack.specs.Ans.{AnsState};
-ghost use Rattle.constriction_stack.specs.Positions.{Grows, position_of, sought};
-ghost use Rattle.constriction_stack.specs.Symbols.{DecodesAll, EncodesAll};
+ghost use Rattle.std.specs.Prelude.{◌≡◌, ◌≤◌, ◌<◌, length, IfOk, IfErr, OnOk};
+ghost use Rattle.constriction_laws.specs.Outcomes.{IfItems, UnlessInvalid};
+ghost use Rattle.constriction_laws.specs.stack.Exporting.{GivesBehind, HoldsBehind, recorded};
 
 use crate::errors::RoundTripError;
 use crate::stack::round_trips::coding::decode_pairs;
@@ -40,13 +37,10 @@ where
     M::Probability: WordOf<Word>,
     ensures place { OnOk result (position.0 ≤ length coder.now.state.words) }
     ensures count { IfOk result (λ again. length again.items ≡ length models.now) }
-    ensures read { IfOk result (λ again. (last : AnsState) × DecodesAll Word.BITS State.BITS
-        (pairs_of PRECISION M.table again.items models.now)
-        (sought record { held = position.0; head = State.number position.1 } coder.now.state) last) }
-    ensures back { (symbols : List M.Symbol) (old there : AnsState) → EncodesAll Word.BITS State.BITS
-        (reverse (pairs_of PRECISION M.table symbols models.now)) old there →
-        record { held = position.0; head = State.number position.1 } ≡ position_of there → Grows there coder.now.state →
-        length symbols ≡ length models.now → IfOk result (λ again. again.items ≡ symbols) }
+    ensures read { IfItems PRECISION M.table models.now result (HoldsBehind Word.BITS State.BITS (recorded State.number
+        position) coder.now.state) }
+    ensures back { GivesBehind Word.BITS State.BITS PRECISION M.table models.now (recorded State.number position)
+        coder.now.state result }
     ensures err { IfErr result (UnlessInvalid (length coder.now.state.words < position.0)) }
 {
     let mut decoder = coder.as_seekable_decoder();

@@ -1,16 +1,13 @@
 //! Symbols decoded from exported words that are stored in reverse order.
 
-ghost use Rattle.std.specs.Prelude.{◌≡◌, ℕ, Bool, List, false, length, map, reverse, IfOk, IfErr, OnOk};
-ghost use Rattle.constriction_base.specs.Models.{pairs_of};
+ghost use Rattle.std.specs.Prelude.{◌≡◌, List, length, map, IfOk, IfErr, OnOk};
 ghost use Rattle.constriction_base.specs.Readings.{BeginsHigh};
-ghost use Rattle.constriction_base.specs.Iterators.{FusedRead};
 ghost use Rattle.constriction_base.specs.Steps.{IsSizes};
-ghost use Rattle.constriction_laws.specs.Outcomes.{UnlessInvalid};
-ghost use Rattle.constriction_laws.specs.Readings.{TellsItems};
-ghost use Rattle.constriction_laws.specs.stack.Readings.{DecodesFrom};
-ghost use Rattle.constriction_stack.specs.Ans.{AnsState, AnsValue, exported, filled, empty};
-ghost use Rattle.constriction_stack.specs.Imports.{ImportRefused};
-ghost use Rattle.constriction_stack.specs.Symbols.{DecodesAll, EncodesAll};
+ghost use Rattle.constriction_laws.specs.Outcomes.{IfItems, UnlessInvalid};
+ghost use Rattle.constriction_laws.specs.stack.Exporting.{GivesExport};
+ghost use Rattle.constriction_laws.specs.stack.Lists.{HoldsItems};
+ghost use Rattle.constriction_laws.specs.stack.Readings.{DecodesFromIterator, GivesTold, HoldsTold, IteratorRefused};
+ghost use Rattle.constriction_stack.specs.Ans.{AnsState};
 
 use crate::errors::RoundTripError;
 use crate::stack::readings::{decodes_are_words, items_are_words, symbols_come_back_by_reads};
@@ -43,13 +40,10 @@ where
     M::Probability: WordOf<Word>,
     requires { IsSizes Word.BITS State.BITS }
     ensures count { IfOk result (λ again. length again.items ≡ length models.now) }
-    ensures read { IfOk result (λ again. (last : AnsState) × DecodesAll Word.BITS State.BITS
-        (pairs_of PRECISION M.table again.items models.now)
-        (filled Word.BITS State.BITS 0 (map Word.number words.items)) last) }
-    ensures back { (symbols : List M.Symbol) (state : AnsState) →
-        EncodesAll Word.BITS State.BITS (reverse (pairs_of PRECISION M.table symbols models.now)) empty state →
-        map Word.number words.items ≡ exported Word.BITS state → length symbols ≡ length models.now →
-        IfOk result (λ again. again.items ≡ symbols) }
+    ensures read { IfItems PRECISION M.table models.now result (HoldsItems Word.BITS State.BITS (map Word.number
+        words.items)) }
+    ensures back { (symbols : List M.Symbol) (state : AnsState) → GivesExport Word.BITS State.BITS PRECISION M.table
+        models.now (map Word.number words.items) result symbols state }
     ensures high { OnOk result (BeginsHigh (map Word.number words.items)) }
     ensures err { IfErr result (UnlessInvalid (BeginsHigh (map Word.number words.items) → ⊥)) }
 {
@@ -85,20 +79,14 @@ where
     requires sizes { IsSizes Word.BITS State.BITS }
     requires can { Iter.can_next items }
     ensures count { IfOk result (λ again. length again.items ≡ length models.now) }
-    ensures read { (words : Iter → List Word) → TellsItems Iter.next_gives words →
-        IfOk result (λ again. (last : AnsState) × DecodesAll Word.BITS State.BITS
-        (pairs_of PRECISION M.table again.items models.now)
-        (filled Word.BITS State.BITS 0 (map Word.number (words items))) last) }
-    ensures back { (words : Iter → List Word) (symbols : List M.Symbol) (state : AnsState) →
-        TellsItems Iter.next_gives words →
-        EncodesAll Word.BITS State.BITS (reverse (pairs_of PRECISION M.table symbols models.now)) empty state →
-        map Word.number (words items) ≡ exported Word.BITS state → length symbols ≡ length models.now →
-        IfOk result (λ again. again.items ≡ symbols) }
-    ensures reads { IfOk result (λ again. (last : AnsValue (Iter × Bool)) × DecodesFrom Word.number
-        (FusedRead Iter.next_gives) Word.BITS State.BITS (items, false)
-        (pairs_of PRECISION M.table again.items models.now) last) }
-    ensures err { IfErr result (UnlessInvalid ((rest : Iter) × (done : Bool)
-        × ImportRefused Word.number (FusedRead Iter.next_gives) Word.BITS State.BITS (items, false) (rest, done))) }
+    ensures read { HoldsTold Word.number Iter.next_gives Word.BITS State.BITS PRECISION M.table models.now items
+        result }
+    ensures back { GivesTold Word.number Iter.next_gives Word.BITS State.BITS PRECISION M.table models.now items
+        result }
+    ensures reads { IfItems PRECISION M.table models.now result (DecodesFromIterator Word.number Iter.next_gives
+        Word.BITS State.BITS items) }
+    ensures err { IfErr result (UnlessInvalid (IteratorRefused Word.number Iter.next_gives Word.BITS State.BITS
+        items)) }
 {
     let Ok(mut decoder) = AnsCoder::<
         Word,

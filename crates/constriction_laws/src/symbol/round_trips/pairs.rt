@@ -3,12 +3,10 @@
 //! The contracts of `into_compressed` and `from_compressed` say which words the bits have. The law
 //! [`one_stack_of_words`](crate::symbol::words::one_stack_of_words) says that no other bits have these words.
 
-ghost use Rattle.constriction_symbol.specs.Lists.{AreCodewordsBy, AreSameBy, ReadsPairs, of_pair};
+ghost use Rattle.constriction_symbol.specs.Lists.{AreCodewordsBy, ReadsPairs};
 ghost use Rattle.constriction_base.specs.Backends.{IsWrite};
-ghost use Rattle.constriction_symbol.specs.Codewords.{LacksMemory, WritesPair};
-ghost use Rattle.constriction_symbol.specs.Reversed.{StacksPair};
-ghost use Rattle.constriction_laws.specs.symbol.Refusals.{StopsAtCodebook, StopsAtItem, StopsAtItemFromBack};
-ghost use Rattle.constriction_laws.specs.symbol.Refusals.{SymbolNotWritten};
+ghost use Rattle.constriction_laws.specs.symbol.Refusals.{StopsAtCodebook};
+ghost use Rattle.constriction_laws.specs.symbol.Pairs.{GivesWritten, PairsNotStacked, PairsNotWritten};
 ghost use Rattle.std.specs.List.{zip};
 ghost use Rattle.std.specs.Prelude.{Bool, IfErr, IfOk, List, OnOk, length, reverse, ◌++◌, ◌≡◌};
 
@@ -39,11 +37,8 @@ pub fn encode_pairs<W: WriteBitStream<Queue>, C: EncoderCodebook>(
 ) -> Result<(), DefaultEncoderError<W::WriteError>>
     ensures words { OnOk result ((code : List Bool) × AreCodewordsBy C.codeword codebooks.now symbols.now code
         × (W.bits stream.new ≡ W.bits stream.old ++ code)) }
-    ensures err { IfErr result (λ e. SymbolNotWritten
-        (StopsAtItem (of_pair C.codeword) (zip symbols.now codebooks.now)) (of_pair C.codeword)
-        (λ now code. W.bits now ≡ W.bits stream.old ++ code)
-        (WritesPair W.bits W.puts (λ book symbol. LacksMemory (C.prefix_wants book symbol) W.WriteError.from_gives)
-        C.codeword (λ bits. bits) (λ symbol. symbol)) e stream.new) }
+    ensures err { IfErr result (λ e. PairsNotWritten W.bits W.puts C.codeword C.prefix_wants W.WriteError.from_gives
+        symbols.now codebooks.now stream.old e stream.new) }
 {
     WriteBitStream::<Queue>::encode_symbols(stream, symbols.iter().zip(codebooks.iter()))
 }
@@ -69,11 +64,9 @@ where
     requires { length symbols.now ≡ length codebooks.now }
     ensures words { OnOk result ((code : List Bool) × AreCodewordsBy C.codeword codebooks.now symbols.now code
         × (reverse coder.new.bits ≡ code ++ reverse coder.old.bits)) }
-    ensures err { IfErr result (λ e. SymbolNotWritten
-        (StopsAtItemFromBack (of_pair C.codeword) (zip symbols.now codebooks.now)) (of_pair C.codeword)
-        (λ now code. reverse now.bits ≡ code ++ reverse coder.old.bits)
-        (StacksPair Word.BITS Word.number (IsWrite B.words B.room B.writes B.write_fails) C.suffix_wants
-        B.WriteError.from_gives C.codeword (λ symbol. symbol)) e coder.new) }
+    ensures err { IfErr result (λ e. PairsNotStacked Word.BITS Word.number (IsWrite B.words B.room B.writes
+        B.write_fails) C.codeword C.suffix_wants B.WriteError.from_gives symbols.now codebooks.now coder.old e
+        coder.new) }
 {
     coder.encode_symbols_reverse(symbols.iter().zip(codebooks.iter()))
 }
@@ -99,10 +92,7 @@ where
     ensures count { IfOk result (λ symbols. length symbols.items ≡ length codebooks.now) }
     ensures steps { IfOk result (λ symbols. ReadsPairs R.gives C.codeword C.reads_on C.is_invalid
         (zip symbols.items codebooks.now) stream.old stream.new) }
-    ensures back { R.is_list → (symbols : List C.Symbol) (code rest : List Bool) →
-        length symbols ≡ length codebooks.now → AreCodewordsBy C.codeword codebooks.now symbols code →
-        R.unread stream.old ≡ code ++ rest → IfOk result (λ again.
-        AreSameBy C.is_same codebooks.now again.items symbols × (R.unread stream.new ≡ rest)) }
+    ensures back { R.is_list → GivesWritten C.codeword C.is_same R.unread codebooks.now stream.old result stream.new }
     ensures err { IfErr result (λ e. StopsAtCodebook R.gives C.codeword C.reads_on C.is_invalid
         codebooks.now stream.old e stream.new) }
 {
