@@ -7,7 +7,7 @@
 ghost use Rattle.std.specs.Prelude.{◌≡◌, ℕ, drop};
 ghost use Rattle.constriction_queue.specs.Encoder.{Encoder, HasHeads, Without, run_by, sealed_by};
 
-/// Removing the words that a guard wrote restores the encoder's interval and the words that it would export.
+/// Removing the words that a guard wrote restores the encoder's interval and the words that the encoder would export.
 pub fn shown_words_go<Backend>()
     ensures run { (w s count : ℕ) (encoder shown left : Encoder Backend) → HasHeads encoder shown →
         drop count shown.words ≡ encoder.words → Without count shown left →

@@ -9,7 +9,7 @@ pub fn one_tree()
     ensures { (weights : List ℕ) → 0 < length weights → (tree : Tree) × (merge weights ≡ tree ∷ []) }
 {}
 
-/// No codeword of a Huffman tree begins another.
+/// No codeword of a Huffman tree is a prefix of another.
 pub fn huffman_is_prefix_free()
     ensures { (weights : List ℕ) (s t : ℕ) (bits tail : List Bool) →
         huffman weights s ≡ Some bits → huffman weights t ≡ Some (bits ++ tail) → s ≡ t }
