@@ -8,11 +8,11 @@ use std::alloc::AllocError;
 use std::fmt::Display;
 use thiserror::Error;
 
-/// The error of a coder: either its frontend or its backend refuses the call.
+/// The error of a call to a coder: either the coder's frontend or its backend refuses the call.
 ///
 /// The frontend is the part of the coder that handles symbols and their models. The backend reads and writes words. The
-/// `?` operator turns a backend's error into `CoderError::Backend`. It doesn't convert a frontend's error: code has to
-/// wrap that error as `CoderError::Frontend(error)`.
+/// `?` operator turns a backend's error into `CoderError::Backend`. It doesn't convert a frontend's error: the caller
+/// has to wrap that error as `CoderError::Frontend(error)`.
 ///
 /// # Examples
 ///

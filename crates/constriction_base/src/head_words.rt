@@ -33,10 +33,10 @@ pub fn count_of_words<Word: WordOf<State>, State: BitArray>(head: State) -> usiz
     count
 }
 
-/// Returns the number of whole words that the bits of `head` below its highest set bit fill.
+/// Returns the number of bits of `head` below its highest set bit, counted in words.
 ///
-/// Returns `None` if these bits don't fill whole words, or if `head` is 0. The caller proves that `State` has a whole
-/// number of words, at least two.
+/// Returns `None` if these bits don't make a whole number of words, or if `head` is 0. The caller proves that `State`
+/// has a whole number of words, at least two.
 pub fn words_below_one<Word: WordOf<State>, State: BitArray>(head: State) -> Option<usize>
     requires { IsSizes Word.BITS State.BITS }
     ensures value { IfSome result (λ m. IsOneAbove Word.BITS m (State.number head)) }

@@ -4,7 +4,9 @@ use constriction_base::backends::{
     BoundedReadWords, Pos, PosSeek, Queue, ReadWords, Seek, Stack, WriteWords,
 };
 
-/// Reads the backend as a stack. Returns whether the read returns `expected`.
+/// Reads one word from the backend as a stack. Returns whether the read succeeds with `expected`.
+///
+/// If `expected` is `None`, the read must find no word.
 pub fn pops<B: ReadWords<u32, Stack>>(backend: &mut B, expected: Option<u32>) -> bool
 where
     B::ReadError: Drop,
@@ -15,7 +17,9 @@ where
     }
 }
 
-/// Reads the backend as a queue. Returns whether the read returns `expected`.
+/// Reads one word from the backend as a queue. Returns whether the read succeeds with `expected`.
+///
+/// If `expected` is `None`, the read must find no word.
 pub fn takes<B: ReadWords<u32, Queue>>(backend: &mut B, expected: Option<u32>) -> bool
 where
     B::ReadError: Drop,
@@ -26,12 +30,12 @@ where
     }
 }
 
-/// Returns whether the backend, read as a stack, may be exhausted.
+/// Returns what `maybe_exhausted` returns for the backend, read as a stack.
 pub fn seems_popped<B: ReadWords<u32, Stack>>(backend: &B) -> bool {
     backend.maybe_exhausted()
 }
 
-/// Returns whether the backend, read as a queue, may be exhausted.
+/// Returns what `maybe_exhausted` returns for the backend, read as a queue.
 pub fn seems_taken<B: ReadWords<u32, Queue>>(backend: &B) -> bool {
     backend.maybe_exhausted()
 }
@@ -62,7 +66,7 @@ where
     backend.prepare(count).is_ok()
 }
 
-/// Returns whether the backend may be full.
+/// Returns what `maybe_full` returns for the backend.
 pub fn seems_full<B: WriteWords<u32>>(backend: &B) -> bool {
     backend.maybe_full()
 }

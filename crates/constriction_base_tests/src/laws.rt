@@ -17,7 +17,7 @@ pub fn goes_where_it_stands<B: SeeksBack>(backend: &mut B) -> Result<(), ()>
     backend.seek(place)
 }
 
-/// Returns the backend's position, which is the number of its words.
+/// Returns the backend's position, which equals the number of words in the backend.
 pub fn words_before<Word, B: CountsWords<Word>>(backend: &B) -> usize
     ensures { result ≡ length (B.words backend.now) }
 {

@@ -10,7 +10,7 @@ use constriction_base::errors::BoundedWriteError;
 use constriction_words::BitArray;
 use std::alloc::{AllocError, Allocator};
 
-/// The refused call of the backend, with its error. A refused `prepare` hands back the word that was read.
+/// The backend's call that failed in [`two_for_one`], with the error. `Prepare` also has what the read returned.
 #[derive(Debug, Drop)]
 pub enum Refusal<Word, ReadError, WriteError> {
     Read(ReadError),
@@ -19,7 +19,9 @@ pub enum Refusal<Word, ReadError, WriteError> {
     Second(WriteError),
 }
 
-/// Reads the next word, and writes `below` and then `above` in its place. Returns the word that was read.
+/// Reads the next word, and writes `below` and then `above` in its place.
+///
+/// Returns the word that was read, or `None` if the read found no word.
 pub fn two_for_one<Word: BitArray, Backend: ReadWords<Word, Stack> + WriteWords<Word>>(
     backend: &mut Backend,
     below: Word,

@@ -14,8 +14,8 @@ use std::num::NonZero;
 
 /// A table of weights at a precision of 24 bits, with a list that shortens the search for a quantile.
 ///
-/// The quantiles have 4096 parts of equal length. The list has the symbol of each part's first quantile, and a decode
-/// searches upward from this symbol. All weights are above 0, and all listed symbols are below 256.
+/// The quantiles are divided into 4096 parts of equal length. The list has the symbol of each part's first quantile. A
+/// decode searches upward from this symbol. All weights are above 0, and all listed symbols are below 256.
 #[derive(Drop)]
 pub struct BucketTable {
     table: WeightTable<u32, 24>,
@@ -31,7 +31,8 @@ pub struct BucketTable {
 impl BucketTable {
     /// Makes the table of `weights`.
     ///
-    /// Returns `None` if the weights make no table of this type, or if there is no memory.
+    /// Returns `None` if a weight is 0, if the weights don't add up to `2^24`, if a symbol to list is above 255, or if
+    /// there is no memory.
     pub fn new(alloc: Global, weights: &[u32]) -> Option<Self>
         ensures { IfSome result
             (λ table. ⟦<BucketTable as EntropyModel<24>>⟧.table table

@@ -96,7 +96,7 @@ where
     true
 }
 
-/// Encodes numbers in order to a queue of bits, with Exp-Golomb codewords.
+/// Encodes numbers to a queue of bits, from first to last, with Exp-Golomb codewords.
 ///
 /// Copies the words to `out`, as many as fit. Returns the total number of words, or 0 after a failure.
 #[unsafe(no_mangle)]
@@ -108,7 +108,7 @@ pub extern "C" fn constriction_bench_golomb_encode_queue(
     give_out(encode_queue(alloc, numbers, &ExpGolomb::<u32>::new()), out)
 }
 
-/// Encodes numbers from the last to the first to a stack of bits, with Exp-Golomb codewords.
+/// Encodes numbers to a stack of bits, from last to first, with Exp-Golomb codewords.
 ///
 /// Copies the words to `out`, as many as fit. Returns the total number of words, or 0 after a failure.
 #[unsafe(no_mangle)]
@@ -166,7 +166,7 @@ pub extern "C" fn constriction_bench_huffman_encode_queue(
     }
 }
 
-/// Encodes symbols from the last to the first to a stack of bits, with the Huffman tree of `weights`.
+/// Encodes symbols to a stack of bits, from last to first, with the Huffman tree of `weights`.
 ///
 /// Copies the words to `out`, as many as fit. Returns the total number of words, or 0 after a failure.
 #[unsafe(no_mangle)]

@@ -29,7 +29,8 @@ pub struct LookupTable {
 impl LookupTable {
     /// Makes the table of `weights`.
     ///
-    /// Returns `None` if the weights make no table of this type, or if there is no memory.
+    /// Returns `None` if a weight is 0, if the weights don't add up to `2^12`, if there are more than 256 weights, or
+    /// if there is no memory.
     pub fn new(alloc: Global, weights: &[u16]) -> Option<Self>
         ensures { IfSome result
             (λ table. ⟦<LookupTable as EntropyModel<12>>⟧.table table

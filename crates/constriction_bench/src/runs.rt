@@ -113,7 +113,7 @@ where
     }
 }
 
-/// Imports a copy of `words` into a coder, exports it again, and copies the words to `out`, as many as fit.
+/// Imports a copy of `words` into a coder, exports the words again, and copies them to `out`, as many as fit.
 ///
 /// Returns how many words there are, or 0 if the last word is 0 or there is no memory.
 pub fn reload_out<Word: WordOf<State>, State: BitArray>(

@@ -57,7 +57,7 @@ pub extern "C" fn constriction_quantized_intervals_u16(
     code_without_space(intervals_of_quantized::<u16, 12>(&models, symbols, lefts, ps))
 }
 
-/// Writes a weight for each count, in proportion to the count apart from rounding. The weights add up to `2^24`.
+/// Writes a weight for each count, proportional to the count up to rounding. The weights add up to `2^24`.
 ///
 /// Calls [`put_weights_of_counts`] and returns the code of its result ([`code_of`](crate::codes::code_of)).
 #[unsafe(no_mangle)]
@@ -72,7 +72,7 @@ pub extern "C" fn constriction_weights_of_counts_u32(
     code_without_space(put_weights_of_counts::<u32, 24>(alloc, counts, weights))
 }
 
-/// Writes a weight for each count, in proportion to the count apart from rounding. The weights add up to `2^12`.
+/// Writes a weight for each count, proportional to the count up to rounding. The weights add up to `2^12`.
 ///
 /// Calls [`put_weights_of_counts`] and returns the code of its result ([`code_of`](crate::codes::code_of)).
 #[unsafe(no_mangle)]

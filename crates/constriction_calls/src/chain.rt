@@ -43,6 +43,6 @@ pub use words::{
 pub struct ChainHeads<Word, State> {
     /// The remainders head: the number on top of the words of the remainders.
     pub remainders: State,
-    /// The compressed head: a leading 1, and below it the bits of the last compressed word read that no decode used.
+    /// The compressed head: a leading 1, and below it the bits left over from the compressed word that was read last.
     pub compressed: Word,
 }

@@ -17,6 +17,9 @@ use constriction_base::errors::CoderError;
 use constriction_words::{BitArray, Reciprocal, WordOf};
 
 /// Takes the next quantile off the compressed side. Returns the quantile and the new compressed head.
+///
+/// `heads` has the compressed head and the remainders head. If the call needs a compressed word, it first asks the
+/// remainders for room for one word.
 #[inline(always)]
 pub fn take<Word: WordOf<State>, State: BitArray, C: ReadWords<Word, Stack>, R: WriteWords<Word>>(
     compressed: &mut C,
@@ -40,7 +43,10 @@ pub fn take<Word: WordOf<State>, State: BitArray, C: ReadWords<Word, Stack>, R: 
     take_quantile(compressed, remainders, heads.0, precision)
 }
 
-/// Moves the offset `quantile - left` to the remainders, and returns the new remainders head.
+/// Moves the offset `quantile - left` into the remainders head `r`, and returns the new remainders head.
+///
+/// `p` is the length of the quantile's interval. If the head gets above its window, the call writes a word of the head
+/// to `remainders`.
 #[inline(always)]
 pub fn keep<Word: WordOf<State>, State: BitArray, R: WriteWords<Word>>(
     remainders: &mut R,

@@ -21,9 +21,9 @@ pub fn is_below_power<State: BitArray>(r: State, less: u32) -> bool
     r.shifted_right(State::BITS - less).is_nothing()
 }
 
-/// Reads words of `source` into a remainders head until the head is in its window.
+/// Reads words of `source` into a new remainders head until the head is in its window, and returns the head.
 ///
-/// Returns `None` if the first word is 0, or if there are too few words.
+/// Returns `None` if the first word is 0, or if there are too few words to reach the window.
 pub fn begin_window<Word: WordOf<State>, State: BitArray, B: ReadWords<Word, Stack>>(
     source: &mut B,
     precision: u32,
@@ -52,13 +52,13 @@ pub fn begin_window<Word: WordOf<State>, State: BitArray, B: ReadWords<Word, Sta
     }
 }
 
-/// Writes both heads to `backend`, after asking it for room for all words of the heads.
+/// Asks `backend` for room for all words of both heads, and then writes the heads to `backend`.
 ///
 /// The words of the remainders head come first, lowest first and without leading zeros. The compressed head follows.
 ///
 /// # Errors
 ///
-/// Returns the backend's error if it has no room for these words, or refuses to write one of them.
+/// Returns the error of `backend` if `backend` refuses room for these words, or refuses to write one of these words.
 pub fn append_heads<Word: WordOf<State>, State: BitArray, B: WriteWords<Word>>(
     backend: &mut B,
     h: Word,

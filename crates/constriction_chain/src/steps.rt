@@ -78,7 +78,7 @@ pub fn take_quantile<Word: BitArray, C: ReadWords<Word, Stack>, R: WriteWords<Wo
 
 /// Multiplies the remainders head `r` by `p`, adds the offset `t`, and brings the head back into its window.
 ///
-/// If the sum is above the window, the call writes the low word of the sum to `remainders`.
+/// If the sum is above the window, the call writes the low word of the sum to `remainders`. Returns the new head.
 #[inline(always)]
 pub fn gain<Word: WordOf<State>, State: BitArray, R: WriteWords<Word>>(
     remainders: &mut R,
@@ -118,7 +118,7 @@ fn owes_word<Word: BitArray>(h: Word, precision: u32) -> bool
     precision == Word::BITS || !h.shifted_right(Word::BITS - precision).is_nothing()
 }
 
-/// Asks for room for a word if a quantile of `precision` bits would make the compressed head `h` too long.
+/// Asks `compressed` for room for a word if a quantile of `precision` bits would make the compressed head `h` too long.
 #[inline(always)]
 pub fn prepare_for_quantile<Word: BitArray, C: WriteWords<Word>>(
     compressed: &mut C,

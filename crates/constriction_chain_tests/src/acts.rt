@@ -267,7 +267,7 @@ where
     }
 }
 
-/// Runs an act with a coder, and returns the answer.
+/// Runs an act (a step of a script) with a coder. Returns the answer, as in [`constriction_scripts::answers`].
 pub fn act_by<Word, State, Probability, const PRECISION: usize>(
     alloc: Global,
     coder: &mut Whole<Word, State, PRECISION>,
@@ -303,7 +303,7 @@ pub fn failure(answer: &'static str, act: &Act<'_>) -> Option<&'static str> {
     Some(if answer == MEMORY { MEMORY } else { act.text })
 }
 
-/// Runs a script with a coder. Returns the text of the first act whose result isn't the expected one.
+/// Runs a script with a coder. Returns the text of the first act whose result isn't the expected one, if any.
 pub fn follow<Word, State, Probability, const PRECISION: usize>(
     alloc: Global,
     coder: &mut Whole<Word, State, PRECISION>,

@@ -11,7 +11,7 @@ use constriction_scripts::script::{Act, Script};
 use constriction_words::{BitArray, WordOf};
 use std::alloc::Global;
 
-/// Returns a copy with its precision increased to `N`, or the answer that stands for the error.
+/// Returns a copy of the coder with the precision increased to `N`, or the answer that stands for the error.
 pub fn increase<Word, State, const PRECISION: usize, const N: usize>(
     coder: &Whole<Word, State, PRECISION>,
 ) -> Result<Whole<Word, State, N>, &'static str>
@@ -29,7 +29,7 @@ where
     }
 }
 
-/// Returns a copy with its precision decreased to `N`, or the answer that stands for the error.
+/// Returns a copy of the coder with the precision decreased to `N`, or the answer that stands for the error.
 pub fn decrease<Word, State, const PRECISION: usize, const N: usize>(
     coder: &Whole<Word, State, PRECISION>,
 ) -> Result<Whole<Word, State, N>, &'static str>
@@ -73,7 +73,7 @@ pub enum Either {
     Fine(Fine),
 }
 
-/// A table for each precision.
+/// A table at 4 bits and a table at 8 bits of precision.
 #[derive(Drop)]
 pub struct Tables {
     pub coarse: WeightTable<u8, 4>,
@@ -95,7 +95,7 @@ fn changed(coder: &Either, verb: &str) -> Result<Option<Either>, &'static str> {
     }))
 }
 
-/// Runs an act with a coder at either precision, and returns the answer.
+/// Runs an act with a coder at 4 or 8 bits of precision. Returns the answer, as in [`constriction_scripts::answers`].
 pub fn change_by(
     alloc: Global,
     coder: &mut Either,
@@ -117,7 +117,7 @@ pub fn change_by(
 
 /// Runs a script with a coder that changes its precision.
 ///
-/// Returns the text of the first act whose result isn't the expected one.
+/// Returns the text of the first act whose result isn't the expected one, if any.
 pub fn follow_changes(
     alloc: Global,
     coder: &mut Either,

@@ -13,7 +13,7 @@ use constriction_words::{BitArray, WordOf};
 use std::alloc::Global;
 use std::test::Fail;
 
-/// A coder over vectors.
+/// A chain coder whose compressed words and remainders are in vectors.
 pub type Whole<Word, State, const PRECISION: usize> = ChainCoder<
     Word,
     State,
@@ -34,7 +34,7 @@ pub type Table = WeightTable<u8, 8>;
 /// The weights of most tables with a precision of 8 bits.
 pub const WEIGHTS: &[u8] = &[16, 240];
 
-/// The weights of a table, and a script.
+/// A part of a test: the weights of a table, and the script to run with the table.
 pub type Part<'a, Probability> = (&'a [Probability], &'static str);
 
 /// Turns the text of a failed act into the error of a test. Without a failed act, the test passes.
@@ -97,7 +97,7 @@ where
     None
 }
 
-/// Runs a script with a coder of 8-bit words and 16-bit states, at a precision of 8 bits.
+/// Runs the script `text` with a coder of 8-bit words and 16-bit states, and the 8-bit table of [`WEIGHTS`].
 pub fn fine(alloc: Global, text: &'static str) -> Result<(), Fail> {
     said(go::<u8, u16, u8, 8>(alloc, empty(alloc, 1), &[(WEIGHTS, text)]))
 }
@@ -107,12 +107,12 @@ pub fn coarse(alloc: Global, parts: &[Part<'_, u8>]) -> Result<(), Fail> {
     said(go::<u8, u16, u8, 4>(alloc, empty(alloc, 16), parts))
 }
 
-/// Runs a script with a coder of 16-bit words and 32-bit states, at a precision of 12 bits.
+/// Runs the script `text` with a coder of 16-bit words and 32-bit states, at a precision of 12 bits.
 pub fn small(alloc: Global, weights: &[u16], text: &'static str) -> Result<(), Fail> {
     said(go::<u16, u32, u16, 12>(alloc, empty(alloc, 16), &[(weights, text)]))
 }
 
-/// Runs a script with a coder of 32-bit words and 64-bit states, at a precision of 24 bits.
+/// Runs the script `text` with a coder of 32-bit words and 64-bit states, at a precision of 24 bits.
 pub fn wide(alloc: Global, weights: &[u32], text: &'static str) -> Result<(), Fail> {
     said(go::<u32, u64, u32, 24>(alloc, empty(alloc, 256), &[(weights, text)]))
 }

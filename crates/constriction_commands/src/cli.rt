@@ -138,7 +138,7 @@ pub fn run<R: Read, O: Write, E: Write>(
 /// status that `run` returns. There are two exceptions:
 ///
 /// - If there is no memory for the arguments, the status is 1, and the line on `faults` is `out of memory`.
-/// - If an argument isn't UTF-8, the status is 2.
+/// - If an argument isn't UTF-8, the status is 2, and the line on `faults` is the usage line.
 pub fn start<R: Read, O: Write, E: Write>(
     alloc: Global,
     given: io::Result<Args>,

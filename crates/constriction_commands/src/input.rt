@@ -40,7 +40,7 @@ pub fn split_line(text: &[u8]) -> (&[u8], &[u8])
     }
 }
 
-/// A type for the numbers that are parsed from a line.
+/// A type of numbers that [`parse_numbers`] can return.
 pub trait Number: Copy {
     /// The greatest number of the type.
     const GREATEST: u64;

@@ -13,7 +13,7 @@ use std::alloc::Global;
 /// The precision of the weights, in bits.
 pub const PRECISION: usize = 24;
 
-/// A table of the symbols 0, 1, .. by their weights.
+/// The type of a table of the symbols 0, 1, .., which is made from one weight for each symbol.
 pub type Table = WeightTable<u32, PRECISION>;
 
 /// Builds the table of the symbols 0, 1, .. with the weights `weights`.

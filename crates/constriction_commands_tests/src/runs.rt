@@ -4,7 +4,7 @@ use constriction_commands::cli::run;
 use std::alloc::{AllocError, Global};
 use std::test::Fail;
 
-/// The exit status of a run, and the bytes that it wrote as output and as faults.
+/// The exit status of a run of the program, and the bytes that the run wrote to `output` and to `faults`.
 #[derive(Debug, Drop)]
 pub struct Outcome {
     pub status: u8,
@@ -47,7 +47,7 @@ pub fn ran_with(alloc: Global, words: &[&str], text: &[u8]) -> Result<Outcome, A
     })
 }
 
-/// Runs `command` with the input `text`.
+/// Runs the program with the one argument `command` and the input `text`.
 pub fn ran(alloc: Global, command: &str, text: &[u8]) -> Result<Outcome, AllocError> {
     ran_with(alloc, &[command], text)
 }

@@ -68,7 +68,9 @@ fn show(rt: &impl Print, coder: &str, one: &Symbols, other: &Symbols) -> Result<
     Ok(())
 }
 
-/// Decodes the words with both coders, under two models for the first symbol, and prints the symbols.
+/// Decodes [`WORDS`] with a stack coder and with a chain coder, and prints the symbols.
+///
+/// Each coder decodes twice, under different models for the first symbol.
 pub fn run(rt: &impl Print, alloc: Global) -> Result<()> {
     let first = Table::new(alloc, &[2048, 1024, 512, 512])?;
     let replaced = Table::new(alloc, &[512, 512, 1024, 2048])?;

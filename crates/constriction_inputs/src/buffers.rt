@@ -7,7 +7,7 @@ ghost use Rattle.constriction_inputs.specs.declared.refusal.Refusal.TheVariants 
 use crate::refusal::Refusal;
 use constriction_words::BitArray;
 
-/// Writes the words of `added` after the first `len` words of `buffer`, and increases `len` by their number.
+/// Writes the words of `added` after the first `len` words of `buffer`, and increases `len` by the length of `added`.
 ///
 /// The caller proves that `len` is at most the length of the buffer.
 ///
@@ -15,7 +15,7 @@ use constriction_words::BitArray;
 ///
 /// After an error, `buffer` and `len` are unchanged.
 ///
-/// - `NoSpace(needed)`: the buffer is too short. `needed` is the number of words that it has to hold.
+/// - `NoSpace(needed)`: the buffer is too short. `needed` is the number of words that the buffer has to hold.
 /// - `NoMemory`: the number of words that the buffer has to hold doesn't fit a `usize`, so no buffer is long enough.
 ///
 /// # Examples

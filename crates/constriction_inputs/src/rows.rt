@@ -53,7 +53,7 @@ impl<'a, P: BitArray, const PRECISION: usize> Row<'a, P, PRECISION> {
         }
     }
 
-    /// Creates the model of these weights without adding them up. The caller proves that their sum is `2 ^ PRECISION`.
+    /// Creates the model of `weights` without adding them up. The caller proves that their sum is `2 ^ PRECISION`.
     pub fn of_total(weights: &'a [P]) -> Self
         requires sizes { (1 ≤ PRECISION) × (PRECISION ≤ P.BITS) }
         requires total { IsTotal PRECISION (map P.number weights.now) }

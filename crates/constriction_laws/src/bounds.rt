@@ -36,9 +36,9 @@ pub fn stack_bound_at_one_precision()
         precision steps (exported w state) }
 {}
 
-/// Bounds how many exported words a sequence of encodes and decodes adds to a stack coder.
+/// Bounds the number of words that a sequence of encodes and decodes adds to the export of a stack coder.
 ///
-/// The encodes and decodes may come in any order. The bound is stated by their net cost, as in bits-back coding: the
+/// The encodes and decodes may come in any order. The bound follows from their net cost, as in bits-back coding: the
 /// bits that encodes add, minus the bits that decodes take off. The coder begins in a valid state. Its head is at least
 /// `2^(s-w)` at the beginning and after each decode.
 pub fn stack_net_bound()
@@ -58,7 +58,7 @@ pub fn range_bound()
 /// Bounds the number of words that a range encoder exports with a self-delimiting seal.
 ///
 /// The encoder starts from the initial interval and encodes `steps`. The bound holds if there are at least `s / w`
-/// words, counting the seal. A head is `s / w` words wide.
+/// words, counting the seal. `State` is `s / w` words wide.
 pub fn self_delimiting_bound()
     ensures { (w s : ℕ) (steps : List Step) (words : List ℕ) → IsSizes w s → AreSteps w steps → DelimitsSteps w s steps
         words → IsRangeBounded w s (s / w) steps words }

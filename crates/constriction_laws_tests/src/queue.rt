@@ -20,7 +20,7 @@ fn put_in(alloc: Global, tables: &[Table; 2]) -> bool {
     }
 }
 
-/// Decodes the word 16. Returns whether the symbols equal `SYMBOLS`, and the decoder may be exhausted.
+/// Decodes the word 16. Returns whether the symbols equal `SYMBOLS`, and `maybe_exhausted` is true after the decodes.
 fn from_words(alloc: Global, tables: &[Table; 2]) -> bool {
     let Some(words) = words_of(alloc, &[16]) else {
         return false;

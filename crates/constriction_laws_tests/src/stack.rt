@@ -53,7 +53,7 @@ fn from_items(alloc: Global, tables: &[Table; 2]) -> bool {
     }
 }
 
-/// Imports a coder from `words`.
+/// Imports a coder from `words`. Returns `None` if the last word is 0, or if there is no memory.
 pub(crate) fn coder_of(alloc: Global, words: &[u8]) -> Option<Small> {
     Small::from_compressed(words_of(alloc, words)?).ok()
 }

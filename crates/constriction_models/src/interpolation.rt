@@ -28,7 +28,7 @@ fn far_above(wide: u64, middle: i64, place: i64) -> i128
     place as i128 - middle as i128 + (wide / 2) as i128
 }
 
-/// Returns the value that a table of width `wide` around `middle` gives at `place`.
+/// Interpolates a table of width `wide` around `middle` linearly, and returns the value at `place`.
 ///
 /// `wide`, `middle` and `place` are in units of `2^-16`. Multiplying a distance by `rate / 2^36` converts it from these
 /// units to 65536ths of the table's spacing. The value is 0 below the table, and `2^32` above it.
@@ -65,8 +65,9 @@ fn place_of(places: &[u32], below: u64) -> u64
 
 /// Estimates the place at which a distribution reaches `below` (in units of `2^-32`).
 ///
-/// `places` lists where the family's tabulated function reaches each of 1025 values. The table spans the width `wide`
-/// around `middle`. Places are in units of `2^-16`. The result is limited to the range from `-2^51` to `2^51`.
+/// `places` lists where the tabulated function reaches 0, 1/1024, 2/1024, .., 1. Each of these numbers is the distance
+/// from the table's start, in 65536ths of the table's spacing. The table spans the width `wide` around `middle`.
+/// `wide`, `middle` and the result are in units of `2^-16`. The result is limited to the range from `-2^51` to `2^51`.
 #[inline(always)]
 pub fn guessed(places: &[u32], wide: u64, middle: i64, below: u64) -> i64
     requires count { length places.now ≡ 1025 }

@@ -133,8 +133,9 @@ impl<'a, D: CumulativeDistribution> Mixture<'a, D> {
 
     /// Estimates the place at which the mixture reaches `below`, as if its components didn't overlap.
     ///
-    /// The call finds the component whose share holds `below`, as `share_of` defines shares. It returns the guess of
-    /// this component for the part of its share that lies below `below`.
+    /// `below` is in units of `2^-32`, and `places[k]` is the guess of component `k` for `below`. The call multiplies
+    /// `below`, limited to `2^32 - 1`, by the sum of the weights. It finds the component whose share holds the product
+    /// (see `share_of`), and returns this component's guess for the part of the share that lies below the product.
     fn place_by_shares(&self, places: &[i64; FEW], below: u64) -> i64 {
         let sum = below.min(4294967295) * self.total;
         let (k, inside) = self.share_of(places, sum);
@@ -143,9 +144,10 @@ impl<'a, D: CumulativeDistribution> Mixture<'a, D> {
 
     /// Returns the number `k` of the component whose share holds `sum`, and how much of the share lies below `sum`.
     ///
-    /// A component of weight `w` has a share of `w * 2^32` numbers. The shares follow each other from 0 in the order of
-    /// `places`. The second number of the result is in units of `2^-32` of the share. If no share holds `sum`, the call
-    /// returns 0 and one half of `2^32`.
+    /// A component of weight `w` has a share of `w * 2^32` numbers. The first share begins at 0, and each other share
+    /// begins where the previous one ends. The shares are sorted by the guesses of their components, `places`. The
+    /// second number of the result is in units of `2^-32` of the share. If no share holds `sum`, the call returns 0 and
+    /// one half of `2^32`.
     fn share_of(&self, places: &[i64; FEW], sum: u64) -> (usize, u64)
         ensures { result.0 < length self.now.components.now }
     {

@@ -77,7 +77,7 @@ where
     model.left_cumulative_and_probability(symbol).is_none()
 }
 
-/// Returns the start and the length of the interval of `symbol`, or `None` if there is none.
+/// Returns the start and the length of the interval of `symbol`, or `None` if the model has no interval for `symbol`.
 pub fn interval_of<S, M, const PRECISION: usize>(model: &M, symbol: &S) -> Option<(u64, u64)>
 where
     M: EncoderModel<PRECISION, Symbol = S>,

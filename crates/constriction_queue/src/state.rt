@@ -18,7 +18,7 @@ use std::marker::PhantomData;
 /// # Examples
 ///
 /// ```
-/// RangeCoderState::<u8, u16>::new(7, 256) // Ok: 256 is two to the 8
+/// RangeCoderState::<u8, u16>::new(7, 256) // Ok: 256 is 2^8
 /// RangeCoderState::<u8, u16>::new(7, 255) // Err(())
 /// ```
 #[derive(Drop, Copy, Debug, PartialEq, Eq, Hash)]

@@ -25,6 +25,8 @@ pub fn reaches_over<State: BitArray>(lower: State, range: State) -> bool
 }
 
 /// Returns the pending words, with a carry added to them if `carry` is true.
+///
+/// There are `count` pending words. The first is `first`, and each other word is all ones.
 #[inline]
 pub fn carried<Word: BitArray>(count: NonZeroUsize, first: Word, carry: bool) -> HeldWords<Word>
     requires { Word.number first + 1 < 2 ^ Word.BITS }
@@ -46,7 +48,7 @@ pub fn carried<Word: BitArray>(count: NonZeroUsize, first: Word, carry: bool) ->
     }
 }
 
-/// The part of an interval that belongs to a symbol, and the pending words that the step releases.
+/// A symbol's part of an interval, the words that stay pending (`situation`), and the words to write (`released`).
 #[derive(Drop)]
 pub struct Part<Word, State> {
     pub lower: State,
@@ -56,6 +58,8 @@ pub struct Part<Word, State> {
 }
 
 /// Returns the part of an interval that belongs to the symbol with the start `left` and the weight `p`.
+///
+/// The result also has the pending words that no later carry can change (`released`).
 #[inline(always)]
 pub fn narrowed<Word: WordOf<State>, State: BitArray>(
     lower: State,

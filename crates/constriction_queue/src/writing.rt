@@ -219,7 +219,7 @@ fn write_several<Word: BitArray, Backend: WriteWords<Word>>(
 
 /// Writes the words of a step: the words of `held`, then `top`. Skips each argument that is `None`.
 ///
-/// Usually a step has at most one word. The call first asks for room for all words to write.
+/// Without pending words (`held`), a step has at most one word. The call first asks for room for all words to write.
 #[inline(always)]
 pub fn write_step<Word: BitArray, Backend: WriteWords<Word>>(
     bulk: &mut Backend,

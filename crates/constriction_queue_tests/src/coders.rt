@@ -24,7 +24,7 @@ pub type Table = WeightTable<u8, 8>;
 /// The weights of a table under which symbol 1 makes an encoder hold a word back.
 pub const INVERTING: &[u8] = &[127, 1, 127, 1];
 
-/// The weights of a table, and a script.
+/// A part of a test: the weights of a table, and the script to run with the table.
 pub type Part<'a, Probability> = (&'a [Probability], &'static str);
 
 /// Turns the text of the first act that failed into an error of the test. Returns `Ok` if no act failed.

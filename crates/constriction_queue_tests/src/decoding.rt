@@ -30,7 +30,7 @@ pub type Lent<'a, Word, State> = RangeDecoder<Word, State, Cursor<Word, &'a [Wor
 
 /// A decoder that owns its words.
 ///
-/// Scripts use this type, because the checker can't prove generic calls on a borrowing decoder that return text.
+/// Scripts use this type, because the checker can't prove generic calls that return text on a borrowing decoder.
 pub type Owning<Word, State> = RangeDecoder<Word, State, Cursor<Word, Vec<Word>>>;
 
 /// Returns whether the decoder's interval, point and number of words left are the numbers of `act`.
@@ -133,7 +133,7 @@ where
     }
 }
 
-/// Runs a script with a decoder. Returns the text of the first act whose result isn't the expected one.
+/// Runs a script with a decoder. Returns the text of the first act whose result isn't the expected one, if any.
 pub fn follow_decoding<Word, State, Probability, const PRECISION: usize>(
     alloc: Global,
     decoder: &mut Owning<Word, State>,

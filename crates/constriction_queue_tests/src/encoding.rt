@@ -205,7 +205,7 @@ where
     })
 }
 
-/// Returns whether the encoder's position is the place, the lower end and the length of `act`.
+/// Returns whether the place, lower end and range in the encoder's position are the numbers of `act`.
 pub fn stands_at<Word, State>(encoder: &RangeEncoder<Word, State>, act: &Act<'_>) -> bool
 where
     Word: WordOf<State>,
@@ -350,7 +350,7 @@ where
     Some(owned_by(became, table, act.symbols))
 }
 
-/// Runs an act with an encoder, and returns the answer.
+/// Runs an act (a step of a script) with an encoder. Returns the answer, as in [`constriction_scripts::answers`].
 pub fn encode_by<Word, State, Probability, const PRECISION: usize>(
     alloc: Global,
     encoder: &mut RangeEncoder<Word, State>,
@@ -378,7 +378,7 @@ where
     decode_by(alloc, encoder, table, act).unwrap_or(OTHER)
 }
 
-/// Runs a script with an encoder. Returns the text of the first act whose result isn't the expected one.
+/// Runs a script with an encoder. Returns the text of the first act whose result isn't the expected one, if any.
 pub fn follow<Word, State, Probability, const PRECISION: usize>(
     alloc: Global,
     encoder: &mut RangeEncoder<Word, State>,

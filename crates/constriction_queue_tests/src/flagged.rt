@@ -29,7 +29,7 @@ pub fn tables_of(alloc: Global, weights: &[u8]) -> Result<Tables, Fail> {
     Ok(Tables { first, second })
 }
 
-/// Encodes `symbols` with the two tables. Returns the answer.
+/// Encodes `symbols` with the two tables. Returns the answer, which is empty after a success.
 pub fn put_flagged(encoder: &mut Coder, tables: &Tables, symbols: &[usize]) -> &'static str {
     if Encode::<8>::symbols_left(encoder) < symbols.len() {
         return OTHER;
@@ -37,7 +37,7 @@ pub fn put_flagged(encoder: &mut Coder, tables: &Tables, symbols: &[usize]) -> &
     answer_of(encode_flagged(encoder, symbols, 1, &tables.first, &tables.second))
 }
 
-/// Returns a switch that reads `words`.
+/// Returns a new switch that reads `words`. The result is never `None`.
 pub fn switch_of(words: &[u8]) -> Option<Switch<'_>> {
     match RangeDecoder::with_backend(Cursor::new_at_write_beginning(words)) {
         Ok(decoder) => Some(FlagSwitch::new(decoder, 1)),
@@ -70,7 +70,7 @@ pub fn come_from(words: &[u8], tables: &Tables, symbols: &[usize], switched: boo
     }
 }
 
-/// Encodes `symbols` with a new encoder. Returns whether the words are `words`, and [`come_from`] returns `true`.
+/// Encodes `symbols` with a new encoder. Returns whether it exports `words`, and [`come_from`] returns `true`.
 pub fn come_back(
     alloc: Global,
     tables: &Tables,

@@ -28,9 +28,9 @@ impl From<AllocError> for Refused {
     }
 }
 
-/// A backend of words that counts its calls against a budget, and refuses them when the budget is used up.
+/// A backend whose calls use up a budget. The backend refuses calls once the budget has no calls left.
 ///
-/// Writes that a `prepare` made room for don't count.
+/// If the budget's `makes_room` is true, the writes that a `prepare` asked room for use up nothing.
 #[derive(Drop)]
 pub struct Refusing<'a> {
     words: Vec<u8>,

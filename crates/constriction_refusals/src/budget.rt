@@ -2,7 +2,7 @@
 
 use std::cell::Cell;
 
-/// The number of calls left to the backends that share this budget, and the sum of the numbers that they note.
+/// The number of calls left to the backends that share this budget, and a checksum of the numbers passed to `note`.
 #[derive(Drop)]
 pub struct Budget {
     calls: u64,

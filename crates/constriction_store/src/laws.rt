@@ -38,10 +38,10 @@ pub fn other_words_are_not_read()
         FindsAll w s others (items_of model symbols) (run_at entry) last }
 {}
 
-/// Looks up the chunks with the numbers `places`, in order.
+/// Looks up the chunks whose numbers `places` lists, and returns these chunks in the order of `places`.
 ///
-/// For a store from [`Store::build`], the returned chunks equal the chunks with these numbers in the argument of
-/// `build`. For any store, they are the symbols that the store's words encode at the entries with these numbers.
+/// Each returned chunk is the list of symbols that the store's words encode at the entry with the chunk's number. For a
+/// store from [`Store::build`], it equals the chunk with the same number in the argument of `build`.
 ///
 /// # Errors
 ///
@@ -90,7 +90,7 @@ pub enum ThroughStore {
     LookUp(ChunkError),
 }
 
-/// Builds a store of chunks, and looks up the chunks with the numbers `places`.
+/// Builds a store of `chunks`, and looks up the chunks whose numbers `places` lists.
 ///
 /// `places` may list the numbers in any order. Returns the store and the chunks looked up, in the order of `places`.
 /// Each chunk looked up equals the chunk of `chunks` with the same number.

@@ -25,7 +25,7 @@ use constriction_queue::RangeCoderState;
 use constriction_words::{BitArray, WordOf};
 use std::marker::Model;
 
-/// The largest number of symbols in a store.
+/// The largest number of symbols that a store can hold, in all chunks together.
 pub const MOST_SYMBOLS: usize = 1048576;
 
 /// Chunks of symbols under one model: the words of a range encoder, and an index of where each chunk begins.

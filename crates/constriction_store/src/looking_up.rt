@@ -105,14 +105,14 @@ where
 {
     /// Decodes the symbols of chunk `i`.
     ///
-    /// A decoder of the store's words seeks to the chunk's position, and decodes the number of symbols that the chunk's
-    /// entry states. It reads the words of the chunk, the `State::BITS / Word::BITS` words after them, and no other
+    /// A decoder of the store's words seeks to the chunk's position, and decodes as many symbols as the chunk's entry
+    /// states. The decoder reads the words of the chunk, the `State::BITS / Word::BITS` words after them, and no other
     /// words.
     ///
     /// # Errors
     ///
     /// - `NoSuchChunk` exactly if `i` is at least the number of chunks.
-    /// - `Invalid` if, at the chunk's entry, the words encode fewer symbols of the model than the entry states. For a
+    /// - `Invalid` if the words at the chunk's entry encode fewer symbols of the model than the entry states. For a
     ///   store from [`Store::build`], the call never returns this error.
     /// - `Memory` if there is no memory for the symbols.
     ///

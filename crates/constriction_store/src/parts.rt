@@ -10,7 +10,7 @@ use constriction_queue::RangeCoderState;
 use constriction_words::{BitArray, WordOf};
 use thiserror::Error;
 
-/// The error of an index that doesn't fit the words or has too many symbols. [`Store::from_parts`] returns it.
+/// The error of [`Store::from_parts`] for a position past the end of the words, or too many symbols in all chunks.
 #[derive(Debug, Clone, Copy, PartialEq, Eq, Error)]
 #[error("bad index")]
 pub struct BadIndex;

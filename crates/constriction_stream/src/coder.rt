@@ -4,7 +4,8 @@ use constriction_words::BitArray;
 
 /// A coder, which has words of compressed data and a state besides these words.
 ///
-/// An implementor chooses what `shows` allows, and proves that `state` returns a value that `shows` allows.
+/// An implementor chooses the ghost member `shows`, which relates the coder to each value that `state` may return. It
+/// proves that `state` returns one of these values.
 pub trait Code {
     /// The word type of the compressed data.
     type Word: BitArray;

@@ -10,8 +10,8 @@ use crate::encoding::Encode;
 
 /// An encoder that turns into a decoder of the data that it holds.
 ///
-/// An implementor chooses what `becomes` and `fails` allow, and proves that `into_decoder` returns a decoder or an
-/// error that they allow.
+/// An implementor chooses two ghost members: `becomes` relates the encoder to each decoder, and `fails` to each error,
+/// that `into_decoder` may return. It proves that `into_decoder` returns one of these decoders or errors.
 pub trait IntoDecoder<const PRECISION: usize>: Encode<PRECISION> {
     /// The type of the decoder.
     type IntoDecoder: Decode<PRECISION, Word = Self::Word, State = Self::State> + Drop;
@@ -39,8 +39,8 @@ pub trait IntoDecoder<const PRECISION: usize>: Encode<PRECISION> {
 
 /// An encoder that lends the data that it holds to a decoder.
 ///
-/// The encoder keeps its data. An implementor chooses what `reads` allows, and proves that `as_decoder` returns a
-/// decoder that `reads` allows.
+/// The encoder keeps its data. An implementor chooses the ghost member `reads`, which relates the encoder to each
+/// decoder that `as_decoder` may return. It proves that `as_decoder` returns one of these decoders.
 pub trait AsDecoder<'a, const PRECISION: usize>: Encode<PRECISION> {
     /// The type of the decoder, which borrows the data that it reads.
     type AsDecoder: Decode<PRECISION, Word = Self::Word, State = Self::State> + Drop;

@@ -18,11 +18,11 @@ use constriction_words::WordOf;
 ///
 /// An implementor chooses the ghost members and proves two facts:
 ///
-/// - `decode_symbol` returns the symbol of an entry of the model's table, and makes the entry's step as `decodes`
-///   allows. Otherwise it returns an error that `decodes` or `halts` allows.
+/// - `decode_symbol` makes the step of an entry of the model's table, as `decodes` allows, and returns the entry's
+///   symbol. Otherwise it returns an error that `decodes` or `halts` allows.
 /// - If `maybe_exhausted` returns `false`, then `has_data` holds, and the next step isn't refused for lack of data.
 ///
-/// Generic code can rely only on these clauses. If a caller needs stronger guarantees, it must name the coder's type.
+/// Generic code can rely only on these facts. If a caller needs stronger guarantees, it must name the coder's type.
 pub trait Decode<const PRECISION: usize>: Code {
     /// The error of a step that the coder itself refuses, for example because its data ended or is invalid.
     type FrontendError;

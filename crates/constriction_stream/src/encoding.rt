@@ -42,9 +42,13 @@ impl<Symbol> Lent<Symbol> for &Symbol {
 /// The models guarantee that `PRECISION` is at least 1 and at most the number of bits of a word.
 ///
 /// An implementor chooses the ghost members and proves that each call obeys them. It also proves two laws about the
-/// errors that mean an impossible symbol. `encodes` allows none of these errors, because it describes only the steps of
-/// symbols that the model can code. None of these errors means lack of room. Generic code can rely only on these
-/// clauses and laws. If a caller needs stronger guarantees, it must name the coder's type.
+/// errors that mean an impossible symbol:
+///
+/// - `encodes` allows none of these errors, because `encodes` describes only the steps of symbols with an entry.
+/// - None of these errors means lack of room.
+///
+/// Generic code can rely only on the contracts of the calls and on these laws. If a caller needs stronger guarantees,
+/// it must name the coder's type.
 pub trait Encode<const PRECISION: usize>: Code {
     /// The error of a step that the coder itself refuses, for example because the symbol is impossible.
     type FrontendError;

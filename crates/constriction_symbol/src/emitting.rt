@@ -27,7 +27,7 @@ pub fn emit_zeros<E, F: FnMut(bool) -> Result<(), E>>(
     Ok(())
 }
 
-/// Emits the lowest `count` bits of `word`, highest first.
+/// Emits the lowest `count` bits of `word`, highest first. The caller proves that `count` is at most `Word::BITS`.
 pub fn emit_down<Word: BitArray, E, F: FnMut(bool) -> Result<(), E>>(
     word: Word,
     count: u32,
@@ -49,7 +49,7 @@ pub fn emit_down<Word: BitArray, E, F: FnMut(bool) -> Result<(), E>>(
     Ok(())
 }
 
-/// Emits the lowest `count` bits of `word`, lowest first. If `count` exceeds `Word::BITS`, zeros follow.
+/// Emits the lowest `count` bits of `word`, lowest first, or all its bits and then zeros up to `count` bits.
 pub fn emit_up<Word: BitArray, E, F: FnMut(bool) -> Result<(), E>>(
     word: Word,
     count: u32,
@@ -90,7 +90,7 @@ pub fn emit_lone<E, F: FnMut(bool) -> Result<(), E>>(
     emit_zeros(count, emit)
 }
 
-/// Passes `bit` to `emit`, and returns the error of `emit` as `Backend`.
+/// Passes `bit` to `emit`. If `emit` returns an error, the call returns this error as `Backend(error)`.
 pub fn emit_bit<E, F: FnMut(bool) -> Result<(), E>>(
     bit: bool,
     emit: &mut F,

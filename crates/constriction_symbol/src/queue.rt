@@ -86,7 +86,8 @@ impl<Word: BitArray, B: ReadWords<Word, Queue>> QueueDecoder<Word, B> {
 
     /// Returns whether the unread bits may all be padding.
     ///
-    /// Returns `true` exactly if the unread bits of the word read last are all 0, and the backend may be exhausted.
+    /// Returns `true` exactly if the unread bits of the word read last are all 0, and the backend's `maybe_exhausted`
+    /// returns `true`.
     pub fn maybe_exhausted(&self) -> bool
         ensures { IsTrue result ↔ (AreZeros self.now.last × IsTrue (B.seems_exhausted self.now.backend)) }
     {

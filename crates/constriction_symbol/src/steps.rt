@@ -39,7 +39,7 @@ pub fn put_last<Word: BitArray, B: WriteWords<Word>>(
 /// Appends the lowest `count` bits of `bits` to `last`, lowest first.
 ///
 /// If not all of them fit, the first bits fill `last`. The call writes the full word to the backend, and the remaining
-/// bits begin the next word.
+/// bits begin the next word. The caller proves that `0 < count < Word::BITS`, and that all higher bits of `bits` are 0.
 #[inline]
 pub fn put_bits<Word: BitArray, B: WriteWords<Word>>(
     backend: &mut B,

@@ -39,7 +39,8 @@ pub fn next_bit<V, E, I: Iterator<Item = Result<bool, E>>>(
 
 /// Reads zeros up to and including the first 1, and returns the number of zeros.
 ///
-/// If more than `most` zeros come first, the call reads `most + 1` zeros and returns `None`.
+/// If more than `most` zeros come first, the call reads `most + 1` zeros and returns `None`. The caller proves that
+/// `most` is below 1000.
 #[inline]
 pub fn count_zeros<V, E, I: Iterator<Item = Result<bool, E>>>(
     source: &mut I,
@@ -67,6 +68,8 @@ pub fn count_zeros<V, E, I: Iterator<Item = Result<bool, E>>>(
 }
 
 /// Reads `count` bits, highest first, and returns `start * 2^count` plus the number that has these bits.
+///
+/// The caller proves that the type `N` has room for the result: `(start + 1) * 2^count <= 2^N::BITS`.
 #[inline]
 pub fn read_bits<V, N: BitArray, E, I: Iterator<Item = Result<bool, E>>>(
     source: &mut I,

@@ -23,8 +23,8 @@ use std::alloc::AllocError;
 
 /// A stream of bits that encodes a symbol by appending its codeword.
 ///
-/// A queue stores codewords in prefix form (first bit first), a stack in suffix form (last bit first). Writing a
-/// codeword has the effect of writing its bits one by one.
+/// A queue stores codewords in prefix form (first bit first). A stack stores codewords in suffix form (last bit first).
+/// Writing a codeword has the effect of writing its bits one by one.
 ///
 /// An implementor defines the list of bits (`bits`) and what a write may return (`puts`). It proves that each call
 /// follows these definitions.
@@ -240,7 +240,7 @@ where
     ///
     /// Returns the error of the first symbol that fails, counted from the end of the list. The call wrote exactly the
     /// codewords of the symbols after the failing symbol in the list, and the part of the failing symbol's codeword
-    /// that [`WriteBitStream::encode_symbol`] wrote. The call takes no further item from the iterator.
+    /// that [`WriteBitStream::encode_symbol`] wrote. The call takes no further item from `symbols_and_codebooks`.
     pub fn encode_symbols_reverse<L, C, I>(
         &mut self,
         symbols_and_codebooks: I,

@@ -13,8 +13,9 @@ use crate::backends::semantics::{Semantics, Stack};
 
 /// A value that turns into a backend for reading.
 ///
-/// An implementor chooses `becomes` freely and proves that the new backend holds the same words. For vectors and
-/// slices, `becomes` states the buffer and the position of the cursor that they turn into.
+/// An implementor chooses the relation `becomes` between the value and the new backend. It proves that the new backend
+/// holds the same words. For vectors and slices, `becomes` states the buffer and the position of the cursor that they
+/// turn into.
 pub trait IntoReadWords<Word, S: Semantics>: Holds<Word, S> {
     type IntoReadWords: ReadWords<Word, S> + Drop;
 
@@ -29,8 +30,8 @@ pub trait IntoReadWords<Word, S: Semantics>: Holds<Word, S> {
 
 /// A value that lends a backend for reading.
 ///
-/// An implementor chooses `becomes` freely and proves that the lent backend holds the same words, as for
-/// [`IntoReadWords`].
+/// An implementor chooses the relation `becomes` between the value and the lent backend. It proves that the lent
+/// backend holds the same words, as for [`IntoReadWords`].
 pub trait AsReadWords<'a, Word, S: Semantics>: Holds<Word, S> {
     type AsReadWords: ReadWords<Word, S> + Drop;
 
@@ -45,8 +46,8 @@ pub trait AsReadWords<'a, Word, S: Semantics>: Holds<Word, S> {
 
 /// A value that turns into a backend that can read and seek.
 ///
-/// An implementor chooses `becomes` freely and proves that the new backend holds the same words, as for
-/// [`IntoReadWords`].
+/// An implementor chooses the relation `becomes` between the value and the new backend. It proves that the new backend
+/// holds the same words, as for [`IntoReadWords`].
 pub trait IntoSeekReadWords<Word, S: Semantics>: Holds<Word, S> {
     type IntoSeekReadWords: ReadWords<Word, S> + Seek + Drop;
 
@@ -61,8 +62,8 @@ pub trait IntoSeekReadWords<Word, S: Semantics>: Holds<Word, S> {
 
 /// A value that lends a backend that can read and seek.
 ///
-/// An implementor chooses `becomes` freely and proves that the lent backend holds the same words, as for
-/// [`IntoReadWords`].
+/// An implementor chooses the relation `becomes` between the value and the lent backend. It proves that the lent
+/// backend holds the same words, as for [`IntoReadWords`].
 pub trait AsSeekReadWords<'a, Word, S: Semantics>: Holds<Word, S> {
     type AsSeekReadWords: ReadWords<Word, S> + Seek + Drop;
 
@@ -77,8 +78,8 @@ pub trait AsSeekReadWords<'a, Word, S: Semantics>: Holds<Word, S> {
 
 /// A value that can reverse its buffer in place and still hold the same stack.
 ///
-/// An implementor chooses `turns` freely and proves that the new value holds the same stack. For cursors, `turns`
-/// states the buffer and the position of the new cursor.
+/// An implementor chooses the relation `turns` between the value and the new value. It proves that the new value holds
+/// the same stack. For cursors, `turns` states the buffer and the position of the new cursor.
 pub trait IntoReversed<Word>: Holds<Word, Stack> {
     type IntoReversed: Holds<Word, Stack> + Drop;
 

@@ -9,8 +9,8 @@ use crate::backends::semantics::Semantics;
 ///
 /// A type that implements the trait for both orders has one list of words for each order.
 ///
-/// This trait doesn't restrict how an implementor defines `words`. Where `is_list` holds, the contracts of reading and
-/// writing state how each call changes the list.
+/// This trait doesn't restrict how an implementor defines `words`, the list, and `is_list`, which says whether reads
+/// follow the list. Where `is_list` holds, the contracts of reading and writing state how each call changes the list.
 pub trait Holds<Word, S: Semantics> {
     /// The words that the next reads return, in order. Where `is_list` doesn't hold, the list has no meaning.
     ghost words: { Self → List Word };

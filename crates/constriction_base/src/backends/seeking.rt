@@ -17,9 +17,9 @@ pub trait PosSeek {
 
 /// A value whose position can be recorded.
 ///
-/// An implementor chooses `stands_at` and `can_tell` freely, and proves that `pos` returns a position that `stands_at`
-/// allows. `stands_at` relates the value to a `Position` and not to an index, because a position may hold more than an
-/// index. For example, a coder's position includes its head.
+/// An implementor chooses which positions are current (`stands_at`), and when a caller can call `pos` (`can_tell`). It
+/// proves that `pos` returns a position that `stands_at` allows. `stands_at` relates the value to a `Position` and not
+/// to an index, because some positions hold more than an index. For example, a coder's position includes its head.
 pub trait Pos: PosSeek {
     /// Holds if the position is the current position of the value.
     ghost stands_at: { Self → Self.Position → Type 0 };
@@ -53,9 +53,10 @@ pub trait CountsWords<Word>: Pos<Position = usize> + Holds<Word, Stack> {
 
 /// A value that can seek to a position.
 ///
-/// An implementor chooses `can_seek`, `seek_fails`, `sought` and `stays` freely, and proves that `seek` obeys them.
-/// `can_seek` and `seek_fails` may both hold for the same position, if a read during `seek` decides whether the seek
-/// succeeds. Where they exclude each other, as for vectors and cursors, a seek succeeds exactly if `can_seek` holds.
+/// An implementor chooses which seeks can succeed (`can_seek`) or be refused (`seek_fails`). It also chooses how a
+/// successful seek (`sought`) and a refused seek (`stays`) change the value. It proves that `seek` obeys these choices.
+/// Both `can_seek` and `seek_fails` can hold for one position, if a read during `seek` decides whether the seek
+/// succeeds. Where only one of them holds, as for vectors and cursors, a seek succeeds exactly if `can_seek` holds.
 pub trait Seek: PosSeek {
     /// Holds if a seek to the position may succeed. A seek to any other position is refused.
     ghost can_seek: { Self → Self.Position → Type 0 };

@@ -13,8 +13,8 @@ use std::alloc::{AllocError, Global};
 
 /// Returns the number of low bits in which the quantiles of a bucket differ, in a table of `symbols` symbols.
 ///
-/// A table has more than `2 * symbols` and at most `4 * symbols` buckets. It may have fewer in two cases: each bucket is
-/// a single quantile, or there are 2^63 buckets.
+/// `precision` is the table's precision in bits. The table has more than `2 * symbols` and at most `4 * symbols`
+/// buckets. It has fewer only if each bucket is a single quantile, or if there are 2^63 buckets.
 pub fn shift_for(symbols: usize, precision: usize) -> u32
     requires some { 0 < symbols }
     requires within { (1 ≤ precision) × (precision ≤ 128) }
@@ -49,6 +49,9 @@ fn symbol_from<Probability: BitArray>(
 }
 
 /// Returns the symbol of each bucket's first quantile, followed by the last symbol.
+///
+/// A bucket consists of the `2 ^ shift` quantiles with the same high bits. `starts` holds the start of each symbol's
+/// interval.
 pub fn hints_of<Probability: BitArray, const PRECISION: usize>(
     alloc: Global,
     starts: &[Probability],

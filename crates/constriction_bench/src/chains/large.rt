@@ -95,7 +95,8 @@ where
 
 /// Fills `symbols` with symbols decoded from `words` in binary form, with a table of weights.
 ///
-/// Copies the remainders to `out`, as many words as fit. Returns the total number of words, or 0 after a failure.
+/// Copies the words of the remainders to `out`, as many as fit. Returns the total number of words of the remainders, or
+/// 0 after a failure.
 #[unsafe(no_mangle)]
 pub extern "C" fn constriction_bench_chain_decode_u32u64p24_table(
     alloc: Global,
@@ -130,7 +131,8 @@ pub extern "C" fn constriction_bench_chain_encode_u32u64p24_table(
 
 /// Fills `symbols` with symbols below `2^bits`, decoded from `words` in binary form with equal weights.
 ///
-/// Copies the remainders to `out`, as many words as fit. Returns the total number of words, or 0 after a failure.
+/// Copies the words of the remainders to `out`, as many as fit. Returns the total number of words of the remainders, or
+/// 0 after a failure.
 #[unsafe(no_mangle)]
 pub extern "C" fn constriction_bench_chain_decode_u32u64p24_flat(
     alloc: Global,
@@ -165,8 +167,8 @@ pub extern "C" fn constriction_bench_chain_encode_u32u64p24_flat(
 
 /// Fills `symbols` with symbols decoded from `words`, with a table that lists a symbol for each part of the quantiles.
 ///
-/// `words` are in binary form. Copies the remainders to `out`, as many words as fit. Returns the total number of words,
-/// or 0 after a failure.
+/// The table is the [`BucketTable`] of `weights`. `words` are in binary form. Copies the words of the remainders to
+/// `out`, as many as fit. Returns the total number of words of the remainders, or 0 after a failure.
 #[unsafe(no_mangle)]
 pub extern "C" fn constriction_bench_chain_decode_u32u64p24_bucket(
     alloc: Global,

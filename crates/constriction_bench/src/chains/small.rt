@@ -96,7 +96,8 @@ where
 
 /// Fills `symbols` with symbols decoded from `words` in binary form, with a table of weights.
 ///
-/// Copies the remainders to `out`, as many words as fit. Returns the total number of words, or 0 after a failure.
+/// Copies the words of the remainders to `out`, as many as fit. Returns the total number of words of the remainders, or
+/// 0 after a failure.
 #[unsafe(no_mangle)]
 pub extern "C" fn constriction_bench_chain_decode_u16u32p12_table(
     alloc: Global,
@@ -131,7 +132,8 @@ pub extern "C" fn constriction_bench_chain_encode_u16u32p12_table(
 
 /// Fills `symbols` with symbols below `2^bits`, decoded from `words` in binary form with equal weights.
 ///
-/// Copies the remainders to `out`, as many words as fit. Returns the total number of words, or 0 after a failure.
+/// Copies the words of the remainders to `out`, as many as fit. Returns the total number of words of the remainders, or
+/// 0 after a failure.
 #[unsafe(no_mangle)]
 pub extern "C" fn constriction_bench_chain_decode_u16u32p12_flat(
     alloc: Global,
@@ -166,8 +168,8 @@ pub extern "C" fn constriction_bench_chain_encode_u16u32p12_flat(
 
 /// Fills `symbols` with symbols decoded from `words`, with a table that lists the symbol of each quantile.
 ///
-/// `words` are in binary form. Copies the remainders to `out`, as many words as fit. Returns the total number of words,
-/// or 0 after a failure.
+/// The table is the [`LookupTable`] of `weights`. `words` are in binary form. Copies the words of the remainders to
+/// `out`, as many as fit. Returns the total number of words of the remainders, or 0 after a failure.
 #[unsafe(no_mangle)]
 pub extern "C" fn constriction_bench_chain_decode_u16u32p12_lookup(
     alloc: Global,

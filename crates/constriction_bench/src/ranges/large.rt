@@ -70,7 +70,7 @@ pub extern "C" fn constriction_bench_range_decode_u32u64p24_flat(
 
 /// Fills `symbols` with symbols decoded from `words`, with a table that lists a symbol for each part of the quantiles.
 ///
-/// Returns `false` after a failure.
+/// The table is the [`BucketTable`] of `weights`. Returns `false` after a failure.
 #[unsafe(no_mangle)]
 pub extern "C" fn constriction_bench_range_decode_u32u64p24_bucket(
     alloc: Global,

@@ -71,7 +71,7 @@ pub extern "C" fn constriction_bench_range_decode_u16u32p12_flat(
 
 /// Fills `symbols` with symbols decoded from `words`, with a table that lists the symbol of each quantile.
 ///
-/// Returns `false` after a failure.
+/// The table is the [`LookupTable`] of `weights`. Returns `false` after a failure.
 #[unsafe(no_mangle)]
 pub extern "C" fn constriction_bench_range_decode_u16u32p12_lookup(
     alloc: Global,

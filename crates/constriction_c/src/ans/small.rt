@@ -261,7 +261,7 @@ pub extern "C" fn constriction_ans_from_binary_u16(
     code_without_space(Ok(()))
 }
 
-/// Exports the state: writes the words of its head, without leading zero words, after the first `len` words.
+/// Exports the state: writes the words of the head, without leading zero words, after the first `len` words of `words`.
 ///
 /// Calls [`into_compressed`] and returns the code of its result ([`code_of`]).
 #[unsafe(no_mangle)]

@@ -260,7 +260,7 @@ pub extern "C" fn constriction_range_into_compressed_u32(
 
 /// Writes the words that the encoder holds back, and a self-delimiting seal, after the first `len` words of `words`.
 ///
-/// A state is two words wide, so this function writes the same words as `constriction_range_into_compressed_u32`.
+/// `lower` and `range` are two words wide, so the words are those that `constriction_range_into_compressed_u32` writes.
 ///
 /// Calls [`into_self_delimited`] and returns the code of its result ([`code_of`]).
 #[unsafe(no_mangle)]

@@ -37,8 +37,8 @@ pub(crate) type Taking<'a, Word, State, const PRECISION: usize> = ChainCoder<
 /// Fills `symbols` with decoded symbols, each under its own model.
 ///
 /// The coder is `heads`, the first `compressed_len` words of `compressed`, and the first `remainders_len` words of
-/// `remainders`. The call reads compressed words from the last to the first, and writes words after the remainders in
-/// use. It sets `heads` and both numbers of words to the coder after the decodes.
+/// `remainders`. The call reads these compressed words from the last to the first, and writes new words after these
+/// remainders. It sets `heads`, `compressed_len` and `remainders_len` to their values after the decodes.
 ///
 /// # Errors
 ///

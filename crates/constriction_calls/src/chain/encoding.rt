@@ -38,8 +38,8 @@ type Putting<'a, Word, State, const PRECISION: usize> = ChainCoder<
 /// Encodes symbols from the last to the first, each under its own model.
 ///
 /// The coder is `heads`, the first `compressed_len` words of `compressed`, and the first `remainders_len` words of
-/// `remainders`. The call reads remainders from the last to the first, and writes words after the compressed words in
-/// use. It sets `heads` and both numbers of words to the coder after the encodes.
+/// `remainders`. The call reads these remainders from the last to the first, and writes new words after these
+/// compressed words. It sets `heads`, `compressed_len` and `remainders_len` to their values after the encodes.
 ///
 /// # Errors
 ///

@@ -136,7 +136,7 @@ pub fn from_remainders<Word: WordOf<State>, State: BitArray, const PRECISION: us
     }
 }
 
-/// Exports compressed words: writes the words of the remainders head after the compressed words in use.
+/// Exports compressed words: writes the remainders head's words after the first `compressed_len` words of `compressed`.
 ///
 /// The call writes no leading zero words. It increases `compressed_len` by the number of words that it writes.
 /// [`from_compressed`] imports the first `compressed_len` words. The call doesn't use the remainders below the head.
@@ -218,10 +218,11 @@ pub fn into_binary<Word: WordOf<State>, State: BitArray, const PRECISION: usize>
     }
 }
 
-/// Exports remainders: writes the words of both heads after the remainders in use, the remainders head first.
+/// Exports remainders: writes the words of both heads after the first `remainders_len` words of `remainders`.
 ///
-/// The call increases `remainders_len` by the number of words that it writes. [`from_remainders`] imports the first
-/// `remainders_len` words. The call doesn't use the compressed words below the head.
+/// The words of the remainders head come first. The call increases `remainders_len` by the number of words that it
+/// writes. [`from_remainders`] imports the first `remainders_len` words. The call doesn't use the compressed words
+/// below the head.
 ///
 /// # Errors
 ///

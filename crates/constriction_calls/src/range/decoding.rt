@@ -18,7 +18,7 @@ use constriction_stream::decoding::Decode;
 use constriction_words::{BitArray, WordOf};
 use std::alloc::Global;
 
-/// Decodes `count` symbols under a list of models. Returns the symbols, and the decoder after them.
+/// Decodes `count` symbols with the models of `list`. Returns the symbols, and the decoder after them.
 ///
 /// # Errors
 ///

@@ -94,7 +94,7 @@ fn put_by<
 ///
 /// - `ImpossibleSymbol` exactly if a model has no entry for its symbol.
 /// - `NoSpace(needed)` if the buffer is too short. `needed` is the number of words that it has to hold. There is one
-///   exception: if the words in use and the held words alone don't fit the buffer, `needed` is the number of these
+///   exception: if the first `len` words and the held words alone don't fit the buffer, `needed` is the number of these
 ///   words. The call then asks for no memory.
 /// - `NoMemory` if there is no memory.
 pub fn encode<

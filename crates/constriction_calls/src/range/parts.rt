@@ -57,8 +57,8 @@ pub struct DecoderParts<State> {
 
 /// Makes an encoder with an empty backend from the caller's numbers. The call needs no memory.
 ///
-/// Returns `None` exactly if no encoder has the numbers, or if `parts.held + count` is above `2^64 - 18`. The number of
-/// symbols that the caller can then encode is at least `count`.
+/// The caller can then encode at least `count` symbols. Returns `None` exactly if no encoder has the numbers, or if
+/// `parts.held + count` is above `2^64 - 18`.
 pub fn encoder_for<Word: WordOf<State>, State: BitArray>(
     alloc: Global,
     parts: EncoderParts<Word, State>,

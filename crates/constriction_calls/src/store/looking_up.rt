@@ -48,13 +48,13 @@ fn decoder_at<'a, Word: WordOf<State>, State: BitArray>(
 ///
 /// # Errors
 ///
-/// The call returns the first of these errors that applies. If the words don't encode that many symbols, it may return
-/// `NoMemory` in place of `InvalidData`. After an error `symbols` is unchanged.
+/// The call returns the first of these errors that applies. If the words don't encode `symbols.len()` symbols, it may
+/// return `NoMemory` in place of `InvalidData`. After an error `symbols` is unchanged.
 ///
 /// - `WrongLength`: the position is past the words.
 /// - `WrongWeights`: the weights don't add up to `2 ^ PRECISION`.
-/// - `InvalidData`: the interval is too short, or the words don't encode that many symbols. The call never returns this
-///   error for a chunk of a store that `build` wrote with the same weights.
+/// - `InvalidData`: `range` is too small, or the words don't encode `symbols.len()` symbols. The call never returns
+///   this error for a chunk of a store that `build` wrote with the same weights.
 /// - `NoMemory`: there is no memory.
 pub fn chunk<Word: WordOf<State>, State: BitArray, P: WordOf<Word>, const PRECISION: usize>(
     alloc: Global,

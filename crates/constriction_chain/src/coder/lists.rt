@@ -18,14 +18,15 @@ impl<
     R: ReadWords<Word, Stack>,
     const PRECISION: usize,
 > ChainCoder<Word, State, C, R, PRECISION> {
-    /// Encodes symbols from last to first, each with its own model.
+    /// Encodes the symbols of a list from last to first, each with its own model.
     ///
     /// Decoding then returns the symbols in the order of the list.
     ///
     /// # Errors
     ///
     /// Returns the error of the first symbol that fails, counted from the end of the list. The coder has encoded
-    /// exactly the symbols after the failing symbol in the list. The call takes no further item from the iterator.
+    /// exactly the symbols after the failing symbol in the list. The call takes no further item from
+    /// `symbols_and_models`.
     pub fn encode_symbols_reverse<S, M, I>(
         &mut self,
         symbols_and_models: I,
@@ -49,7 +50,7 @@ impl<
         EncodeReverse::<PRECISION>::encode_symbols_reverse(self, symbols_and_models)
     }
 
-    /// Encodes symbols from last to first, from items that are either a symbol with its own model or an error.
+    /// Encodes the symbols of a list from last to first. Each item is a symbol with its own model, or an error.
     ///
     /// # Errors
     ///
@@ -82,14 +83,14 @@ impl<
         EncodeReverse::<PRECISION>::try_encode_symbols_reverse(self, symbols_and_models)
     }
 
-    /// Encodes symbols from last to first, all with the same model.
+    /// Encodes the symbols of a list from last to first, all with the same model.
     ///
     /// Decoding then returns the symbols in the order of the list.
     ///
     /// # Errors
     ///
     /// Returns the error of the first symbol that fails, counted from the end of the list. The coder has encoded
-    /// exactly the symbols after the failing symbol in the list. The call takes no further item from the iterator.
+    /// exactly the symbols after the failing symbol in the list. The call takes no further item from `symbols`.
     ///
     /// # Examples
     ///

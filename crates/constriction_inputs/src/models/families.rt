@@ -16,7 +16,7 @@ use constriction_models::quantizer::{IndexedDistribution, LeakyQuantizer};
 use constriction_words::{BitArray, WordOf};
 use std::alloc::{AllocError, Global};
 
-/// The model of a distribution of one of the families. Its symbols are indices into a range of integers.
+/// The model of a Gaussian, Laplace or logistic distribution. Its symbols are indices into a range of integers.
 pub type FamilyModel<P, const PRECISION: usize> = IndexedDistribution<
     FamilyDistribution,
     P,
@@ -137,7 +137,7 @@ impl<'a> Families<'a> {
         Ok((family, quantizer))
     }
 
-    /// Returns whether each number in `symbols` is an index into the range.
+    /// Returns whether each number in `symbols` is an index into the range from `min` to `max`.
     pub(crate) fn are_places(&self, symbols: &[usize]) -> bool
         requires { self.now.min <ℤ self.now.max }
         ensures { IsTrue result ↔ ArePlacesInRange self.now.min self.now.max symbols.now }

@@ -13,8 +13,8 @@ use crate::queue::lists::decodes_undo_encodes;
 
 /// An encoder's interval has only one list of self-delimiting words.
 ///
-/// If `State` is two words wide, the list equals the sealed words. A decoder may be exhausted after it decodes the last
-/// encoded symbol from the list. Both facts are about encoders that start from the initial interval.
+/// If `State` is two words wide, the list equals the sealed words. A decoder that has decoded the last encoded symbol
+/// from the list reports that it may be exhausted. Both facts are about encoders that start from the initial interval.
 pub fn self_delimiting_words<Symbol>()
     ensures one { (w s : ℕ) (last : Run) (words others : List ℕ) → SelfDelimits w s last words →
         SelfDelimits w s last others → others ≡ words }

@@ -8,7 +8,7 @@ ghost use Rattle.std.specs.Prelude.{◌≡◌, ℕ};
 ghost use Rattle.constriction_queue.specs.Encoder.{Encoder, run_by, sealed_by};
 ghost use Rattle.constriction_laws.specs.queue.Lists.{AfterGuard};
 
-/// Removing the words that a guard wrote restores the encoder's interval and the words that it would export.
+/// Removing the words that a guard wrote restores the encoder's interval and the words that the encoder would export.
 pub fn shown_words_go<Backend>()
     ensures run { (w s count : ℕ) (encoder shown left : Encoder Backend) → AfterGuard count encoder shown left (run_by w
         s left ≡ run_by w s encoder) }

@@ -76,7 +76,7 @@ pub fn one_list_of_encodes<Symbol>()
         (EncodesAll w s items old other → new ≡ other) }
 {}
 
-/// Decodes under the same tables in reverse order undo encodes.
+/// Decoding symbols in reverse order, under the same tables, undoes their encodes.
 ///
 /// The decodes return the same symbols, last symbol first, and lead to the state before the encodes.
 pub fn decodes_undo_encodes<Symbol>()
@@ -88,9 +88,9 @@ pub fn decodes_undo_encodes<Symbol>()
     lists_undo::<Encoding<Symbol>>()
 }
 
-/// Encodes under the same tables undo decodes, from the last symbol to the first.
+/// Encoding decoded symbols from last to first, under the same tables, undoes their decodes from a valid state.
 ///
-/// The encodes lead to the state before the decodes, which has to be valid.
+/// The encodes lead to the state before the decodes.
 pub fn encodes_undo_decodes<Symbol>()
     ensures back { (w s : ℕ) (items : List (Item Symbol)) (old new : AnsState) → AfterDecodes w s items old new
         (EncodesAll w s (reverse items) new old) }
@@ -133,7 +133,7 @@ pub fn words_come_back<Symbol>()
     encodes_undo_decodes::<Symbol>()
 }
 
-/// Pops in reverse order undo pushes of the same steps, and pushes in reverse order undo pops.
+/// Popping steps in reverse order undoes their pushes, and pushing steps in reverse order undoes their pops.
 ///
 /// The law is about steps alone, without tables. A list of steps can be pushed onto each valid state in exactly one
 /// way.

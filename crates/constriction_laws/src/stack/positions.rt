@@ -18,9 +18,9 @@ pub fn one_word_at_most()
         AddsOneAtMost w old new }
 {}
 
-/// Seeking to a position that was recorded before encodes leads back to the state before these encodes.
+/// Seeking to a recorded position undoes all encodes that followed the recording.
 ///
-/// The encodes keep the words that were below the head.
+/// These encodes keep the words that were below the head when the position was recorded.
 pub fn position_leads_back<Symbol>()
     ensures grows { (w s : ℕ) (items : List (Item Symbol)) (old new : AnsState) → AfterEncodes w s items old new (Grows
         old new) }
@@ -30,11 +30,11 @@ pub fn position_leads_back<Symbol>()
         (position_of old) new ≡ old) }
 {}
 
-/// Decoding from a position undoes the encodes before the position, in reverse order.
+/// Decoding from a recorded position undoes the encodes before the recording, last symbol first.
 ///
-/// Since the position was recorded, the coder may have encoded symbols, but has decoded none. The decoder may read the
-/// coder's own words, or the words that the coder exports. It ends at the state in which the coder began, for example
-/// the empty state.
+/// After the recording, the coder encodes any symbols and decodes none. The decoder reads the coder's own words, or the
+/// words that the coder exports. The last decode leads to the state before the first encode, for example the empty
+/// state.
 pub fn symbols_before_a_position<Symbol>()
     ensures decoded { (w s : ℕ) (before since : List (Item Symbol)) (start middle last : AnsState) → IsSizes w s →
         AreModels w since → AfterTwo w s before since start middle last (DecodesBack w s (reverse before) middle

@@ -27,7 +27,7 @@ pub fn items_are_words<Word, ReadError, Iter: Iterator<Item = Result<Word, ReadE
         TellsWords (FusedRead Iter.next_gives) (words_left words) }
 {}
 
-/// If `words` lists the words of a backend, decodes by reads equal decodes from that list.
+/// If `words` lists the words of a backend, decoding from the backend equals decoding from that list.
 ///
 /// Both return the same symbols, and leave the same head and words.
 pub fn decodes_are_words<Symbol, Word: BitArray, Backend: ReadWords<Word, Stack>>()
@@ -43,11 +43,11 @@ pub fn decodes_are_words<Symbol, Word: BitArray, Backend: ReadWords<Word, Stack>
     reads_are_words::<Word, Backend>()
 }
 
-/// Decoding exported words by reads returns the symbols that were encoded onto an empty coder.
+/// Decoding exported words from a backend returns the symbols that were encoded onto an empty coder.
 ///
-/// Encode any symbols, each under its own table, and export the words. Import them by reads, as from an iterator, and
-/// decode with the same tables in reverse order. The symbols are the same, last symbol first. No word is left, and the
-/// coder is empty.
+/// Encode any symbols, each under its own table, and export the words. Import them from a backend that reads them, such
+/// as one over an iterator. Decode with the same tables in reverse order. The decoded symbols are the encoded symbols,
+/// last symbol first. No word is left, and the coder is empty.
 pub fn symbols_come_back_by_reads<Symbol, Word: BitArray, Backend: ReadWords<Word, Stack>>()
     ensures { (words : Backend → List Word) (w s : ℕ) (items others : List (Item Symbol)) (given : Backend) (last :
         AnsValue Backend) → IsSizes w s → AreModels w items → ComeBackByReads Word.number Backend.reads words w s items

@@ -30,7 +30,7 @@ pub fn export_of_import()
         IsValid w s (filled w s 0 words) }
 {}
 
-/// If `words` lists the words of a backend, a refill by reads equals the refill from that list.
+/// If `words` lists the words of a backend, refilling from the backend equals refilling from that list.
 ///
 /// Both lead to the same head and leave the same words.
 pub fn reads_are_words<Word: BitArray, Backend: ReadWords<Word, Stack>>()
@@ -40,7 +40,7 @@ pub fn reads_are_words<Word: BitArray, Backend: ReadWords<Word, Stack>>()
         ≡ record { head = new_head; words = map Word.number (words new) } }
 {}
 
-/// If `words` lists the words of a backend, an import by reads equals the import of that list.
+/// If `words` lists the words of a backend, importing from the backend equals importing that list.
 ///
 /// Both lead to the same head and leave the same words.
 pub fn imports_are_words<Word: BitArray, Backend: ReadWords<Word, Stack>>()

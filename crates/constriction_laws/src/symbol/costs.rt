@@ -19,12 +19,12 @@ use std::convert::Infallible;
 /// Makes a Huffman tree of `weights` for an encoder. No other codebook costs less under these weights.
 ///
 /// The tree's cost is the sum of weight times length over the codewords of the symbols `0`, `1`, .., one for each
-/// weight. For another codebook, the sum is over the codewords of any list with one symbol for each weight. No two
-/// symbols of the list may mean the same. The other codebook may have any type of symbols.
+/// weight. The cost of another codebook is this sum over the codewords of any list with one symbol for each weight. No
+/// two symbols of the list may mean the same. The other codebook may have any type of symbols.
 ///
 /// # Errors
 ///
-/// The errors of [`EncoderHuffmanTree::from_probabilities`].
+/// Returns the errors that [`EncoderHuffmanTree::from_probabilities`] returns.
 ///
 /// # Examples
 ///

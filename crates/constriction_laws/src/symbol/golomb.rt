@@ -3,7 +3,7 @@
 ghost use Rattle.constriction_symbol.specs.Golomb.{binary, golomb};
 ghost use Rattle.std.specs.Prelude.{Bool, List, false, length, replicate, reverse, ◌+◌, ◌++◌, ◌-◌, ◌≡◌, ℕ};
 
-/// No Exp-Golomb codeword begins another.
+/// No Exp-Golomb codeword is a prefix of another.
 pub fn golomb_is_prefix_free()
     ensures { (m n : ℕ) (tail : List Bool) → golomb n ≡ golomb m ++ tail → m ≡ n }
 {}

@@ -10,7 +10,7 @@ pub fn one_tree()
     ensures { (weights : List ℕ) → 0 < length weights → (tree : Tree) × (merge weights ≡ tree ∷ []) }
 {}
 
-/// No codeword of a Huffman tree begins another.
+/// No codeword of a Huffman tree is a prefix of another.
 pub fn huffman_is_prefix_free()
     ensures { (weights : List ℕ) → IsPrefixFree (huffman weights) }
 {}

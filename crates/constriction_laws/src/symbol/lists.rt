@@ -35,8 +35,7 @@ pub fn mixed_symbols_come_back<S: Semantics, R: ReadBitStream<S>, C: DecoderCode
 
 /// If decoding `amt` symbols stops with a codebook's error, the bits don't begin with the codewords of `amt` symbols.
 ///
-/// The law requires that the stream's `is_list` holds. `bits` may be all unread bits of the stream, or only the first
-/// bits.
+/// The law requires that the stream's `is_list` holds. `bits` is any prefix of the stream's unread bits.
 pub fn refused_where_none_begin<S: Semantics, R: ReadBitStream<S>, C: DecoderCodebook>()
     requires { R.is_list }
     ensures { (codebook : C) (amt : ℕ) (bits tail : List Bool) (old new : R) (e : SymbolCodeError C.InvalidCodeword) →

@@ -112,9 +112,10 @@ impl<Word: WordOf<State>, State: BitArray, Backend: ReadWords<Word, Queue>> Rang
         Self::with_backend(compressed.as_read_words())
     }
 
-    /// Returns whether all encoded symbols may have been decoded, as `maybe_exhausted` of the trait `Decode` does.
+    /// Returns whether all encoded symbols may have been decoded.
     ///
-    /// The answer is the same at every precision.
+    /// At every precision, `maybe_exhausted` of the trait `Decode` returns the same. Its description states the exact
+    /// conditions.
     #[inline]
     pub fn maybe_exhausted(&self) -> bool
         ensures { IsTrue result ↔ MayBeExhausted Word.BITS State.BITS Backend.seems_exhausted self.now }

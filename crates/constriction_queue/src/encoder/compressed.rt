@@ -47,7 +47,10 @@ impl<Word: WordOf<State>, State: BitArray, Backend: WriteWords<Word>> RangeEncod
         }
     }
 
-    /// Returns whether the backend may be full, as `maybe_full` of the trait `Encode` does at every precision.
+    /// Returns whether the backend may be full.
+    ///
+    /// If the call returns `false` and no words are pending, the next encode doesn't fail for lack of room. At every
+    /// precision, `maybe_full` of the trait `Encode` returns the same.
     #[inline]
     pub fn maybe_full(&self) -> bool
         ensures { result ≡ Backend.seems_full self.now.bulk }

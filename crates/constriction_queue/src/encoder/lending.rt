@@ -17,7 +17,7 @@ impl<Word: WordOf<State>, State: BitArray, A: Allocator> RangeEncoder<Word, Stat
     /// Calls `f` on the words that [`RangeEncoder::into_compressed`] would return, and returns the result of `f`.
     ///
     /// The encoder is unchanged after the call. `f` can create a decoder from the words with
-    /// [`RangeDecoder::from_compressed`].
+    /// [`RangeDecoder::from_compressed`]. The caller proves that `f` may be called with these words.
     ///
     /// [`RangeDecoder::from_compressed`]: crate::RangeDecoder::from_compressed
     ///

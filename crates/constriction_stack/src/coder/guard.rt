@@ -53,7 +53,7 @@ where
 {
     ghost use Rattle.constriction_stack.specs.Guarded.{lender};
 
-    /// Returns the backend, with all words of the coder on it.
+    /// Returns the backend, which holds the words that the guard lends.
     pub fn backend(&self) -> &Backend
         ensures backend { result.now ≡ (lender self.now).now.backend }
         ensures coder { IsCoder Word.number Backend.Holds Word.BITS State.BITS (lender self.now).now }
@@ -198,8 +198,9 @@ where
     /// Returns a guard that lends the words that [`AnsCoder::into_binary`] would return.
     ///
     /// While the guard lives, the backend holds the words below the head and then the head's words below its leading 1,
-    /// lowest first. Zero words at the top are included. The coder first asks the backend for room for the head's
-    /// words. A head of 1 has no words below its leading 1. Dropping the guard restores the coder, unless a read fails.
+    /// lowest first. Zero words directly below the leading 1 are included. The coder first asks the backend for room
+    /// for the head's words. A head of 1 has no words below its leading 1. Dropping the guard restores the coder,
+    /// unless a read fails.
     ///
     /// # Errors
     ///

@@ -25,8 +25,9 @@ impl<Word: WordOf<State>, State: BitArray, Backend: WriteWords<Word>> AnsCoder<
     ///
     /// # Errors
     ///
-    /// Returns the error of the first refused step. Exactly the symbols after the refused symbol in the list are
-    /// encoded. The items before it are not taken from the iterator.
+    /// Going back from the last symbol, the call stops at the first symbol that the coder refuses, and returns the
+    /// coder's error. Exactly the symbols after the refused symbol in the list are encoded. The call takes no further
+    /// item from `symbols_and_models`.
     pub fn encode_symbols_reverse<S, M, I, const PRECISION: usize>(
         &mut self,
         symbols_and_models: I,
@@ -50,12 +51,12 @@ impl<Word: WordOf<State>, State: BitArray, Backend: WriteWords<Word>> AnsCoder<
         EncodeReverse::<PRECISION>::encode_symbols_reverse(self, symbols_and_models)
     }
 
-    /// Encodes symbols from last to first, from items that are either a symbol with its own model or an error.
+    /// Encodes the symbols of a list from last to first, where each item is a symbol with its model, or an error.
     ///
     /// # Errors
     ///
-    /// The call goes from the last item to the first, and stops at an item that fails. Exactly the symbols of the items
-    /// after this item in the list are encoded.
+    /// The call goes from the last item to the first, and stops as soon as an item fails. Exactly the symbols after the
+    /// failing item in the list are encoded.
     ///
     /// - `InvalidEntropyModel(error)`: the item is `Err(error)`.
     /// - `CodingError(error)`: the coder refuses the item's symbol.
@@ -89,8 +90,9 @@ impl<Word: WordOf<State>, State: BitArray, Backend: WriteWords<Word>> AnsCoder<
     ///
     /// # Errors
     ///
-    /// Returns the error of the first refused step. Exactly the symbols after the refused symbol in the list are
-    /// encoded. The symbols before it are not taken from the iterator.
+    /// Going back from the last symbol, the call stops at the first symbol that the coder refuses, and returns the
+    /// coder's error. Exactly the symbols after the refused symbol in the list are encoded. The call takes no further
+    /// symbol from `symbols`.
     ///
     /// # Examples
     ///

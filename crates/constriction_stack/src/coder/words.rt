@@ -25,8 +25,8 @@ use thiserror::Error;
 
 /// The error for compressed words that end with a zero word.
 ///
-/// A coder in a normalized state never exports such words: the last word of an export is the highest word of the head,
-/// which isn't zero.
+/// A coder in a normalized state never exports words that end with a zero word. The last word of its export, if there
+/// is one, is the highest nonzero word of the head.
 #[derive(Debug, Clone, Copy, PartialEq, Eq, Error)]
 #[error("Tried to decode from compressed data that ends with a zero word, which is invalid for an ANS coder.")]
 pub struct CompressedDataEndsWithZeroWord;
@@ -188,9 +188,9 @@ impl<Word: WordOf<State>, State: BitArray, Backend: WriteWords<Word>> AnsCoder<
 > {
     /// Returns the backend, with the words of the coder's binary form on it.
     ///
-    /// These are the words below the head, then the head's words below its leading 1, lowest first. Zero words at the
-    /// top are included. The coder first asks the backend for room for the head's words. If the head is 1, the backend
-    /// is returned unchanged.
+    /// These are the words below the head, then the head's words below its leading 1, lowest first. Zero words directly
+    /// below the leading 1 are included. The coder first asks the backend for room for the head's words. If the head is
+    /// 1, the backend is returned unchanged.
     ///
     /// # Errors
     ///
@@ -229,7 +229,7 @@ impl<Word: WordOf<State>, State: BitArray, Backend: BoundedReadWords<Word, Stack
     State,
     Backend,
 > {
-    /// Returns whether the number of bits of the coder's words fits a `usize`.
+    /// Returns whether the total number of bits in all words of the coder fits a `usize`.
     ///
     /// [`AnsCoder::num_words`], [`AnsCoder::num_bits`] and [`AnsCoder::num_valid_bits`] require this.
     pub fn sizes_fit(&self) -> bool

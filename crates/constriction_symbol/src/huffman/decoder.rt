@@ -25,8 +25,9 @@ use std::marker::Model;
 
 /// A Huffman tree for decoding, with a codeword for each of the symbols `0`, `1`, ..
 ///
-/// No prefix-free codebook costs less for the same weights. Contracts describe a `DecoderHuffmanTree` by a tree whose
-/// leaves are the symbols. The codeword of a symbol is the path from the root to the symbol's leaf.
+/// No prefix-free codebook has a lower sum of weight times codeword length for the same weights. Contracts describe a
+/// `DecoderHuffmanTree` by a tree whose leaves are the symbols. The codeword of a symbol is the path from the root to
+/// the symbol's leaf.
 ///
 /// # Examples
 ///

@@ -24,8 +24,9 @@ use std::marker::Model;
 
 /// A Huffman tree for encoding, with a codeword for each of the symbols `0`, `1`, ..
 ///
-/// No prefix-free codebook costs less for the same weights. Contracts describe an `EncoderHuffmanTree` by a tree whose
-/// leaves are the symbols. The codeword of a symbol is the path from the root to the symbol's leaf.
+/// No prefix-free codebook has a lower sum of weight times codeword length for the same weights. Contracts describe an
+/// `EncoderHuffmanTree` by a tree whose leaves are the symbols. The codeword of a symbol is the path from the root to
+/// the symbol's leaf.
 ///
 /// # Examples
 ///

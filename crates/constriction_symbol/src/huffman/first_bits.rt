@@ -15,6 +15,8 @@ use std::alloc::{AllocError, Global};
 const MOST: u32 = 9;
 
 /// The node that a list of bits leads to: a symbol after the first `taken` bits, or an inner node after all bits.
+///
+/// `index` is the symbol, or the number of symbols plus the index of the inner node.
 #[derive(Debug, Clone, Copy)]
 pub struct Place {
     pub index: usize,
@@ -32,7 +34,7 @@ fn most_of(nodes: usize) -> u32
     if count < MOST { count } else { MOST }
 }
 
-/// Returns the place after one more bit. If `place` is a symbol, this is `place` itself.
+/// Returns the place that `bit` (0 or 1) leads to from `place`, or `place` itself if it is a symbol.
 fn place_below(nodes: &[[usize; 2]], place: Place, bit: usize) -> Place
     requires tree { HoldsTree nodes.now (tree_of_pairs nodes.now) }
     requires place { (bits : List Bool) × (length bits < 32) × IsPlace nodes.now bits place }
@@ -52,7 +54,8 @@ fn place_below(nodes: &[[usize; 2]], place: Place, bit: usize) -> Place
 
 /// Returns the decoding table, and the number of bits that it looks up.
 ///
-/// Entry `1xyz` (binary) is the [`Place`] of the bits `x`, `y`, `z`.
+/// `nodes` lists the two children of each inner node. The root comes last. Entry `1xyz` (binary) of the table is the
+/// [`Place`] that the bits `x`, `y`, `z` lead to.
 pub fn places_of(alloc: Global, nodes: &[[usize; 2]]) -> Result<(Vec<Place>, u32), AllocError>
     requires tree { HoldsTree nodes.now (tree_of_pairs nodes.now) }
     ensures some { IfOk result (λ table. 0 < table.1) }

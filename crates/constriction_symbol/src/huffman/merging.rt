@@ -85,7 +85,7 @@ fn take_least<P: BitArray>(
     }
 }
 
-/// Returns the indices of the two trees that each merge joins, in order, until one tree is left.
+/// Merges the trees until one is left, and returns the indices of the two trees of each merge, first merge first.
 fn merge_all<P: BitArray>(alloc: Global, weights: &[P]) -> Result<Vec<[usize; 2]>, AllocError>
     requires some { 0 < length weights.now }
     requires total { sum_by P.number weights.now < 2 ^ P.BITS }
@@ -110,7 +110,7 @@ fn merge_all<P: BitArray>(alloc: Global, weights: &[P]) -> Result<Vec<[usize; 2]
     Ok(pairs)
 }
 
-/// Returns the indices of the two trees that each merge joins, in order, for at most `most` weights.
+/// Returns the indices of the two trees that each merge joins, first merge first, for at most `most` weights.
 ///
 /// # Errors
 ///

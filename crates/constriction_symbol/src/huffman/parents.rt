@@ -8,9 +8,9 @@ ghost use Rattle.std.specs.Prelude.{IfOk, length, map, reverse, ◌*◌, ◌+◌
 use constriction_base::errors::{CoderError, DefaultEncoderError};
 use std::alloc::{AllocError, Global};
 
-/// Returns twice the index of each node's parent, plus 1 if the node is the second child. The root has the number 0.
+/// Returns a number for each node: twice its parent's index, plus 1 for a second child, or 0 for the root.
 ///
-/// `pairs` has the two children of each inner node, the root last.
+/// `pairs` lists the two children of each inner node. The root comes last.
 pub fn parents_of(alloc: Global, pairs: &[[usize; 2]]) -> Result<Vec<usize>, AllocError>
     requires unions { AreUnions (length pairs.now + 1) (map as_pair pairs.now) }
     requires fits { 4 * length pairs.now + 4 < 2 ^ 64 }

@@ -11,7 +11,7 @@ ghost use Rattle.std.specs.Ordering.{as_partial_cmp, eq_of_both, nat_cmp, on, th
 use constriction_words::BitArray;
 use std::cmp::Ordering;
 
-/// A tree in the merge, ordered by weight, then by index.
+/// A tree that a merge can join. Trees are ordered by weight, and trees of equal weight by index.
 #[derive(Clone, Copy)]
 pub struct Weighed<P: BitArray> {
     pub weight: P,

@@ -96,7 +96,7 @@ impl<D: CumulativeDistribution, P: WordOf<u32>, const PRECISION: usize> DecoderM
     }
 }
 
-/// Returns a component of weight 1, which a mixture holds until the first `turn_to`.
+/// Returns a component of weight 1. The model of a mixture list has only this component until the first `turn_to`.
 pub(super) fn first_component(family: Family) -> Component<FamilyDistribution>
     ensures { result.weight ≡ 1 }
 {
@@ -108,7 +108,7 @@ pub(super) fn first_component(family: Family) -> Component<FamilyDistribution>
 
 /// Replaces `components` by the components of row `place`.
 ///
-/// The three lists have rows of `width` numbers, one row after another. The call needs no memory.
+/// `weights`, `locations` and `scales` have rows of `width` numbers, one row after another. The call needs no memory.
 #[inline]
 pub(super) fn fill_from_row(
     components: &mut Vec<Component<FamilyDistribution>>,

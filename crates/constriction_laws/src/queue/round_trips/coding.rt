@@ -101,7 +101,7 @@ where
     }
 }
 
-/// Returns whether the words may have ended at the decoder's position. Calls `maybe_exhausted`.
+/// Returns whether the decoder reports that it may be exhausted. Calls `maybe_exhausted`.
 ///
 /// The call returns `true` after the last symbol of sealed words is decoded.
 pub fn has_ended<

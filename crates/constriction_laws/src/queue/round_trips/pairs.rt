@@ -71,8 +71,8 @@ where
 
 /// Decodes one symbol for each model from any words.
 ///
-/// Returns the symbols, and whether the decoder may be exhausted after them. Calls `from_compressed`, `decode_symbols`
-/// and `maybe_exhausted`.
+/// Returns the symbols, and whether the decoder then reports that it may be exhausted. Calls `from_compressed`,
+/// `decode_symbols` and `maybe_exhausted`.
 ///
 /// # Errors
 ///

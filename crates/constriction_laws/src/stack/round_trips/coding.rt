@@ -53,7 +53,7 @@ where
     }
 }
 
-/// Decodes one symbol for each model. The coder itself refuses no step.
+/// Decodes one symbol for each model, and returns the symbols in the order of the models.
 ///
 /// # Errors
 ///

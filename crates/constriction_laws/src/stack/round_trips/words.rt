@@ -22,7 +22,7 @@ use constriction_stack::coder::AnsCoder;
 use constriction_words::{BitArray, WordOf};
 use std::alloc::Global;
 
-/// Decodes one symbol for each model from words in reverse order.
+/// Decodes one symbol for each model from exported words that are stored in reverse order.
 ///
 /// Calls `from_reversed_compressed` and `decode_symbols`. The first word of `words` is read first.
 ///
@@ -58,7 +58,7 @@ where
     decode_pairs(alloc, &mut decoder, models)
 }
 
-/// Decodes one symbol for each model from an iterator over words in reverse order.
+/// Decodes one symbol for each model from an iterator that returns exported words in reverse order.
 ///
 /// Calls `from_reversed_compressed_iter` and `decode_symbols`. The iterator's first word is read first.
 ///
