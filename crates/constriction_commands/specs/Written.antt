@@ -1,5 +1,5 @@
 -- What a run writes: beginnings of an answer, and the lines on standard error.
-use Rattle.std.specs.Prelude.{Option, ℕ, List, [], ◌∷◌, ◌++◌, take, codes}
+use Rattle.std.specs.Prelude.{Option, ◌≡◌, ℕ, List, [], ◌∷◌, ◌++◌, take, codes}
 use Rattle.std.specs.Io.KnownBytes.{Appends}
 use Rattle.constriction_commands.specs.declared.fault.Fault.{Fault}
 use Rattle.constriction_commands.specs.declared.fault.Fault.TheVariants.{Unreadable, Unwritable, BadNumber, NoCount, NoWeights, WrongTotal, TooManySymbols, WeightOverflow, Encoder, ZeroWord, NoChain, OutOfData, InvalidData, NoSuchChunk, OutOfMemory}
@@ -33,3 +33,15 @@ fault_line NoChain = as_line (codes "not enough words, or a zero word at the end
 fault_line (OutOfData error) = as_line (codes "Out of compressed data.")
 fault_line NoSuchChunk = as_line (codes "no such chunk")
 fault_line OutOfMemory = as_line (codes "out of memory")
+
+-- The writer's contents grow by a beginning of this line.
+abbrev pub BeginsLine : {D : Type 0} → (D → Option (List ℕ)) → D → D → List ℕ → Type 0
+BeginsLine contents old new line = GrowsByBeginning (contents old) (contents new) line
+
+-- `stops` holds for a fault, and the writer's contents grow by a beginning of the fault's line.
+abbrev pub BeginsFault : {D : Type 0} → (Fault → Type 0) → (D → Option (List ℕ)) → D → D → Type 0
+BeginsFault stops contents old new = (fault : Fault) × stops fault × BeginsLine contents old new (fault_line fault)
+
+-- The status is 1, and the writer's contents grow by a beginning of the fault's line.
+abbrev pub Reports : {D : Type 0} → Fault → ℕ → (D → Option (List ℕ)) → D → D → Type 0
+Reports fault status contents old new = (status ≡ 1) × BeginsLine contents old new (fault_line fault)

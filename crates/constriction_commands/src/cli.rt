@@ -1,19 +1,16 @@
 //! Whole runs of the program, from the arguments and the input bytes to the output bytes and the exit status.
 
 ghost use Rattle.std.specs.Prelude.{◌≡◌, ◌↔◌, ◌⊎◌, ◌≤◌, ◌≢◌, ℕ, List, [], drop, map, string_bytes, IfErr, IfOk, IfSome};
-ghost use Rattle.std.specs.Prelude.{IsErr, IsOk, IsOkAnd, OnOk};
+ghost use Rattle.std.specs.Prelude.{IsErr, IsOk, OnOk};
 ghost use Rattle.std.specs.Io.KnownBytes.{Appends};
-ghost use Rattle.std.specs.IoError.{error_kind};
 ghost use Rattle.std.specs.Process.{exit_status};
 ghost use Rattle.std.specs.Vec.Iter.{into_iter_items};
-ghost use Rattle.constriction_commands.specs.Answers.{Names, NamesNone, Answers, IsAnswered, Fails, Stops};
-ghost use Rattle.constriction_commands.specs.Answers.{words_behind_name};
-ghost use Rattle.constriction_commands.specs.Starting.{BeginsAnswer, ProgramStops};
-ghost use Rattle.constriction_commands.specs.Written.{GrowsByBeginning, fault_line, usage_line};
-ghost use Rattle.constriction_commands.specs.declared.fault.Fault.{Fault};
+ghost use Rattle.constriction_commands.specs.Answers.{NamesNone, Answers, Fails, Stops};
+ghost use Rattle.constriction_commands.specs.Starting.{AppendsAnswer, BeginsAnswer, IfNamesNone, IfNoMemory, IfNotText};
+ghost use Rattle.constriction_commands.specs.Starting.{IfText, ProgramAnswers, ProgramReports, ProgramWrites};
+ghost use Rattle.constriction_commands.specs.Written.{BeginsFault, BeginsLine, GrowsByBeginning, Reports};
+ghost use Rattle.constriction_commands.specs.Written.{fault_line, usage_line};
 ghost use Rattle.constriction_commands.specs.declared.fault.Fault.TheVariants.{OutOfMemory, Unreadable, Unwritable};
-ghost use Rattle.constriction_commands.specs.declared.commands.Command.{Command};
-ghost use Rattle.std.specs.declared.io.ErrorKind.TheVariants as kind;
 
 use crate::commands::Command;
 use crate::fault::Fault;
@@ -38,8 +35,8 @@ const USAGE: &[u8] =
 /// Returns `OutOfMemory` if there is no memory for the arguments.
 fn arguments(alloc: Global, given: io::Result<Args>) -> Result<Vec<String>, Fault>
     ensures behind_name { IfOk given (λ words. IfOk result (λ args. args.items ≡ drop 1 (into_iter_items words))) }
-    ensures no_memory { IfErr given (λ error. error_kind error ≡ kind.OutOfMemory → IsErr result) }
-    ensures not_text { IfErr given (λ error. error_kind error ≢ kind.OutOfMemory → IsOk result) }
+    ensures no_memory { IfNoMemory given (IsErr result) }
+    ensures not_text { IfNotText given (IsOk result) }
     ensures none { IfErr given (λ _. IfOk result (λ args. args.items ≡ [])) }
     ensures err { IfErr result (λ fault. fault ≡ OutOfMemory) }
 {
@@ -53,7 +50,7 @@ fn arguments(alloc: Global, given: io::Result<Args>) -> Result<Vec<String>, Faul
 /// Writes the usage line to `faults`. Returns exit status 2, even if the line can't be written.
 fn refuse<E: Write>(faults: &mut E) -> u8
     ensures status { result ≡ 2 }
-    ensures line { GrowsByBeginning (E.contents faults.old) (E.contents faults.new) usage_line }
+    ensures line { BeginsLine E.contents faults.old faults.new usage_line }
 {
     let _ = write_out(faults, USAGE);
     2
@@ -62,7 +59,7 @@ fn refuse<E: Write>(faults: &mut E) -> u8
 /// Writes the line of `fault` to `faults`. Returns exit status 1, even if the line can't be written.
 fn report<E: Write>(fault: &Fault, faults: &mut E) -> u8
     ensures status { result ≡ 1 }
-    ensures line { GrowsByBeginning (E.contents faults.old) (E.contents faults.new) (fault_line fault.now) }
+    ensures line { BeginsLine E.contents faults.old faults.new (fault_line fault.now) }
 {
     let _ = write_out(faults, fault.line());
     1
@@ -108,19 +105,17 @@ pub fn run<R: Read, O: Write, E: Write>(
     output: &mut O,
     faults: &mut E,
 ) -> u8
-    ensures ok { result ≡ 0 → IfSome (R.remaining input.old) (λ text. (answer : List ℕ)
-        × IsAnswered (map string_bytes args.now) text answer
-        × Appends (O.contents output.old) (O.contents output.new) answer) }
+    ensures ok { result ≡ 0 →
+        AppendsAnswer (map string_bytes args.now) (R.remaining input.old) O.contents output.old output.new }
     ensures quiet { result ≡ 0 → faults.new ≡ faults.old }
-    ensures usage { (result ≡ 2) ↔ ((command : Command) → Names (map string_bytes args.now) command → ⊥) }
+    ensures usage { (result ≡ 2) ↔ NamesNone (map string_bytes args.now) }
     ensures kept { result ≡ 2 → (output.new ≡ output.old) × (input.new ≡ input.old) }
     // Whatever the status, the bytes written are a beginning of the answer.
-    ensures whole { (output.new ≡ output.old) ⊎ IfSome (R.remaining input.old) (λ text. (answer : List ℕ)
-        × IsAnswered (map string_bytes args.now) text answer
-        × GrowsByBeginning (O.contents output.old) (O.contents output.new) answer) }
-    ensures err { result ≡ 1 → (fault : Fault) × Stops (map string_bytes args.now) (R.remaining input.old) fault
-        × GrowsByBeginning (E.contents faults.old) (E.contents faults.new) (fault_line fault) }
-    ensures usage_line { result ≡ 2 → GrowsByBeginning (E.contents faults.old) (E.contents faults.new) usage_line }
+    ensures whole { (output.new ≡ output.old)
+        ⊎ BeginsAnswer (map string_bytes args.now) (R.remaining input.old) O.contents output.old output.new }
+    ensures err { result ≡ 1 →
+        BeginsFault (Stops (map string_bytes args.now) (R.remaining input.old)) E.contents faults.old faults.new }
+    ensures usage_line { result ≡ 2 → BeginsLine E.contents faults.old faults.new usage_line }
     ensures statuses { result ≤ 2 }
 {
     let Some(command) = Command::parse(args) else {
@@ -146,28 +141,22 @@ pub fn start<R: Read, O: Write, E: Write>(
     output: &mut O,
     faults: &mut E,
 ) -> ExitCode
-    ensures ok { exit_status result ≡ 0
-        → IsOkAnd given (λ words. IfSome (R.remaining input.old) (λ text. (answer : List ℕ)
-        × IsAnswered (words_behind_name (into_iter_items words)) text answer
-        × Appends (O.contents output.old) (O.contents output.new) answer)) }
+    ensures ok { exit_status result ≡ 0 →
+        ProgramAnswers given (R.remaining input.old) O.contents output.old output.new }
     ensures quiet { exit_status result ≡ 0 → faults.new ≡ faults.old }
-    ensures usage { exit_status result ≡ 2
-        → IfOk given (λ words. NamesNone (words_behind_name (into_iter_items words))) }
+    ensures usage { exit_status result ≡ 2 → IfText given NamesNone }
     // Without memory for the arguments, the line of that fault replaces the usage line.
-    ensures unknown { IfOk given (λ words. NamesNone (words_behind_name (into_iter_items words))
-        → exit_status result ≢ 2 → (exit_status result ≡ 1)
-        × GrowsByBeginning (E.contents faults.old) (E.contents faults.new) (fault_line OutOfMemory)) }
+    ensures unknown { IfNamesNone given (exit_status result ≢ 2 →
+        Reports OutOfMemory (exit_status result) E.contents faults.old faults.new) }
     ensures kept { exit_status result ≡ 2 → (output.new ≡ output.old) × (input.new ≡ input.old) }
     ensures unread { IfErr given (λ _. output.new ≡ output.old) }
     // Whatever the status, the bytes written are a beginning of the answer.
-    ensures whole { (output.new ≡ output.old) ⊎ IsOkAnd given (λ words. BeginsAnswer (words_behind_name
-        (into_iter_items words)) (R.remaining input.old) (O.contents output.old) (O.contents output.new)) }
-    ensures err { exit_status result ≡ 1 → (fault : Fault) × ProgramStops given (R.remaining input.old) fault
-        × GrowsByBeginning (E.contents faults.old) (E.contents faults.new) (fault_line fault) }
-    ensures usage_line { exit_status result ≡ 2
-        → GrowsByBeginning (E.contents faults.old) (E.contents faults.new) usage_line }
-    ensures not_text { IfErr given (λ error. error_kind error ≢ kind.OutOfMemory → exit_status result ≡ 2) }
-    ensures no_memory { IfErr given (λ error. error_kind error ≡ kind.OutOfMemory → exit_status result ≡ 1) }
+    ensures whole { ProgramWrites given (R.remaining input.old) O.contents output.old output.new }
+    ensures err { exit_status result ≡ 1 →
+        ProgramReports given (R.remaining input.old) E.contents faults.old faults.new }
+    ensures usage_line { exit_status result ≡ 2 → BeginsLine E.contents faults.old faults.new usage_line }
+    ensures not_text { IfNotText given (exit_status result ≡ 2) }
+    ensures no_memory { IfNoMemory given (exit_status result ≡ 1) }
     ensures statuses { exit_status result ≤ 2 }
 {
     let status = match arguments(alloc, given) {

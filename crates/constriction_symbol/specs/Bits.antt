@@ -1,5 +1,6 @@
 -- The bits of words, and what a bit coder holds, writes and reads.
 use Rattle.std.specs.Prelude.{◌≡◌, ℕ, zero, suc, ◌/◌, ◌%◌, ◌^◌, ◌<◌, ◌≤◌, ◌+◌, ◌-◌, Bool, true, false, List, [], ◌∷◌, ◌++◌, ◌==◌, ◌⊎◌, flat_map, map, replicate, reverse, length, Result, Ok, Err, Option, Some, None}
+use Rattle.constriction_base.specs.Backends.{IsWrite}
 
 -- The n lowest bits of a number, lowest first.
 abbrev pub bits_of : ℕ → ℕ → List Bool
@@ -110,11 +111,30 @@ PutsBits w number write last backend bits (Err e) last' backend' =
     × (length (last ++ front) ≡ w)
     × (last' ≡ last ++ front) × WritesBits w number write (last ++ front) backend (Err e) backend'
 
+-- The `count` lowest bits of a word are appended to the last word, lowest first, as in `PutsBits`.
+abbrev pub PutsLowest : {W B E : Type 0} → ℕ → (W → ℕ) → (B → W → Result (Unit {0}) E → B → Type 0) → List Bool → B
+    → ℕ → W → Result (Unit {0}) E → List Bool → B → Type 0
+PutsLowest w number write last backend count word r last' backend' =
+    PutsBits w number write last backend (bits_of count (number word)) r last' backend'
+
 -- A read gives the next bit, or finds no bit left. An error leaves the bits unchanged.
 abbrev pub GivesBit : {E : Type 0} → List Bool → Option (Result Bool E) → List Bool → Type 0
 GivesBit old (Some (Ok bit)) new = old ≡ bit ∷ new
 GivesBit old None new = (old ≡ []) × (new ≡ [])
 GivesBit old (Some (Err _)) new = new ≡ old
+
+-- A read gives the last bit of a stack, which has the bits of a backend's words and then those of `last`.
+abbrev pub GivesLast : {W B E : Type 0} → ℕ → (W → ℕ) → (B → List W) → List Bool → B
+    → Option (Result Bool E) → List Bool → B → Type 0
+GivesLast w number words last backend item last' backend' =
+    GivesBit (reverse (bits_above w number (words backend) last)) item
+    (reverse (bits_above w number (words backend') last'))
+
+-- A read gives the first bit of a queue, which has the bits of `last` and then those of a backend's words.
+abbrev pub GivesFirst : {W B E : Type 0} → ℕ → (W → ℕ) → (B → List W) → List Bool → B
+    → Option (Result Bool E) → List Bool → B → Type 0
+GivesFirst w number words last backend item last' backend' =
+    GivesBit (bits_behind w number last (words backend)) item (bits_behind w number last' (words backend'))
 
 -- A read takes the last bit off a stack. If `is_list` holds, the coder's bits change as in `GivesBit`.
 abbrev pub PopsBit : {W B E : Type 0} → ℕ → (W → ℕ) → Type 0 → (B → Result (Option W) E → B → Type 0) → BitsValue B
@@ -154,6 +174,19 @@ ClosesStack {B = B} w number write last backend (Err e) =
     ((left : B) × PutsLast w number write last backend true (Err e) last left)
     ⊎ ((top : List Bool) × (between left : B) × PutsLast w number write last backend true (Ok tt) top between × WritesPadded w number write top between (Err e) left)
 
+-- A stack is opened: the read word ends a stack with the bits `last`, or no word is left and there are no bits.
+abbrev pub OpensStack : {W B E : Type 0} → ℕ → (W → ℕ) → (B → Result (Option W) E → B → Type 0) → B → List Bool → B
+    → Type 0
+OpensStack {W} w number reads old last new =
+    ((last ≡ []) × reads old (Ok None) new)
+    ⊎ ((word : W) × TopWord w last (number word) × reads old (Ok (Some word)) new)
+
+-- A stack's last word, which is read first, is 0. If `is_list` holds, the backend's other words are left.
+abbrev pub LastIsZero : {W B E : Type 0} → (W → ℕ) → Type 0 → (B → List W) → (B → Result (Option W) E → B → Type 0) → B
+    → B → Type 0
+LastIsZero {W} number is_list words reads old new =
+    (word : W) × (number word ≡ 0) × reads old (Ok (Some word)) new × (is_list → words old ≡ word ∷ words new)
+
 -- A queue is ended: its last word is written if it has bits. If the write is refused, the answer is its error.
 abbrev pub ClosesQueue : {W B E : Type 0} → ℕ → (W → ℕ) → (B → W → Result (Unit {0}) E → B → Type 0) → List Bool → B
     → Result B E → Type 0
@@ -170,6 +203,12 @@ ReadsClosed {B = B} w number words write becomes coder decoder =
     (all : B) × IsQueueWords w coder.bits (map number (reverse (words all)))
     × ClosesQueue w number write coder.last coder.backend (Ok all)
     × (coder.last ≡ [] → all ≡ coder.backend) × becomes all decoder
+
+-- The decoder's backend is made as in `ReadsClosed`, and each write obeys the backend's rules, as in `IsWrite`.
+abbrev pub ReadsWritten : {W B E D : Type 0} → ℕ → (W → ℕ) → (B → List W) → (B → ℕ)
+    → (B → W → Result (Unit {0}) E → B → Type 0) → (B → E → Type 0) → (B → D → Type 0) → BitsValue B → D → Type 0
+ReadsWritten w number words room writes write_fails becomes coder decoder =
+    ReadsClosed w number words (IsWrite words room writes write_fails) becomes coder decoder
 
 -- The `count` highest of the w bits of a number, highest first.
 abbrev pub top_bits : ℕ → ℕ → ℕ → List Bool

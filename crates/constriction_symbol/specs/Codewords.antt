@@ -33,6 +33,11 @@ abbrev pub LacksMemoryFor : {A K S E : Type 0} → (Type 0 → Type 0 → Type 0
 LacksMemoryFor chosen prefix suffix gives codebook symbol =
     LacksMemory (chosen (prefix codebook symbol) (suffix codebook symbol)) gives
 
+-- The chosen form (prefix or suffix) of a symbol's codeword may need memory.
+abbrev pub WantsMemory : {K S : Type 0} → (Type 0 → Type 0 → Type 0) → (K → S → Type 0) → (K → S → Type 0) → K → S
+    → Type 0
+WantsMemory chosen prefix suffix codebook symbol = chosen (prefix codebook symbol) (suffix codebook symbol)
+
 -- The bits of a codeword are emitted. No bit is emitted without a codeword, or without memory that is needed.
 abbrev pub EmitsCodeword : {F E : Type 0} → Mut F (Bool × Unit {0}) (Result (Unit {0}) E) → (E → Type 0) → F
     → Option (List Bool) → Answer E → F → Type 0
@@ -75,6 +80,12 @@ WritesCodeword bits puts wants old (Some code) r new = WritesEachBit bits puts w
 abbrev pub formed : (List Bool → List Bool) → Option (List Bool) → Option (List Bool)
 formed form None = None
 formed form (Some bits) = Some (form bits)
+
+-- The bits of a symbol's codeword are emitted in the given form. `wants` says whether this may need memory.
+abbrev pub EmitsSymbol : {F A K S E : Type 0} → Mut F (Bool × Unit {0}) (Result (Unit {0}) E) → (K → S → Type 0)
+    → (A → E → Type 0) → (List Bool → List Bool) → (K → S → Option (List Bool)) → K → S → F → Answer E → F → Type 0
+EmitsSymbol g wants gives form codeword codebook symbol f r last =
+    EmitsCodeword g (LacksMemory (wants codebook symbol) gives) f (formed form (codeword codebook symbol)) r last
 
 -- The stream appends the codeword of a symbol that an item lends. Each symbol has its own codebook beside it, or
 -- (below) all symbols have one codebook.

@@ -1,5 +1,6 @@
 -- Decoding trees: a list of pairs of children as a tree, and its decoding table.
 use Rattle.std.specs.Prelude.{◌≡◌, ◌+◌, ◌*◌, ◌<◌, ◌≤◌, ◌^◌, ◌⊎◌, Bool, List, Some, ℕ, get_or, length, map, take}
+use Rattle.constriction_symbol.specs.Bits.{top_bits}
 use Rattle.constriction_symbol.specs.EncoderTree.{HasBelowOne}
 use Rattle.constriction_symbol.specs.Huffman.{IsTreeAt, IsWithoutRepeats, Tree, leaves, subtree, tree_at}
 use Rattle.constriction_symbol.specs.Merging.{as_pair}
@@ -22,6 +23,10 @@ pub record LeadsTo (nodes : List (List ℕ)) (bits : List Bool) (index : ℕ) : 
   pub tree : Tree
   pub leads : subtree (tree_of_pairs nodes) bits ≡ Some tree
   pub at : IsTreeAt (length nodes + 1) (map as_pair nodes) index tree
+
+-- The `taken` highest of the w bits of a number lead to the place.
+abbrev pub IsTopPlace : List (List ℕ) → ℕ → ℕ → Place → Type 0
+IsTopPlace nodes w number place = (place.taken ≤ w) × LeadsTo nodes (top_bits w place.taken number) place.index
 
 -- The first `taken` bits lead to a symbol, or all bits lead to a node.
 pub record IsPlace (nodes : List (List ℕ)) (bits : List Bool) (place : Place) : Type 0 where

@@ -1,6 +1,7 @@
 pub mod Bits
 pub mod Codewords
 pub mod Golomb
+pub mod Taking
 pub mod GolombLaws
 pub mod Huffman
 pub mod Guards

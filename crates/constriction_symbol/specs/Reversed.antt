@@ -1,13 +1,20 @@
 -- Encoding reversed codewords, and writing suffix forms to a stack.
 use Rattle.std.specs.Prelude.{◌≡◌, ℕ, ◌<◌, Bool, List, length, reverse, Option, Some, None, Result, Ok, Err}
+use Rattle.std.specs.Fn.{Mut}
 use Rattle.constriction_base.specs.declared.errors.CoderError.TheVariants.{Frontend, Backend}
 use Rattle.constriction_symbol.specs.Bits.{BitsValue, PutsOnto}
-use Rattle.constriction_symbol.specs.Codewords.{Answer, LacksMemory, WritesPair, WritesSymbol}
+use Rattle.constriction_symbol.specs.Codewords.{Answer, EmitsCodeword, LacksMemory, WritesPair, WritesSymbol}
 
 -- There is a codeword, and it has more than `count` bits.
 abbrev pub IsLongerThan : ℕ → Option (List Bool) → Type 0
 IsLongerThan count None = ⊥
 IsLongerThan count (Some bits) = count < length bits
+
+-- The bits of a codeword are emitted. Only a codeword of more than `count` bits may need memory.
+abbrev pub EmitsUnlessLong : {F A E : Type 0} → Mut F (Bool × Unit {0}) (Result (Unit {0}) E) → ℕ → (A → E → Type 0) → F
+    → Option (List Bool) → Answer E → F → Type 0
+EmitsUnlessLong g count gives f code r last =
+    EmitsCodeword g (LacksMemory (IsLongerThan count code) gives) f code r last
 
 -- The suffix form of a codeword is pushed onto an empty stack. The push fails only if there is no codeword, or if the
 -- codeword has more than `count` bits and the stack has no memory.

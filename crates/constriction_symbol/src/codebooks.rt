@@ -2,8 +2,8 @@
 
 ghost use Rattle.constriction_base.specs.declared.errors.CoderError.TheVariants as coder;
 ghost use Rattle.constriction_symbol.specs.Bits.{bits_of};
-ghost use Rattle.constriction_symbol.specs.Codewords.{BeginsTopBits, EmitsCodeword, IsLowBits, NoneBegins, NoneFits};
-ghost use Rattle.constriction_symbol.specs.Codewords.{LacksMemory, LacksMemoryFor, ReadsSymbol, formed};
+ghost use Rattle.constriction_symbol.specs.Codewords.{BeginsTopBits, EmitsCodeword, EmitsSymbol, IsLowBits, NoneBegins};
+ghost use Rattle.constriction_symbol.specs.Codewords.{LacksMemory, NoneFits, ReadsSymbol, WantsMemory};
 ghost use Rattle.std.specs.Iterator.{IsFinite};
 ghost use Rattle.std.specs.Prelude.{Bool, IfSome, List, OnOk, Option, Some, reverse, ◌++◌, ◌<◌, ◌^◌, ◌≡◌, ◌≤◌};
 
@@ -75,8 +75,8 @@ pub trait EncoderCodebook: Codebook {
         emit: &mut F,
     ) -> Result<(), DefaultEncoderError<E>>
         requires { F.IsAlwaysCallable emit.old }
-        ensures { EmitsCodeword F.FnMut (LacksMemory (suffix_wants self.now symbol.now) E.From.from_gives)
-            emit.old (formed reverse (Self.codeword self.now symbol.now)) result emit.new };
+        ensures { EmitsSymbol F.FnMut suffix_wants E.From.from_gives reverse Self.codeword
+            self.now symbol.now emit.old result emit.new };
 
     /// Returns the whole codeword of the symbol in one word, and the codeword's length in bits.
     ///
@@ -123,9 +123,8 @@ pub trait BitOrder: Semantics {
         emit: &mut F,
     ) -> Result<(), DefaultEncoderError<E>>
         requires { F.IsAlwaysCallable emit.old }
-        ensures { EmitsCodeword F.FnMut
-            (LacksMemoryFor chosen C.prefix_wants C.suffix_wants E.From.from_gives codebook.now symbol.now)
-            emit.old (formed form (C.codeword codebook.now symbol.now)) result emit.new };
+        ensures { EmitsSymbol F.FnMut (WantsMemory chosen C.prefix_wants C.suffix_wants) E.From.from_gives form
+            C.codeword codebook.now symbol.now emit.old result emit.new };
 }
 
 impl BitOrder for Queue {

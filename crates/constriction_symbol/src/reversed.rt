@@ -8,8 +8,8 @@
 //! because a second `StackCoder::new` would be ambiguous.
 
 ghost use Rattle.constriction_symbol.specs.Bits.{PutsBit};
-ghost use Rattle.constriction_symbol.specs.Codewords.{Emits, EmitsCodeword, LacksMemory, formed};
-ghost use Rattle.constriction_symbol.specs.Reversed.{IsLongerThan, StacksCodeword};
+ghost use Rattle.constriction_symbol.specs.Codewords.{Emits, EmitsCodeword, formed};
+ghost use Rattle.constriction_symbol.specs.Reversed.{EmitsUnlessLong, StacksCodeword};
 ghost use Rattle.std.specs.Prelude.{IfErr, MatchOption, OnErr, [], length, reverse, ◌*◌, ◌+◌, ◌++◌, ◌∷◌, ◌≡◌, ◌≤◌};
 
 use crate::codebooks::Codebook;
@@ -142,8 +142,7 @@ pub fn reversed_codeword<C: SuffixCodebook, E: From<AllocError>, F: FnMut(bool) 
     emit: &mut F,
 ) -> Result<(), DefaultEncoderError<E>>
     requires { F.IsAlwaysCallable emit.old }
-    ensures { EmitsCodeword F.FnMut
-        (LacksMemory (IsLongerThan (2 * 64) (C.codeword codebook.now symbol.now)) E.From.from_gives)
+    ensures { EmitsUnlessLong F.FnMut (2 * 64) E.From.from_gives
         emit.old (C.codeword codebook.now symbol.now) result emit.new }
 {
     let mut stack = SmallBitStack::new(alloc);

@@ -2,9 +2,8 @@
 
 ghost use Rattle.constriction_base.specs.Backends.{IsWrite};
 ghost use Rattle.constriction_base.specs.Iterators.{item_of_answer};
-ghost use Rattle.constriction_symbol.specs.Bits.{GivesBit, PutsBits, PutsLast, TakesFirst, TakesLast};
-ghost use Rattle.constriction_symbol.specs.Bits.{bits_above, bits_behind, bits_of};
-ghost use Rattle.std.specs.Prelude.{length, reverse, ◌+◌, ◌<◌, ◌^◌};
+ghost use Rattle.constriction_symbol.specs.Bits.{GivesFirst, GivesLast, PutsLast, PutsLowest, TakesFirst, TakesLast};
+ghost use Rattle.std.specs.Prelude.{length, ◌+◌, ◌<◌, ◌^◌};
 
 use crate::top_bits::TopBits;
 use crate::word_bits::WordBits;
@@ -50,8 +49,8 @@ pub fn put_bits<Word: BitArray, B: WriteWords<Word>>(
     requires some { 0 < count }
     requires part { count < Word.BITS }
     requires small { Word.number bits < 2 ^ count }
-    ensures { PutsBits Word.BITS Word.number (IsWrite B.words B.room B.writes B.write_fails)
-        last.old backend.old (bits_of count (Word.number bits)) result last.new backend.new }
+    ensures { PutsLowest Word.BITS Word.number (IsWrite B.words B.room B.writes B.write_fails)
+        last.old backend.old count bits result last.new backend.new }
 {
     if count <= last.room() {
         last.push_all(bits, count);
@@ -71,8 +70,8 @@ fn put_across<Word: BitArray, B: WriteWords<Word>>(
     requires across { Word.BITS < length last.old + count }
     requires part { count < Word.BITS }
     requires small { Word.number bits < 2 ^ count }
-    ensures { PutsBits Word.BITS Word.number (IsWrite B.words B.room B.writes B.write_fails)
-        last.old backend.old (bits_of count (Word.number bits)) result last.new backend.new }
+    ensures { PutsLowest Word.BITS Word.number (IsWrite B.words B.room B.writes B.write_fails)
+        last.old backend.old count bits result last.new backend.new }
 {
     let room = last.room();
     last.fill(bits);
@@ -95,8 +94,8 @@ pub fn take_last<Word: BitArray, B: ReadWords<Word, Stack>>(
 ) -> Result<Option<bool>, B::ReadError>
     ensures takes { TakesLast Word.BITS Word.number B.reads
         last.old backend.old (item_of_answer result) last.new backend.new }
-    ensures bits { B.is_list → GivesBit (reverse (bits_above Word.BITS Word.number (B.words backend.old) last.old))
-        (item_of_answer result) (reverse (bits_above Word.BITS Word.number (B.words backend.new) last.new)) }
+    ensures bits { B.is_list → GivesLast Word.BITS Word.number B.words
+        last.old backend.old (item_of_answer result) last.new backend.new }
 {
     if last.is_empty() {
         match backend.read() {
@@ -121,8 +120,8 @@ pub fn take_first<Word: BitArray, B: ReadWords<Word, Queue>>(
 ) -> Result<Option<bool>, B::ReadError>
     ensures takes { TakesFirst Word.BITS Word.number B.reads
         last.old backend.old (item_of_answer result) last.new backend.new }
-    ensures bits { B.is_list → GivesBit (bits_behind Word.BITS Word.number last.old (B.words backend.old))
-        (item_of_answer result) (bits_behind Word.BITS Word.number last.new (B.words backend.new)) }
+    ensures bits { B.is_list → GivesFirst Word.BITS Word.number B.words
+        last.old backend.old (item_of_answer result) last.new backend.new }
 {
     if last.is_empty() {
         match backend.read() {

@@ -1,10 +1,10 @@
 //! Reading bits from an iterator of `Result`s of bits.
 
 ghost use Rattle.constriction_symbol.specs.Codewords.{GivesBits, StopsWithin};
-ghost use Rattle.constriction_symbol.specs.Golomb.{number_after};
+ghost use Rattle.constriction_symbol.specs.Taking.{CountsZeros, GivesNumber};
 ghost use Rattle.std.specs.Iterator.{IsFinite};
-ghost use Rattle.std.specs.Prelude.{Bool, IfErr, IfOk, List, MatchOption, OnOk, [], false, length, replicate, true};
-ghost use Rattle.std.specs.Prelude.{ℕ, ◌*◌, ◌+◌, ◌++◌, ◌<◌, ◌^◌, ◌∷◌, ◌≡◌, ◌≤◌};
+ghost use Rattle.std.specs.Prelude.{IfErr, IfOk, OnOk, [], false, length, replicate};
+ghost use Rattle.std.specs.Prelude.{ℕ, ◌*◌, ◌+◌, ◌<◌, ◌^◌, ◌∷◌, ◌≡◌, ◌≤◌};
 
 use crate::codebooks::SymbolCodeError;
 use crate::turning::doubled;
@@ -50,9 +50,7 @@ pub fn count_zeros<V, E, I: Iterator<Item = Result<bool, E>>>(
     requires fits { most < 1000 }
     ensures can { OnOk result (I.can_next source.new) }
     ensures finite { IsFinite (I.remaining source.old) → OnOk result (IsFinite (I.remaining source.new)) }
-    ensures zeros { IfOk result (λ found. MatchOption found
-        (GivesBits I.next_gives source.old (replicate (most + 1) false) source.new)
-        (λ count. (count ≤ most) × GivesBits I.next_gives source.old (replicate count false ++ true ∷ []) source.new)) }
+    ensures zeros { IfOk result (λ found. CountsZeros I.next_gives most source.old found source.new) }
     ensures stops { IfErr result (λ e. StopsWithin I.next_gives
         (λ bits. (count : ℕ) × (count ≤ most) × (bits ≡ replicate count false)) source.old e source.new) }
 {
@@ -80,8 +78,8 @@ pub fn read_bits<V, N: BitArray, E, I: Iterator<Item = Result<bool, E>>>(
     requires fits { (N.number start + 1) * 2 ^ count ≤ 2 ^ N.BITS }
     ensures can { OnOk result (I.can_next source.new) }
     ensures finite { IsFinite (I.remaining source.old) → OnOk result (IsFinite (I.remaining source.new)) }
-    ensures bits { IfOk result (λ n. (bits : List Bool) × (length bits ≡ count)
-        × (N.number n ≡ number_after (N.number start) bits) × GivesBits I.next_gives source.old bits source.new) }
+    ensures bits { IfOk result (λ n.
+        GivesNumber I.next_gives (N.number start) count source.old (N.number n) source.new) }
     ensures stops { IfErr result (λ e. StopsWithin I.next_gives (λ bits. length bits < count) source.old e source.new) }
 {
     let mut number = start;

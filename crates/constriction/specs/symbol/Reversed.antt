@@ -1,2 +1,2 @@
 -- Encoding reversed codewords.
-pub use Rattle.constriction_symbol.specs.Reversed.{IsLongerThan, StacksCodeword, StacksPair, StacksSymbol}
+pub use Rattle.constriction_symbol.specs.Reversed.{IsLongerThan, EmitsUnlessLong, StacksCodeword, StacksPair, StacksSymbol}

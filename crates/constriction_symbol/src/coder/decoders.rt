@@ -1,7 +1,6 @@
 //! Conversion of bit coders to readers of the same bits.
 
-ghost use Rattle.constriction_base.specs.Backends.{IsWrite};
-ghost use Rattle.constriction_symbol.specs.Bits.{PadsTo, ReadsClosed, bits_of_words};
+ghost use Rattle.constriction_symbol.specs.Bits.{PadsTo, ReadsWritten, bits_of_words};
 ghost use Rattle.std.specs.Prelude.{IfErr, IfOk, [], map, ◌≡◌};
 
 use crate::coder::{QueueEncoder, StackCoder, SymbolCoder};
@@ -31,8 +30,8 @@ impl<
         ensures last { IfOk result (λ decoder. decoder.last ≡ []) }
         ensures words { IfOk result (λ decoder. decoder.bits ≡ bits_of_words Word.BITS
             (map Word.number (⟦<B::IntoReadWords as Holds<Word, Queue>>⟧.words decoder.backend))) }
-        ensures place { IfOk result (λ decoder. ReadsClosed Word.BITS Word.number ⟦<B as Holds<Word, Stack>>⟧.words
-            (IsWrite ⟦<B as Holds<Word, Stack>>⟧.words B.room B.writes B.write_fails) B.becomes self decoder.backend) }
+        ensures place { IfOk result (λ decoder. ReadsWritten Word.BITS Word.number ⟦<B as Holds<Word, Stack>>⟧.words
+            B.room B.writes B.write_fails B.becomes self decoder.backend) }
         ensures err { IfErr result (λ e. (self.last ≡ [] → ⊥) × B.write_fails self.backend e) }
     {
         match self.into_compressed() {
@@ -57,8 +56,8 @@ impl<
         ensures last { IfOk result (λ decoder. decoder.last ≡ []) }
         ensures words { IfOk result (λ decoder. decoder.bits ≡ bits_of_words Word.BITS
             (map Word.number (⟦<B::IntoReadWords as Holds<Word, Queue>>⟧.words decoder.backend))) }
-        ensures place { IfOk result (λ decoder. ReadsClosed Word.BITS Word.number ⟦<B as Holds<Word, Stack>>⟧.words
-            (IsWrite ⟦<B as Holds<Word, Stack>>⟧.words B.room B.writes B.write_fails) B.becomes self decoder.backend) }
+        ensures place { IfOk result (λ decoder. ReadsWritten Word.BITS Word.number ⟦<B as Holds<Word, Stack>>⟧.words
+            B.room B.writes B.write_fails B.becomes self decoder.backend) }
         ensures err { IfErr result (λ e. (self.last ≡ [] → ⊥) × B.write_fails self.backend e) }
     {
         QueueEncoder::into_decoder(self)

@@ -3,8 +3,8 @@
 ghost use Rattle.constriction_base.specs.Backends.{IsWrite};
 ghost use Rattle.constriction_base.specs.declared.errors.CoderError.TheVariants as coder_error;
 ghost use Rattle.constriction_symbol.specs.Bits.{ClosesQueue, ClosesStack, HasStackWords, IsQueueWords, IsStackWords};
-ghost use Rattle.constriction_symbol.specs.Bits.{TopWord, bits_of_words};
-ghost use Rattle.std.specs.Prelude.{Err, IfErr, IfOk, None, Ok, Some, [], map, reverse, ◌∷◌, ◌≡◌, ◌⊎◌};
+ghost use Rattle.constriction_symbol.specs.Bits.{LastIsZero, OpensStack, bits_of_words};
+ghost use Rattle.std.specs.Prelude.{Err, IfErr, IfOk, Ok, [], map, reverse, ◌≡◌};
 
 use crate::coder::{QueueEncoder, StackCoder, SymbolCoder};
 use crate::steps::put_last;
@@ -68,12 +68,9 @@ impl<Word: BitArray, B: ReadWords<Word, Stack>> StackCoder<Word, B> {
         ensures ok { B.is_list → IfOk result (λ new.
             HasStackWords Word.BITS new.bits (map Word.number (reverse (B.words compressed)))) }
         ensures reads { IfOk result (λ new.
-            ((new.last ≡ []) × B.reads compressed (Ok None) new.backend)
-            ⊎ ((word : Word) × TopWord Word.BITS new.last (Word.number word)
-            × B.reads compressed (Ok (Some word)) new.backend)) }
+            OpensStack Word.BITS Word.number B.reads compressed new.last new.backend) }
         ensures frontend { (rest : B) → result ≡ Err (coder_error.Frontend rest) →
-            (word : Word) × (Word.number word ≡ 0) × B.reads compressed (Ok (Some word)) rest
-            × (B.is_list → B.words compressed ≡ word ∷ B.words rest) }
+            LastIsZero Word.number B.is_list B.words B.reads compressed rest }
         ensures err { (e : B.ReadError) → result ≡ Err (coder_error.Backend e) →
             (rest : B) × B.reads compressed (Err e) rest }
     {

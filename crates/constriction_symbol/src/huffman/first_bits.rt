@@ -4,8 +4,7 @@
 //! one loop fills the table. The table looks up one bit more than the longest codeword would have if all weights were
 //! equal, and at most 9 bits. So a small tree has a small table.
 
-ghost use Rattle.constriction_symbol.specs.DecoderTree.{HasPlaces, HoldsTree, IsPlace, LeadsTo, tree_of_pairs};
-ghost use Rattle.constriction_symbol.specs.Bits.{top_bits};
+ghost use Rattle.constriction_symbol.specs.DecoderTree.{HasPlaces, HoldsTree, IsPlace, IsTopPlace, tree_of_pairs};
 ghost use Rattle.std.specs.Prelude.{Bool, IfOk, List, [], length, ◌+◌, ◌++◌, ◌<◌, ◌==◌, ◌^◌, ◌∷◌, ◌≡◌, ◌≤◌, ℕ};
 
 use constriction_words::BitArray;
@@ -98,7 +97,7 @@ pub fn place_of<Word: BitArray>(places: &[Place], most: u32, bits: Word) -> Plac
     requires few { most ≤ 9 }
     requires count { length places.now ≡ 2 ^ (most + 1) }
     ensures { (nodes : List (List ℕ)) → HasPlaces nodes places.now →
-        (result.taken ≤ Word.BITS) × LeadsTo nodes (top_bits Word.BITS result.taken (Word.number bits)) result.index }
+        IsTopPlace nodes Word.BITS (Word.number bits) result }
 {
     let count = lesser(most, Word::BITS);
     let first = bits.shifted_right(Word::BITS - count).to_index();

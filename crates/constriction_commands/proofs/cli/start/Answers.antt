@@ -11,7 +11,7 @@ returns-clause-whole g c =
       | in-Ok w ↦
           let ran = rw w.as_slice.ensures.value at w.run-status.ensures in
           whole_by_run c.args.given w.in-Ok.args.items c.args.output.now w.run-status.new.output c.match-arguments.output
-          (λ made words. BeginsAnswer words (g.R.Read.remaining c.args.input.now) (g.O.Write.contents c.args.output.now) (g.O.Write.contents made))
+          (λ made words. BeginsAnswer words (g.R.Read.remaining c.args.input.now) g.O.Write.contents c.args.output.now made)
           (rw w.in-Ok.is at c.arguments.ensures.behind_name) (rw w.in-Ok.is at c.arguments.ensures.none)
           (λ unnamed. (ran.kept (ran.usage.1 unnamed)).0) ran.whole w.output-is
       | in-Err w ↦ inl w.output-is
