@@ -1,6 +1,6 @@
 -- What a call of a range coder may answer and leave, over a backend of which only its rules are known: what it holds,
 -- what a read may answer, and which errors a write and a `prepare` may answer.
-use Rattle.std.specs.Prelude.{◌≡◌, ℕ, ◌+◌, ◌<◌, ◌≤◌, ◌⊎◌, Bool, List, [], ◌++◌, Option, Result, Err, length, map, reverse, OnOk, OnErr, IfErr}
+use Rattle.std.specs.Prelude.{◌≡◌, ℕ, ◌+◌, ◌-◌, ◌<◌, ◌≤◌, ◌^◌, ◌⊎◌, Bool, List, [], ◌++◌, Option, Result, Ok, Err, length, map, reverse, OnOk, OnErr, IfOk, IfErr}
 use Rattle.constriction_base.specs.Steps.{Step}
 use Rattle.constriction_base.specs.Writing.{IsBegun, NotWritten, RefusesWrite}
 use Rattle.constriction_base.specs.declared.backends.semantics.Queue.{Queue}
@@ -9,9 +9,11 @@ use Rattle.constriction_base.specs.declared.backends.reading.ReadWords as readin
 use Rattle.constriction_base.specs.declared.backends.writing.WriteWords as writing
 use Rattle.constriction_base.specs.declared.errors.ReadWriteError.{ReadWriteError}
 use Rattle.constriction_base.specs.declared.errors.ReadWriteError.TheVariants.{Read, Write}
-use Rattle.constriction_queue.specs.Range.{narrowed_by, initial}
-use Rattle.constriction_queue.specs.Encoder.{Encoder, IsEncoder, HasHeads, Owes, run_by, sealed_by}
-use Rattle.constriction_queue.specs.Decoder.{Decoder, IsDecoder, StandsAt, Follows, BeginsOver, RefusesPoint, quantile_read, OwesRead, ReadsStep}
+use Rattle.constriction_queue.specs.Range.{narrowed_by}
+use Rattle.constriction_queue.specs.declared.situation.EncoderSituation.{EncoderSituation}
+use Rattle.constriction_queue.specs.declared.step.Shifted.{Shifted}
+use Rattle.constriction_queue.specs.Encoder.{Encoder, IsEncoder, HasHeads, Owes, PartsFit, encoder_of, run_by, sealed_by, shifted_over}
+use Rattle.constriction_queue.specs.Decoder.{Decoder, IsDecoder, StandsAtStart, Follows, BeginsOver, RefusesPoint, quantile_read, OwesRead, ReadsStep}
 use Rattle.constriction_queue.specs.SelfDelimiting.{SelfDelimits}
 
 -- the words that a step owes were written
@@ -54,6 +56,19 @@ pub record EncodeCall {Word B E S : Type 0} (number : Word → ℕ) (holds : hol
   -- and comes only where words are owed, from the call of the backend that asks for them, or writes them
   pub error : IfErr answer (λ e. IsRefused number holds writes w s old step e new)
 
+-- an encode of a step onto an interval, held words and a backend: what it answers and leaves
+pub record EncodesOnto {Word State B E S : Type 0} (number : Word → ℕ) (state : State → ℕ) (holds : holding.Ghosts B Word S) (writes : writing.Ghosts B Word E)
+    (w s : ℕ) (lower range : State) (situation : EncoderSituation Word) (step : Step) (old : B) (answer : Result (Shifted Word State) E) (new : B) : Type 0 where
+  pub ok : IfOk answer (λ after. EncodeCall number holds writes w s
+      (encoder_of number holds w (state lower) (state range) old situation) step (Ok tt) (shifted_over number state holds w after new))
+  -- the new interval is long enough, and its held words fit it
+  pub wide : IfOk answer (λ after. 2 ^ (s - w) ≤ state after.range)
+  pub fit : IfOk answer (λ after. PartsFit number w s after.situation (state after.lower) (state after.range))
+  -- an error leaves the interval and the held words
+  pub err : IfErr answer (λ e. EncodeCall number holds writes w s
+      (encoder_of number holds w (state lower) (state range) old situation) step (Err e)
+      (encoder_of number holds w (state lower) (state range) new situation))
+
 -- a call of the backend was refused, for the words that an export owes: those held, and the seal. This holds of all the
 -- words that the export would have given
 pub record ExportRefused {Word B E S : Type 0} (number : Word → ℕ) (holds : holding.Ghosts B Word S) (writes : writing.Ghosts B Word E) (all : List ℕ → Type 0) (old : Encoder B) (e : E) : Type 0 where
@@ -87,7 +102,7 @@ abbrev pub DecodesSealed : {Word B S R Q F : Type 0} → (Word → ℕ) → hold
     → ℕ → ℕ → Encoder B → Decoder R → Type 0
 DecodesSealed number holds becomes read_holds reads w s encoder decoder =
     IsDecoder number read_holds w s decoder
-    × (read_holds.is_list → StandsAt w s (sealed_by w s encoder) (initial s) decoder)
+    × (read_holds.is_list → StandsAtStart w s (sealed_by w s encoder) decoder)
     × BeginsSealed number holds becomes reads w s encoder decoder
 
 -- a decoder of an encoder's sealed words didn't begin: a read of its first words was refused
