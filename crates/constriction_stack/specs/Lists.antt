@@ -17,9 +17,9 @@ module _ {C V F B : Type 0} (coder : record {
   is_lack_of_room : CoderError F B → Type 0;
   tells_room : C → Type 0;
 }) where
-  -- each such iterator may be asked for items and ends, and a coder that counts symbols has place for all of them
-  abbrev pub HasPlaceFor : {I : Type 0} → (I → Type 0) → (I → Type 0) → (I → Count) → C → Type 0
-  HasPlaceFor gives can_next remaining old = GivesAtMost gives can_next remaining coder.counts_symbols (coder.symbols_left old)
+  -- each such iterator may be asked for items and ends; if the coder counts symbols, it gives at most those left
+  abbrev pub GivesAtMostLeft : {I : Type 0} → (I → Type 0) → (I → Type 0) → (I → Count) → C → Type 0
+  GivesAtMostLeft gives can_next remaining old = GivesAtMost gives can_next remaining coder.counts_symbols (coder.symbols_left old)
 
   -- symbols with their models are encoded in order, up to the first that is refused
   abbrev pub EncodesPairs : {S M A I : Type 0} → ℕ → (M → List (S × ℕ × ℕ)) → (A → S) → (I → Type 0) → (I → Option (A × M) → I → Type 0)

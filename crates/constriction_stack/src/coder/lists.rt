@@ -3,7 +3,7 @@
 //! The contracts refer to the iterator's `next_back`, so a caller needs no contract of `Rev`. They require that the
 //! iterator ends and that its `next_back` may be called.
 
-ghost use Rattle.constriction_stack.specs.Lists.{EncodesPairs, EncodesSymbols, HasPlaceFor, LowersLeft, TriesPairs};
+ghost use Rattle.constriction_stack.specs.Lists.{EncodesPairs, EncodesSymbols, GivesAtMostLeft, LowersLeft, TriesPairs};
 
 use crate::coder::AnsCoder;
 use constriction_base::backends::{Holds, Stack, WriteWords};
@@ -36,7 +36,7 @@ impl<Word: WordOf<State>, State: BitArray, Backend: WriteWords<Word>> AnsCoder<
         S: Lent<M::Symbol> + Drop,
         I: IntoIterator<Item = (S, M)>,
         I::IntoIter: DoubleEndedIterator + Drop,
-        requires { HasPlaceFor ⟦<Self as Encode<PRECISION>>⟧ (I.into_iter_gives symbols_and_models)
+        requires { GivesAtMostLeft ⟦<Self as Encode<PRECISION>>⟧ (I.into_iter_gives symbols_and_models)
             I.IntoIter.can_next_back I.IntoIter.remaining self.old }
         ensures steps { EncodesPairs ⟦<Self as Encode<PRECISION>>⟧ PRECISION M.table S.lent
             (I.into_iter_gives symbols_and_models) I.IntoIter.next_back_gives self.old result self.new }
@@ -65,7 +65,7 @@ impl<Word: WordOf<State>, State: BitArray, Backend: WriteWords<Word>> AnsCoder<
         S: Lent<M::Symbol> + Drop,
         I: IntoIterator<Item = Result<(S, M), E>>,
         I::IntoIter: DoubleEndedIterator + Drop,
-        requires { HasPlaceFor ⟦<Self as Encode<PRECISION>>⟧ (I.into_iter_gives symbols_and_models)
+        requires { GivesAtMostLeft ⟦<Self as Encode<PRECISION>>⟧ (I.into_iter_gives symbols_and_models)
             I.IntoIter.can_next_back I.IntoIter.remaining self.old }
         ensures steps { TriesPairs ⟦<Self as Encode<PRECISION>>⟧ PRECISION M.table S.lent
             (I.into_iter_gives symbols_and_models) I.IntoIter.next_back_gives self.old result self.new }
@@ -101,7 +101,7 @@ impl<Word: WordOf<State>, State: BitArray, Backend: WriteWords<Word>> AnsCoder<
         S: Lent<M::Symbol> + Drop,
         I: IntoIterator<Item = S>,
         I::IntoIter: DoubleEndedIterator + Drop,
-        requires { HasPlaceFor ⟦<Self as Encode<PRECISION>>⟧ (I.into_iter_gives symbols)
+        requires { GivesAtMostLeft ⟦<Self as Encode<PRECISION>>⟧ (I.into_iter_gives symbols)
             I.IntoIter.can_next_back I.IntoIter.remaining self.old }
         ensures steps { EncodesSymbols ⟦<Self as Encode<PRECISION>>⟧ PRECISION (M.table model) S.lent
             (I.into_iter_gives symbols) I.IntoIter.next_back_gives self.old result self.new }
