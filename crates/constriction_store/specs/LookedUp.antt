@@ -3,9 +3,9 @@ use Rattle.std.specs.Prelude.{◌≡◌, ◌⊎◌, ℕ, ◌<◌, ◌≤◌, ⊤
 use Rattle.std.specs.declared.vec.Vec.{Vec}
 use Rattle.constriction_base.specs.Models.{Model, items_of}
 use Rattle.constriction_queue.specs.Range.{Run}
-use Rattle.constriction_queue.specs.Symbols.{FindsAll}
+use Rattle.constriction_queue.specs.Symbols.{FindsAll, model_at}
 use Rattle.constriction_store.specs.Chunks.{chunk_in, lists_of}
-use Rattle.constriction_store.specs.Stores.{Entry, HoldsChunk, HoldsNoChunk, HoldsNoSymbol, Stored, entry_in, model_at, run_at}
+use Rattle.constriction_store.specs.Stores.{Entry, HoldsChunk, HoldsNoChunk, HoldsNoSymbol, Stored, entry_in, run_at}
 use Rattle.constriction_store.specs.Built.{BuildFails}
 use Rattle.constriction_store.specs.declared.laws.ThroughStore.{ThroughStore}
 use Rattle.constriction_store.specs.declared.laws.ThroughStore.TheVariants.{Build, LookUp}

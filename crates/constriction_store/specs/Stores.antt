@@ -6,7 +6,7 @@ use Rattle.constriction_queue.specs.Range.{Run, offset, initial}
 use Rattle.constriction_queue.specs.SelfDelimiting.{SelfDelimits}
 use Rattle.constriction_queue.specs.States.{IsPosition, lower_of, range_of}
 use Rattle.constriction_queue.specs.declared.state.RangeCoderState.{RangeCoderState}
-use Rattle.constriction_queue.specs.Symbols.{FindsAll, NarrowsAll}
+use Rattle.constriction_queue.specs.Symbols.{FindsAll, NarrowsAll, model_at}
 use Rattle.constriction_store.specs.Chunks.{chunk_in}
 
 -- ---- the index
@@ -50,10 +50,6 @@ pub record Stored (M : Type 0) : Type 0 where
   pub words : List ℕ
   pub index : List Entry
   pub model : M
-
--- A model's precision and its table, as coding sees them.
-abbrev pub model_at : {M : Type 0} → ℕ → (M → List (ℕ × ℕ × ℕ)) → M → Model ℕ
-model_at precision table model = record { precision = precision; table = table model }
 
 -- The run at a position: its interval after `place` words.
 abbrev pub run_from : ℕ → ℕ → ℕ → Run

@@ -5,10 +5,10 @@ ghost use Rattle.constriction_base.specs.Models.{items_of};
 ghost use Rattle.constriction_base.specs.Steps.{IsSizes};
 ghost use Rattle.constriction_queue.specs.Encoder.{left_to_encode, run_by};
 ghost use Rattle.constriction_queue.specs.Range.{initial};
-ghost use Rattle.constriction_queue.specs.Symbols.{NarrowsAll};
+ghost use Rattle.constriction_queue.specs.Symbols.{NarrowsAll, model_at};
 ghost use Rattle.constriction_store.specs.Built.{BuildFails, EncodingFails};
 ghost use Rattle.constriction_store.specs.Chunks.{count_of, lists_of};
-ghost use Rattle.constriction_store.specs.Stores.{HoldsChunks, Indexes, IsBuilt, entry_at, model_at};
+ghost use Rattle.constriction_store.specs.Stores.{HoldsChunks, Indexes, IsBuilt, entry_at};
 
 use crate::{MOST_SYMBOLS, Store};
 use constriction_base::backends::Pos;

@@ -4,10 +4,11 @@ ghost use Rattle.std.specs.Prelude.{◌≡◌, ◌+◌, ◌/◌, ℕ, List, map,
 ghost use Rattle.constriction_base.specs.Models.{Model, IsModel};
 ghost use Rattle.constriction_base.specs.Steps.{IsSizes, AreWords};
 ghost use Rattle.constriction_queue.specs.Range.{Run};
+ghost use Rattle.constriction_queue.specs.Symbols.{model_at};
 ghost use Rattle.constriction_store.specs.Chunks.{chunk_in, lists_of};
 ghost use Rattle.constriction_store.specs.LookedUp.{AreChunks, FailsFirst, HasNoChunks, StoreHoldsEach};
 ghost use Rattle.constriction_store.specs.Stores.{Agree, Entry, FindsAt, HoldsChunk, HoldsNoChunk, IsBuilt};
-ghost use Rattle.constriction_store.specs.Stores.{StoreHoldsChunks, model_at};
+ghost use Rattle.constriction_store.specs.Stores.{StoreHoldsChunks};
 
 use crate::{BuildError, ChunkError, Store};
 use constriction_base::model::{DecoderModel, EncoderModel, EntropyModel};

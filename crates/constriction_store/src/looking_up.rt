@@ -6,9 +6,9 @@ ghost use Rattle.constriction_base.specs.Models.{items_of};
 ghost use Rattle.constriction_queue.specs.Decoder.{StandsAt};
 ghost use Rattle.constriction_queue.specs.Range.{Run};
 ghost use Rattle.constriction_queue.specs.States.{lower_of, range_of};
-ghost use Rattle.constriction_queue.specs.Symbols.{FindsAll};
+ghost use Rattle.constriction_queue.specs.Symbols.{FindsAll, model_at};
 ghost use Rattle.constriction_store.specs.LookedUp.{ChunkFails, IsChunk, LookUpFails};
-ghost use Rattle.constriction_store.specs.Stores.{StoreHoldsChunk, model_at, run_from};
+ghost use Rattle.constriction_store.specs.Stores.{StoreHoldsChunk, run_from};
 
 use crate::Store;
 use constriction_base::backends::{Queue, ReadWords, Seek};
