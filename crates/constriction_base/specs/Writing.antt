@@ -1,6 +1,7 @@
 -- Writing the words that a call owes to a backend, and what the backend holds where a write is refused. The owed words
 -- are those that the call has to write. In each list of words, the word that is written last and read next comes first.
-use Rattle.std.specs.Prelude.{◌≡◌, ◌⊎◌, ℕ, ◌+◌, ◌*◌, ◌^◌, ◌<◌, ◌≤◌, List, [], ◌∷◌, ◌++◌, Result, Ok, Err, length, map, OnOk, OnErr, IfErr, IsOk}
+use Rattle.std.specs.Prelude.{◌≡◌, ◌⊎◌, ℕ, ◌+◌, ◌*◌, ◌^◌, ◌<◌, ◌≤◌, List, [], ◌∷◌, ◌++◌, Result, Ok, Err, drop, length, map, OnOk, OnErr, IfErr, IsOk, MatchResult}
+use Rattle.constriction_base.specs.Digits.{fixed_digits}
 use Rattle.constriction_base.specs.declared.backends.reading.Holds as holding
 use Rattle.constriction_base.specs.declared.backends.writing.WriteWords as writing
 
@@ -87,6 +88,34 @@ abbrev pub NotWritten : {W B E S : Type 0} → (W → ℕ) → holding.Ghosts B 
 NotWritten number holds writes owed old e =
     (writes.room old < length owed)
     × (writes.prepare_fails old (length owed) e ⊎ RefusedWrite number holds writes owed old e)
+
+-- ---- the lowest words of a head: an error comes with the number of words that were written before it
+
+-- A call writes the lowest `count` words of a head, or stops at a refused write.
+abbrev pub WritesHead : {W B E S : Type 0} → (W → ℕ) → holding.Ghosts B W S → writing.Ghosts B W E → ℕ → ℕ → ℕ → B → Result (Unit {0}) (ℕ × E) → B → Type 0
+WritesHead number holds writes w count head old answer new =
+    MatchResult answer
+    (λ done. WritesAll number holds writes (fixed_digits (2 ^ w) count head) old (Ok done) new)
+    (λ refused. WritesAll number holds writes (fixed_digits (2 ^ w) count head) old (Err refused.1) new)
+
+-- A call asks for room for them and then writes them.
+abbrev pub AppendsHead : {W B E S : Type 0} → (W → ℕ) → holding.Ghosts B W S → writing.Ghosts B W E → ℕ → ℕ → ℕ → B → Result (Unit {0}) (ℕ × E) → B → Type 0
+AppendsHead number holds writes w count head old answer new =
+    MatchResult answer
+    (λ done. Appends number holds writes (fixed_digits (2 ^ w) count head) old (Ok done) new)
+    (λ refused. Appends number holds writes (fixed_digits (2 ^ w) count head) old (Err refused.1) new)
+
+-- An error of that call: no word was written; or, where a request for room makes none, a write was refused.
+abbrev pub RefusesHead : {W B E S : Type 0} → (W → ℕ) → holding.Ghosts B W S → writing.Ghosts B W E → ℕ → ℕ → ℕ → B → ℕ × E → B → Type 0
+RefusesHead number holds writes w count head old refused new =
+    (refused.0 ≡ 0) ⊎ RefusesWrite number holds writes (fixed_digits (2 ^ w) count head) old refused.1 new
+
+-- The old words lie below those that were written: all `count`, or those before an error.
+abbrev pub LeavesBelow : {W B E S : Type 0} → holding.Ghosts B W S → ℕ → B → Result (Unit {0}) (ℕ × E) → B → Type 0
+LeavesBelow holds count old answer new =
+    MatchResult answer
+    (λ _. drop count (holds.words new) ≡ holds.words old)
+    (λ refused. drop refused.0 (holds.words new) ≡ holds.words old)
 
 -- The highest set bit of n stands right above m words of w bits: n has m * w + 1 bits without leading zeros.
 pub record IsOneAbove (w m n : ℕ) : Type 0 where

@@ -4,12 +4,12 @@
 //! many words it wrote before that write. The stack coder's guard needs this number to take the words off again,
 //! because generic code can't count the words on a backend.
 
-ghost use Rattle.std.specs.Prelude.{Err, IfErr, IfNone, IfOk, IfSome, MatchResult, Ok, drop, ℕ, ◌+◌, ◌<◌};
-ghost use Rattle.std.specs.Prelude.{true, ◌^◌, ◌≡◌, ◌≤◌, ◌⊎◌};
-ghost use Rattle.constriction_base.specs.Digits.{count_of_words, fixed_digits};
+ghost use Rattle.std.specs.Prelude.{IfErr, IfNone, IfOk, IfSome, Ok, ℕ, ◌+◌, ◌<◌};
+ghost use Rattle.std.specs.Prelude.{true, ◌^◌, ◌≡◌, ◌≤◌};
+ghost use Rattle.constriction_base.specs.Digits.{count_of_words};
 ghost use Rattle.constriction_base.specs.Readings.{Fills};
 ghost use Rattle.constriction_base.specs.Steps.{IsSizes};
-ghost use Rattle.constriction_base.specs.Writing.{Appends, IsOneAbove, RefusesWrite, WritesAll};
+ghost use Rattle.constriction_base.specs.Writing.{AppendsHead, IsOneAbove, LeavesBelow, RefusesHead, WritesHead};
 
 use crate::backends::reading::{Holds, ReadWords};
 use crate::backends::semantics::Stack;
@@ -66,14 +66,9 @@ pub fn write_words<Word: WordOf<State>, State: BitArray, Backend: WriteWords<Wor
     count: usize,
 ) -> Result<(), (usize, Backend::WriteError)>
     requires { IsSizes Word.BITS State.BITS }
-    ensures written { MatchResult result
-        (λ done. WritesAll Word.number Backend.Holds Backend.WriteWords.own
-        (fixed_digits (2 ^ Word.BITS) count (State.number head)) bulk.old (Ok done) bulk.new)
-        (λ refused. WritesAll Word.number Backend.Holds Backend.WriteWords.own
-        (fixed_digits (2 ^ Word.BITS) count (State.number head)) bulk.old (Err refused.1) bulk.new) }
-    ensures back { MatchResult result
-        (λ _. drop count (Backend.words bulk.new) ≡ Backend.words bulk.old)
-        (λ refused. drop refused.0 (Backend.words bulk.new) ≡ Backend.words bulk.old) }
+    ensures written { WritesHead Word.number Backend.Holds Backend.WriteWords.own Word.BITS
+        count (State.number head) bulk.old result bulk.new }
+    ensures back { LeavesBelow Backend.Holds count bulk.old result bulk.new }
 {
     let mut rest = head;
     let mut left = count;
@@ -102,18 +97,12 @@ pub fn append_words<Word: WordOf<State>, State: BitArray, Backend: WriteWords<Wo
     count: usize,
 ) -> Result<(), (usize, Backend::WriteError)>
     requires { IsSizes Word.BITS State.BITS }
-    ensures written { MatchResult result
-        (λ done. Appends Word.number Backend.Holds Backend.WriteWords.own
-        (fixed_digits (2 ^ Word.BITS) count (State.number head)) bulk.old (Ok done) bulk.new)
-        (λ refused. Appends Word.number Backend.Holds Backend.WriteWords.own
-        (fixed_digits (2 ^ Word.BITS) count (State.number head)) bulk.old (Err refused.1) bulk.new) }
-    ensures back { MatchResult result
-        (λ _. drop count (Backend.words bulk.new) ≡ Backend.words bulk.old)
-        (λ refused. drop refused.0 (Backend.words bulk.new) ≡ Backend.words bulk.old) }
+    ensures written { AppendsHead Word.number Backend.Holds Backend.WriteWords.own Word.BITS
+        count (State.number head) bulk.old result bulk.new }
+    ensures back { LeavesBelow Backend.Holds count bulk.old result bulk.new }
     // Words are written before an error only if a write was refused.
-    ensures refused { IfErr result (λ refused. (refused.0 ≡ 0)
-        ⊎ RefusesWrite Word.number Backend.Holds Backend.WriteWords.own
-        (fixed_digits (2 ^ Word.BITS) count (State.number head)) bulk.old refused.1 bulk.new) }
+    ensures refused { IfErr result (λ refused. RefusesHead Word.number Backend.Holds Backend.WriteWords.own Word.BITS
+        count (State.number head) bulk.old refused bulk.new) }
 {
     if count == 0 {
         return Ok(());

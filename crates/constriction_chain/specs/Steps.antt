@@ -1,7 +1,7 @@
 -- The possible results of a chain coder's steps over any backends. The definitions use only the backends' ghost
 -- members: their words, the results of a read, and the errors of a write and of `prepare`. A backend knows its words if
 -- its `is_list` holds.
-use Rattle.std.specs.Prelude.{◌≡◌, ◌⊎◌, ⊤, ℕ, ◌+◌, ◌-◌, ◌*◌, ◌/◌, ◌%◌, ◌^◌, ◌<◌, ◌≤◌, List, length, map, Option, None, Some, Result, Ok, Err}
+use Rattle.std.specs.Prelude.{◌≡◌, ◌⊎◌, ⊤, ℕ, ◌+◌, ◌-◌, ◌*◌, ◌/◌, ◌%◌, ◌^◌, ◌<◌, ◌≤◌, List, length, map, Option, None, Some, Result, Ok, Err, IfOk, IfErr}
 use Rattle.constriction_base.specs.Readings.{ReadsAs}
 use Rattle.constriction_base.specs.Steps.{Step}
 use Rattle.constriction_base.specs.Windows.{IsInWindow, IsMovedOut}
@@ -10,7 +10,7 @@ use Rattle.constriction_base.specs.declared.backends.reading.ReadWords as readin
 use Rattle.constriction_base.specs.declared.backends.writing.WriteWords as writing
 use Rattle.constriction_base.specs.declared.errors.CoderError.{CoderError}
 use Rattle.constriction_base.specs.declared.errors.CoderError.TheVariants.{Frontend, Backend}
-use Rattle.constriction_chain.specs.Chain.{ChainState, ChainValue, IsBroughtBelow, IsChainCoder, IsDecode, IsEncode, IsRemaindersHead, least}
+use Rattle.constriction_chain.specs.Chain.{ChainState, ChainValue, IsBroughtBelow, IsChainCoder, IsDecode, IsEncode, IsRemaindersHead, at_heads, least}
 use Rattle.constriction_chain.specs.Walk.{IsQuantile, NeedsWord, OwesWord, TakenBy}
 use Rattle.constriction_chain.specs.declared.errors.BackendError.{BackendError}
 use Rattle.constriction_chain.specs.declared.errors.BackendError.TheVariants.{Compressed, Remainders}
@@ -60,6 +60,12 @@ pub record NotKept {W R S F : Type 0} (holds : holding.Ghosts R W S) (writes : w
   pub fails : writes.write_fails old error
   pub high : least w s P * 2 ^ w ≤ gained
   pub words : holds.words new ≡ holds.words old
+
+-- that number is brought back into its window: what the call answers and leaves
+pub record Keeps {W V R S F : Type 0} (number : W → ℕ) (remainders_number : V → ℕ) (holds : holding.Ghosts R W S) (writes : writing.Ghosts R W F)
+    (w s P gained : ℕ) (old : R) (answer : Result V F) (new : R) : Type 0 where
+  pub ok : IfOk answer (λ r. Kept number holds writes w s P gained old (remainders_number r) new)
+  pub err : IfErr answer (λ error. NotKept holds writes w s P gained old error new)
 
 -- An encode asks the backend for room for one word, if a quantile of P bits makes the head h too long. Otherwise the
 -- backend is unchanged.
@@ -142,6 +148,17 @@ module _ {W C R S E F : Type 0} (number : W → ℕ) (compressed_holds : holding
     pub stays : Stays compressed_holds.is_list (λ x. x.remainders) old.state new.state
     -- The remainders' backend loses no room.
     pub room_left : remainders_writes.room old.remainders ≤ remainders_writes.room new.remainders
+
+  -- the first half of a decode on heads and backends: a quantile was taken, or the decode halted
+  pub record TakesAtHeads {V : Type 0} (remainders_number : V → ℕ) (w s P : ℕ) (heads : W × V) (old : C) (other : R)
+      (answer : Result (W × W) (CoderError DecoderFrontendError (BackendError E F))) (new : C) (other' : R) : Type 0 where
+    pub ok : IfOk answer (λ found. Took w s P
+        (at_heads number remainders_number compressed_holds remainders_holds heads old other)
+        (number found.0) (number found.1)
+        (at_heads number remainders_number compressed_holds remainders_holds heads new other'))
+    pub err : IfErr answer (λ e. Halted w s P
+        (at_heads number remainders_number compressed_holds remainders_holds heads old other) e
+        (at_heads number remainders_number compressed_holds remainders_holds heads new other'))
 
   -- A decode by the step e succeeds.
   pub record Decoded (w s : ℕ) (old : ChainValue C R) (e : Step) (new : ChainValue C R) : Type 0 where
@@ -253,6 +270,19 @@ module _ {W C R S E F : Type 0} (number : W → ℕ) (compressed_holds : holding
     pub before : IsChainCoder number compressed_holds remainders_holds w s e.precision old
     pub after : IsChainCoder number compressed_holds remainders_holds w s e.precision new
     pub outcome : EncodeAnswers w s old e answer new
+
+  -- an encode on heads and backends, of the step with the interval of length p from left on: new heads come, or an error
+  -- that leaves the heads
+  pub record EncodesAtHeads {V : Type 0} (remainders_number : V → ℕ) (w s P : ℕ) (left p : W) (heads : W × V) (old : C) (other : R)
+      (answer : Result (W × V) (CoderError EncoderFrontendError (BackendError E F))) (new : C) (other' : R) : Type 0 where
+    pub ok : IfOk answer (λ after. EncodeCall w s
+        (at_heads number remainders_number compressed_holds remainders_holds heads old other)
+        (record { precision = P; left = number left; p = number p }) (Ok tt)
+        (at_heads number remainders_number compressed_holds remainders_holds after new other'))
+    pub err : IfErr answer (λ e. EncodeCall w s
+        (at_heads number remainders_number compressed_holds remainders_holds heads old other)
+        (record { precision = P; left = number left; p = number p }) (Err e)
+        (at_heads number remainders_number compressed_holds remainders_holds heads new other'))
 
   -- An encode by a step never fails with `ImpossibleSymbol`.
   pub never_encoded : {w s : ℕ} {old new : ChainValue C R} {step : Step} (e : EncoderFrontendError) → e ≡ ImpossibleSymbol

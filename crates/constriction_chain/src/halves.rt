@@ -3,12 +3,11 @@
 //! The heads are two numbers here, not a struct with a const parameter. In a function that is generic over two backends
 //! and a model, the struct would make the proof's conditions too large for the checker.
 
-ghost use Rattle.constriction_base.specs.Steps.{Step};
 ghost use Rattle.constriction_base.specs.Tables.{Covers};
-ghost use Rattle.constriction_chain.specs.Chain.{IsRemaindersHead, IsSized, at_heads};
-ghost use Rattle.constriction_chain.specs.Steps.{EncodeCall, Halted, Kept, NotKept, Took};
+ghost use Rattle.constriction_chain.specs.Chain.{IsRemaindersHead, IsSized};
+ghost use Rattle.constriction_chain.specs.Steps.{EncodesAtHeads, Keeps, TakesAtHeads};
 ghost use Rattle.constriction_words.specs.Reciprocals.{IsReciprocalOf};
-ghost use Rattle.std.specs.Prelude.{Err, IfErr, IfOk, IfSome, Ok, ◌%◌, ◌*◌, ◌+◌, ◌-◌, ◌/◌, ◌<◌, ◌^◌, ◌≡◌, ◌≤◌};
+ghost use Rattle.std.specs.Prelude.{IfSome, ◌%◌, ◌*◌, ◌+◌, ◌-◌, ◌/◌, ◌<◌, ◌^◌, ◌≡◌, ◌≤◌};
 
 use crate::errors::{BackendError, DecoderError, EncoderError, EncoderFrontendError};
 use crate::steps::{gain, give_quantile, prepare_for_quantile, regain, take_quantile};
@@ -30,15 +29,9 @@ pub fn take<Word: WordOf<State>, State: BitArray, C: ReadWords<Word, Stack>, R: 
     requires sized { IsSized Word.BITS State.BITS precision }
     requires head { 0 < Word.number heads.0 }
     requires window { IsRemaindersHead Word.BITS State.BITS precision (State.number heads.1) }
-    ensures ok { IfOk result (λ found. Took Word.number C.Holds C.ReadWords.own R.Holds R.WriteWords.own
-        Word.BITS State.BITS precision
-        (at_heads Word.number State.number C.Holds R.Holds heads compressed.old remainders.old)
-        (Word.number found.0) (Word.number found.1)
-        (at_heads Word.number State.number C.Holds R.Holds heads compressed.new remainders.new)) }
-    ensures err { IfErr result (λ e. Halted Word.number C.Holds C.ReadWords.own R.Holds R.WriteWords.own
-        Word.BITS State.BITS precision
-        (at_heads Word.number State.number C.Holds R.Holds heads compressed.old remainders.old) e
-        (at_heads Word.number State.number C.Holds R.Holds heads compressed.new remainders.new)) }
+    ensures { TakesAtHeads Word.number C.Holds C.ReadWords.own R.Holds R.WriteWords.own State.number
+        Word.BITS State.BITS precision heads compressed.old remainders.old
+        result compressed.new remainders.new }
 {
     take_quantile(compressed, remainders, heads.0, precision)
 }
@@ -60,12 +53,9 @@ pub fn keep<Word: WordOf<State>, State: BitArray, R: WriteWords<Word>>(
     requires window { IsRemaindersHead Word.BITS State.BITS precision (State.number r) }
     requires covers { Covers (Word.number left) (Word.number p) (Word.number quantile) }
     requires few { Word.number p ≤ 2 ^ precision }
-    ensures ok { IfOk result (λ new. Kept Word.number R.Holds R.WriteWords.own Word.BITS State.BITS precision
+    ensures { Keeps Word.number State.number R.Holds R.WriteWords.own Word.BITS State.BITS precision
         (State.number r * Word.number p + (Word.number quantile - Word.number left))
-        remainders.old (State.number new) remainders.new) }
-    ensures err { IfErr result (λ e. NotKept R.Holds R.WriteWords.own Word.BITS State.BITS precision
-        (State.number r * Word.number p + (Word.number quantile - Word.number left))
-        remainders.old e remainders.new) }
+        remainders.old result remainders.new }
 {
     let t = quantile.minus(left).widen();
     match gain::<Word, State, R>(remainders, r, p.widen(), t, precision) {
@@ -116,16 +106,9 @@ fn give_at<Word: WordOf<State>, State: BitArray, C: WriteWords<Word>, R: ReadWor
     requires some { 0 < Word.number p }
     requires reciprocal { IfSome reciprocal (λ r. IsReciprocalOf r (Word.number p)) }
     requires total { Word.number left + Word.number p ≤ 2 ^ precision }
-    ensures ok { IfOk result (λ new. EncodeCall Word.number C.Holds C.WriteWords.own R.Holds R.ReadWords.own
-        Word.BITS State.BITS
-        (at_heads Word.number State.number C.Holds R.Holds heads compressed.old remainders.old)
-        record { precision = precision; left = Word.number left; p = Word.number p } (Ok tt)
-        (at_heads Word.number State.number C.Holds R.Holds new compressed.new remainders.new)) }
-    ensures err { IfErr result (λ e. EncodeCall Word.number C.Holds C.WriteWords.own R.Holds R.ReadWords.own
-        Word.BITS State.BITS
-        (at_heads Word.number State.number C.Holds R.Holds heads compressed.old remainders.old)
-        record { precision = precision; left = Word.number left; p = Word.number p } (Err e)
-        (at_heads Word.number State.number C.Holds R.Holds heads compressed.new remainders.new)) }
+    ensures { EncodesAtHeads Word.number C.Holds C.WriteWords.own R.Holds R.ReadWords.own State.number
+        Word.BITS State.BITS precision left p heads compressed.old remainders.old
+        result compressed.new remainders.new }
 {
     let (h, r) = heads;
     let p: State = p.widen();
@@ -165,16 +148,9 @@ pub fn give<Word: WordOf<State>, State: BitArray, C: WriteWords<Word>, R: ReadWo
     requires some { 0 < Word.number p }
     requires reciprocal { IfSome reciprocal (λ r. IsReciprocalOf r (Word.number p)) }
     requires total { Word.number left + Word.number p ≤ 2 ^ precision }
-    ensures ok { IfOk result (λ new. EncodeCall Word.number C.Holds C.WriteWords.own R.Holds R.ReadWords.own
-        Word.BITS State.BITS
-        (at_heads Word.number State.number C.Holds R.Holds heads compressed.old remainders.old)
-        record { precision = precision; left = Word.number left; p = Word.number p } (Ok tt)
-        (at_heads Word.number State.number C.Holds R.Holds new compressed.new remainders.new)) }
-    ensures err { IfErr result (λ e. EncodeCall Word.number C.Holds C.WriteWords.own R.Holds R.ReadWords.own
-        Word.BITS State.BITS
-        (at_heads Word.number State.number C.Holds R.Holds heads compressed.old remainders.old)
-        record { precision = precision; left = Word.number left; p = Word.number p } (Err e)
-        (at_heads Word.number State.number C.Holds R.Holds heads compressed.new remainders.new)) }
+    ensures { EncodesAtHeads Word.number C.Holds C.WriteWords.own R.Holds R.ReadWords.own State.number
+        Word.BITS State.BITS precision left p heads compressed.old remainders.old
+        result compressed.new remainders.new }
 {
     match reciprocal {
         Some(reciprocal) => give_at(

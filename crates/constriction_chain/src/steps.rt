@@ -1,7 +1,7 @@
 //! The parts of a step, each on the compressed side or the remainders' side.
 
 ghost use Rattle.constriction_chain.specs.Chain.{IsRemaindersHead, IsSized, least};
-ghost use Rattle.constriction_chain.specs.Steps.{Given, Halts, Kept, Lacks, NotKept, Prepared, Regained, Taken};
+ghost use Rattle.constriction_chain.specs.Steps.{Given, Halts, Keeps, Lacks, Prepared, Regained, Taken};
 ghost use Rattle.constriction_chain.specs.Walk.{NeedsWord, OwesWord};
 ghost use Rattle.constriction_chain.specs.Words.{IfFound, OnNone};
 ghost use Rattle.std.specs.Prelude.{Err, IfErr, IfOk, MatchBool, None, Ok, OnErr, OnOk};
@@ -91,10 +91,8 @@ pub fn gain<Word: WordOf<State>, State: BitArray, R: WriteWords<Word>>(
     requires window { IsRemaindersHead Word.BITS State.BITS precision (State.number r) }
     requires inside { State.number t < State.number p }
     requires few { State.number p ≤ 2 ^ precision }
-    ensures ok { IfOk result (λ x. Kept Word.number R.Holds R.WriteWords.own Word.BITS State.BITS precision
-        (State.number r * State.number p + State.number t) remainders.old (State.number x) remainders.new) }
-    ensures err { IfErr result (λ e. NotKept R.Holds R.WriteWords.own Word.BITS State.BITS precision
-        (State.number r * State.number p + State.number t) remainders.old e remainders.new) }
+    ensures { Keeps Word.number State.number R.Holds R.WriteWords.own Word.BITS State.BITS precision
+        (State.number r * State.number p + State.number t) remainders.old result remainders.new }
 {
     let gained = r.times(p).plus(t);
     if gained.shifted_right(State::BITS - precision).is_nothing() {

@@ -1,6 +1,6 @@
 -- The possible results of a range coder's calls over any backend. The definitions use only the backend's rules: its
 -- words, the possible results of a read, and the possible errors of a write and of `prepare`.
-use Rattle.std.specs.Prelude.{◌≡◌, ℕ, ◌+◌, ◌<◌, ◌≤◌, ◌⊎◌, Bool, List, [], ◌++◌, Option, Result, Err, length, map, reverse, OnOk, OnErr, IfErr}
+use Rattle.std.specs.Prelude.{◌≡◌, ℕ, ◌+◌, ◌-◌, ◌<◌, ◌≤◌, ◌^◌, ◌⊎◌, Bool, List, [], ◌++◌, Option, Result, Ok, Err, length, map, reverse, OnOk, OnErr, IfOk, IfErr}
 use Rattle.constriction_base.specs.Steps.{Step}
 use Rattle.constriction_base.specs.Writing.{IsBegun, NotWritten, RefusesWrite}
 use Rattle.constriction_base.specs.declared.backends.semantics.Queue.{Queue}
@@ -9,9 +9,11 @@ use Rattle.constriction_base.specs.declared.backends.reading.ReadWords as readin
 use Rattle.constriction_base.specs.declared.backends.writing.WriteWords as writing
 use Rattle.constriction_base.specs.declared.errors.ReadWriteError.{ReadWriteError}
 use Rattle.constriction_base.specs.declared.errors.ReadWriteError.TheVariants.{Read, Write}
-use Rattle.constriction_queue.specs.Range.{narrowed_by, initial}
-use Rattle.constriction_queue.specs.Encoder.{Encoder, IsEncoder, HasHeads, Owes, run_by, sealed_by}
-use Rattle.constriction_queue.specs.Decoder.{Decoder, IsDecoder, StandsAt, Follows, BeginsOver, RefusesPoint, quantile_read, OwesRead, ReadsStep}
+use Rattle.constriction_queue.specs.Range.{narrowed_by}
+use Rattle.constriction_queue.specs.declared.situation.EncoderSituation.{EncoderSituation}
+use Rattle.constriction_queue.specs.declared.step.Shifted.{Shifted}
+use Rattle.constriction_queue.specs.Encoder.{Encoder, IsEncoder, HasHeads, Owes, PartsFit, encoder_of, run_by, sealed_by, shifted_over}
+use Rattle.constriction_queue.specs.Decoder.{Decoder, IsDecoder, StandsAtStart, Follows, BeginsOver, RefusesPoint, quantile_read, OwesRead, ReadsStep}
 use Rattle.constriction_queue.specs.SelfDelimiting.{SelfDelimits}
 
 -- The encoder writes the words that the step has to write.
@@ -55,6 +57,19 @@ pub record EncodeCall {Word B E S : Type 0} (number : Word → ℕ) (holds : hol
   -- An error comes only if there are words to write, from `prepare` or from a write.
   pub error : IfErr answer (λ e. IsRefused number holds writes w s old step e new)
 
+-- an encode of a step onto an interval, held words and a backend: what it answers and leaves
+pub record EncodesOnto {Word State B E S : Type 0} (number : Word → ℕ) (state : State → ℕ) (holds : holding.Ghosts B Word S) (writes : writing.Ghosts B Word E)
+    (w s : ℕ) (lower range : State) (situation : EncoderSituation Word) (step : Step) (old : B) (answer : Result (Shifted Word State) E) (new : B) : Type 0 where
+  pub ok : IfOk answer (λ after. EncodeCall number holds writes w s
+      (encoder_of number holds w (state lower) (state range) old situation) step (Ok tt) (shifted_over number state holds w after new))
+  -- the new interval is long enough, and its held words fit it
+  pub wide : IfOk answer (λ after. 2 ^ (s - w) ≤ state after.range)
+  pub fit : IfOk answer (λ after. PartsFit number w s after.situation (state after.lower) (state after.range))
+  -- an error leaves the interval and the held words
+  pub err : IfErr answer (λ e. EncodeCall number holds writes w s
+      (encoder_of number holds w (state lower) (state range) old situation) step (Err e)
+      (encoder_of number holds w (state lower) (state range) new situation))
+
 -- An export fails, because the backend refuses room for the pending words and the seal, or refuses a write. `all` holds
 -- for the list of words that a successful export would return.
 pub record ExportRefused {Word B E S : Type 0} (number : Word → ℕ) (holds : holding.Ghosts B Word S) (writes : writing.Ghosts B Word E) (all : List ℕ → Type 0) (old : Encoder B) (e : E) : Type 0 where
@@ -90,7 +105,7 @@ abbrev pub DecodesSealed : {Word B S R Q F : Type 0} → (Word → ℕ) → hold
     → ℕ → ℕ → Encoder B → Decoder R → Type 0
 DecodesSealed number holds becomes read_holds reads w s encoder decoder =
     IsDecoder number read_holds w s decoder
-    × (read_holds.is_list → StandsAt w s (sealed_by w s encoder) (initial s) decoder)
+    × (read_holds.is_list → StandsAtStart w s (sealed_by w s encoder) decoder)
     × BeginsSealed number holds becomes reads w s encoder decoder
 
 -- Creating a decoder of an encoder's sealed words fails, because a read of its first words returns an error.

@@ -1,10 +1,10 @@
 -- The value of a range decoder in contracts, and the quantile that it reads.
-use Rattle.std.specs.Prelude.{◌≡◌, ℕ, ◌+◌, ◌-◌, ◌*◌, ◌/◌, ◌%◌, ◌<◌, ◌≤◌, ◌^◌, ◌⊎◌, Bool, true, false, IsTrue, List, [], ◌∷◌, ◌++◌, Some, None, Ok, Err, map, drop, length}
+use Rattle.std.specs.Prelude.{◌≡◌, ℕ, ◌+◌, ◌-◌, ◌*◌, ◌/◌, ◌%◌, ◌<◌, ◌≤◌, ◌^◌, ◌⊎◌, Bool, true, false, IsTrue, List, [], ◌∷◌, ◌++◌, Some, None, Result, Ok, Err, map, drop, length, IfOk, IfErr, OnErr}
 use Rattle.constriction_base.specs.Steps.{Step, IsSizes}
 use Rattle.constriction_base.specs.declared.backends.reading.Holds as holding
 use Rattle.constriction_base.specs.declared.backends.reading.ReadWords as reading
 use Rattle.constriction_queue.specs.declared.reading.Placed.{Placed}
-use Rattle.constriction_queue.specs.Range.{Run, IsAt, narrowed_by, number_of_first}
+use Rattle.constriction_queue.specs.Range.{Run, IsAt, grown, initial, narrowed_by, number_of_first}
 
 -- The value of a decoder: its backend, the remaining words, its interval, and its point. The point (code value) is the
 -- number formed by the last `s / w` words read.
@@ -27,6 +27,10 @@ decoder_at number holds s lower range distance bulk = decoder_of number holds lo
 abbrev pub placed_over : {Word State B S : Type 0} → (Word → ℕ) → (State → ℕ) → holding.Ghosts B Word S → ℕ → Placed State → B → Decoder B
 placed_over number state holds s placed bulk = decoder_at number holds s (state placed.lower) (state placed.range) (state placed.distance) bulk
 
+-- an interval, and how far the point lies above its low end
+abbrev pub placed_at : {State : Type 0} → State → State → State → Placed State
+placed_at lower range distance = record { lower = lower; range = range; distance = distance }
+
 -- The invariant of every decoder. Its sizes are allowed, and its words are the words of its backend. The interval's
 -- length is at least `2 ^ (s - w)`. Both numbers of the interval and the point are below `2 ^ s`.
 pub record IsDecoder {Word B S : Type 0} (number : Word → ℕ) (holds : holding.Ghosts B Word S) (w s : ℕ) (d : Decoder B) : Type 0 where
@@ -48,6 +52,10 @@ quantile_read s precision d = distance s d / (d.range / 2 ^ precision)
 -- The decoder has reached this run in the words: its interval, its point and its remaining words match the run.
 abbrev pub StandsAt : {B : Type 0} → ℕ → ℕ → List ℕ → Run → Decoder B → Type 0
 StandsAt w s words r d = IsAt w s words r d.lower d.range d.point d.words
+
+-- a decoder stands at the beginning of the words
+abbrev pub StandsAtStart : {B : Type 0} → ℕ → ℕ → List ℕ → Decoder B → Type 0
+StandsAtStart w s words d = StandsAt w s words (initial s) d
 
 -- For every list of words: if the old decoder has reached a run `r` in it, the new decoder has reached `next r`.
 abbrev pub Follows : {B : Type 0} → ℕ → ℕ → (Run → Run) → Decoder B → Decoder B → Type 0
@@ -115,6 +123,32 @@ ReadsOn number reads w s next owes old new =
 -- The decoder takes the step. It makes exactly one read if it has to read a word, and otherwise no read.
 abbrev pub ReadsStep : {Word E B S : Type 0} → (Word → ℕ) → reading.Ghosts B Word S E → ℕ → ℕ → Step → Decoder B → Decoder B → Type 0
 ReadsStep number reads w s step old new = ReadsOn number reads w s (narrowed_by w s step) (OwesRead w s step old.range) old new
+
+-- an interval and a point change over a backend: what the call answers and leaves
+pub record ChangesByReading {Word State B S E : Type 0} (number : Word → ℕ) (state : State → ℕ) (holds : holding.Ghosts B Word S) (rules : reading.Ghosts B Word S E)
+    (w s : ℕ) (next : Run → Run) (owes : Type 0) (old : Placed State) (bulk : B) (answer : Result (Placed State) E) (bulk' : B) : Type 0 where
+  -- the new interval is long enough
+  pub wide : IfOk answer (λ now. 2 ^ (s - w) ≤ state now.range)
+  -- over a backend that knows its words, each moment of reading leads to the next
+  pub list : holds.is_list → IfOk answer (λ now. Follows w s next (placed_over number state holds s old bulk) (placed_over number state holds s now bulk'))
+  -- and an error leaves them
+  pub kept : holds.is_list → OnErr answer (holds.words bulk' ≡ holds.words bulk)
+  -- by the reads: just one word was read, where one is owed, and none else
+  pub reads : IfOk answer (λ now. ReadsOn number rules w s next owes (placed_over number state holds s old bulk) (placed_over number state holds s now bulk'))
+  -- an error is that of the one read that is owed
+  pub err : IfErr answer (λ e. owes × rules.reads bulk (Err e) bulk')
+
+-- the interval grows by a word where it is short
+abbrev pub GrowsByReading : {Word State B S E : Type 0} → (Word → ℕ) → (State → ℕ) → holding.Ghosts B Word S → reading.Ghosts B Word S E → ℕ → ℕ
+    → Placed State → B → Result (Placed State) E → B → Type 0
+GrowsByReading number state holds rules w s old bulk answer bulk' =
+    ChangesByReading number state holds rules w s (grown w s) (state old.range < 2 ^ (s - w)) old bulk answer bulk'
+
+-- it is narrowed by a step
+abbrev pub NarrowsByReading : {Word State B S E : Type 0} → (Word → ℕ) → (State → ℕ) → holding.Ghosts B Word S → reading.Ghosts B Word S E → ℕ → ℕ
+    → Step → Placed State → B → Result (Placed State) E → B → Type 0
+NarrowsByReading number state holds rules w s step old bulk answer bulk' =
+    ChangesByReading number state holds rules w s (narrowed_by w s step) (OwesRead w s step (state old.range)) old bulk answer bulk'
 
 -- All encoded symbols may have been decoded. The backend's `maybe_exhausted` returns `true`. In addition, no symbol was
 -- decoded, or the point is as close to the lower end of the interval as after a seal.

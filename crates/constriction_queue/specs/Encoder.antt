@@ -7,8 +7,9 @@ use Rattle.constriction_base.specs.declared.backends.reading.Holds as holding
 use Rattle.constriction_queue.specs.declared.situation.EncoderSituation.{EncoderSituation}
 use Rattle.constriction_queue.specs.declared.situation.EncoderSituation.TheVariants.{Normal, Inverted}
 use Rattle.constriction_queue.specs.declared.situation.HeldWords.{HeldWords}
+use Rattle.constriction_queue.specs.declared.step.Part.{Part}
 use Rattle.constriction_queue.specs.declared.step.Shifted.{Shifted}
-use Rattle.constriction_queue.specs.Range.{Run, narrowed_by, sealed}
+use Rattle.constriction_queue.specs.Range.{Run, cut, grown, narrowed_by, sealed}
 
 -- The number whose digits in base `b` are the words. The first word of the list is the lowest digit.
 abbrev pub number_of : ℕ → List ℕ → ℕ
@@ -18,6 +19,10 @@ number_of b (w ∷ ws) = number_of b ws * b + w
 -- A list of `count` words: in writing order, `first` comes first, and every word after it equals `others`.
 abbrev pub words_held : ℕ → ℕ → ℕ → List ℕ
 words_held others count first = replicate (count - 1) others ++ first ∷ []
+
+-- words that were held, with a carry added to them or without one
+abbrev pub words_let_go : ℕ → Bool → ℕ → ℕ → List ℕ
+words_let_go w carry count first = words_held (if carry then 0 else 2 ^ w - 1) count (if carry then first + 1 else first)
 
 -- The pending words (outstanding words), which a carry may still change. In writing order, the first of them comes
 -- first, and every word after it is all ones.
@@ -145,6 +150,16 @@ pub record Owes {Word B : Type 0} (number : Word → ℕ) (w s : ℕ) (step : St
   pub lower_fits : lower < 2 ^ s
   pub fits : PartsFit number w s situation lower range
   pub is : run_of w s (held_of number w situation ++ (owed ++ old.words)) lower range ≡ narrowed_by w s step (run_by w s old)
+
+-- the part of a step, with the words that it lets go, means the run cut by the step
+abbrev pub CutsRun : {Word State : Type 0} → (Word → ℕ) → (State → ℕ) → ℕ → ℕ → Step → EncoderSituation Word → State → State → Part Word State → Type 0
+CutsRun number state w s step situation lower range part =
+    ChangesRun number w s (cut step) situation (state lower) (state range) (released_of number part.released) part.situation (state part.lower) (state part.range)
+
+-- an interval after a shift, with the word that the shift writes, means the grown run
+abbrev pub GrowsRun : {Word State : Type 0} → (Word → ℕ) → (State → ℕ) → ℕ → ℕ → EncoderSituation Word → State → State → Shifted Word State → Type 0
+GrowsRun number state w s situation lower range shifted =
+    ChangesRun number w s (grown w s) situation (state lower) (state range) (word_of number shifted.top) shifted.situation (state shifted.lower) (state shifted.range)
 
 -- Read as one number, the new words are the old words plus 1 if `carry` is true, and otherwise the old words. The count
 -- of words is the same.

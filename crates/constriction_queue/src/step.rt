@@ -1,14 +1,12 @@
 //! The arithmetic of an encoder's step.
 
-ghost use Rattle.std.specs.Prelude.{◌≡◌, ◌↔◌, ◌+◌, ◌-◌, ◌*◌, ◌<◌, ◌≤◌, ◌^◌, ◌/◌, [], IsTrue, None, Some, Ok, Err, IfOk};
-ghost use Rattle.std.specs.Prelude.{IfErr};
-ghost use Rattle.std.specs.Prelude.{length, if◌then◌else◌};
+ghost use Rattle.std.specs.Prelude.{◌≡◌, ◌↔◌, ◌+◌, ◌-◌, ◌*◌, ◌<◌, ◌≤◌, ◌^◌, ◌/◌, [], IsTrue, None, Some, length};
 ghost use Rattle.std.specs.Int.NonZero.{non_zero_usize_get};
 ghost use Rattle.constriction_base.specs.Steps.{IsStep, IsSizes};
-ghost use Rattle.constriction_queue.specs.Range.{cut, grown, step_of};
-ghost use Rattle.constriction_queue.specs.Encoder.{encoder_of, shifted_over, held_of, released_of, word_of, words_held};
-ghost use Rattle.constriction_queue.specs.Encoder.{ChangesRun, PartsFit, HasPlace};
-ghost use Rattle.constriction_queue.specs.Calls.{EncodeCall};
+ghost use Rattle.constriction_queue.specs.Range.{step_of};
+ghost use Rattle.constriction_queue.specs.Encoder.{held_of, released_of, words_let_go};
+ghost use Rattle.constriction_queue.specs.Encoder.{CutsRun, GrowsRun, HasPlace, PartsFit};
+ghost use Rattle.constriction_queue.specs.Calls.{EncodesOnto};
 
 use crate::situation::{EncoderSituation, HeldWords, nonzero_count};
 use crate::writing::write_step;
@@ -30,8 +28,8 @@ pub fn reaches_over<State: BitArray>(lower: State, range: State) -> bool
 #[inline]
 pub fn carried<Word: BitArray>(count: NonZeroUsize, first: Word, carry: bool) -> HeldWords<Word>
     requires { Word.number first + 1 < 2 ^ Word.BITS }
-    ensures { released_of Word.number (Some result) ≡ words_held (if carry then 0 else 2 ^ Word.BITS - 1)
-        (non_zero_usize_get count) (if carry then Word.number first + 1 else Word.number first) }
+    ensures { released_of Word.number (Some result)
+        ≡ words_let_go Word.BITS carry (non_zero_usize_get count) (Word.number first) }
 {
     if carry {
         HeldWords {
@@ -80,10 +78,8 @@ pub fn narrowed<Word: WordOf<State>, State: BitArray>(
         ≤ length (held_of Word.number Word.BITS situation) }
     ensures none { held_of Word.number Word.BITS situation ≡ [] → result.released ≡ None }
     ensures range { State.number result.range ≡ State.number range / 2 ^ precision * State.number p }
-    ensures run { ChangesRun Word.number Word.BITS State.BITS
-        (cut (step_of precision (State.number left) (State.number p)))
-        situation (State.number lower) (State.number range) (released_of Word.number result.released)
-        result.situation (State.number result.lower) (State.number result.range) }
+    ensures run { CutsRun Word.number State.number Word.BITS State.BITS
+        (step_of precision (State.number left) (State.number p)) situation lower range result }
 {
     let scale = range.shifted_right(precision);
     let part = scale.times(p);
@@ -141,9 +137,7 @@ pub fn grow<Word: WordOf<State>, State: BitArray>(
         (State.number result.lower) (State.number result.range) }
     ensures held { length (held_of Word.number Word.BITS result.situation)
         ≤ length (held_of Word.number Word.BITS situation) + 1 }
-    ensures run { ChangesRun Word.number Word.BITS State.BITS (grown Word.BITS State.BITS)
-        situation (State.number lower) (State.number range) (word_of Word.number result.top)
-        result.situation (State.number result.lower) (State.number result.range) }
+    ensures run { GrowsRun Word.number State.number Word.BITS State.BITS situation lower range result }
 {
     let below = State::BITS - Word::BITS;
     if !range.shifted_right(below).is_nothing() {
@@ -203,17 +197,9 @@ pub fn step_onto<Word: WordOf<State>, State: BitArray, Backend: WriteWords<Word>
     requires wide { 2 ^ (State.BITS - Word.BITS) ≤ State.number range }
     requires fit { PartsFit Word.number Word.BITS State.BITS situation (State.number lower) (State.number range) }
     requires place { HasPlace situation }
-    ensures ok { IfOk result (λ after. EncodeCall Word.number Backend.Holds Backend.WriteWords.own Word.BITS State.BITS
-        (encoder_of Word.number Backend.Holds Word.BITS (State.number lower) (State.number range) bulk.old situation)
-        (step_of precision (State.number left) (State.number p)) (Ok tt)
-        (shifted_over Word.number State.number Backend.Holds Word.BITS after bulk.new)) }
-    ensures wide { IfOk result (λ after. 2 ^ (State.BITS - Word.BITS) ≤ State.number after.range) }
-    ensures fit { IfOk result (λ after. PartsFit Word.number Word.BITS State.BITS after.situation
-        (State.number after.lower) (State.number after.range)) }
-    ensures err { IfErr result (λ e. EncodeCall Word.number Backend.Holds Backend.WriteWords.own Word.BITS State.BITS
-        (encoder_of Word.number Backend.Holds Word.BITS (State.number lower) (State.number range) bulk.old situation)
-        (step_of precision (State.number left) (State.number p)) (Err e)
-        (encoder_of Word.number Backend.Holds Word.BITS (State.number lower) (State.number range) bulk.new situation)) }
+    ensures { EncodesOnto Word.number State.number Backend.Holds Backend.WriteWords.own Word.BITS State.BITS
+        lower range situation (step_of precision (State.number left) (State.number p))
+        bulk.old result bulk.new }
 {
     let part = narrowed(lower, range, situation, left, p, precision);
     let after = grow(part.lower, part.range, part.situation);

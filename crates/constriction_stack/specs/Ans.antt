@@ -118,6 +118,20 @@ RefillsBy {W} {E} {B} number reads w s head old new_head new =
     ⊎ ((head < 2 ^ (s - w)) × (new_head ≡ head) × reads old (Ok None) new)
     ⊎ ((head < 2 ^ (s - w)) × ((word : W) × (new_head ≡ head * 2 ^ w + number word) × reads old (Ok (Some word)) new))
 
+-- a refill of a head over a backend that knows its words: one moves in where it has to, and an error leaves them
+abbrev pub RefillsList : {W V E B S : Type 0} → (W → ℕ) → (V → ℕ) → holding.Ghosts B W S → ℕ → ℕ → V → B → Result V E → B → Type 0
+RefillsList number head_number holds w s head old result new =
+    holds.is_list → MatchResult result
+    (λ new_head. refilled w s (head_number head) (map number (holds.words old)) ≡ state_of number holds (head_number new_head) new)
+    (λ _. holds.words new ≡ holds.words old)
+
+-- and by its reads
+abbrev pub RefillsByReads : {W V E B : Type 0} → (W → ℕ) → (V → ℕ) → (B → Result (Option W) E → B → Type 0) → ℕ → ℕ → V → B → Result V E → B → Type 0
+RefillsByReads number head_number reads w s head old result new =
+    MatchResult result
+    (λ new_head. RefillsBy number reads w s (head_number head) old (head_number new_head) new)
+    (λ e. (head_number head < 2 ^ (s - w)) × reads old (Err e) new)
+
 -- ---- the possible results of a coder's calls, over any backend
 
 -- The possible results of encoding one symbol with this step.
@@ -146,6 +160,12 @@ EncodesOnto number holds writes w s head_number head old step result new =
     MatchResult result
     (λ new_head. EncodeCall number holds writes w s (value_of number holds (head_number head) old) step (Ok tt) (value_of number holds (head_number new_head) new))
     (λ e. EncodeCall number holds writes w s (value_of number holds (head_number head) old) step (Err e) (value_of number holds (head_number head) new))
+
+-- the same of the step at a precision that has these numbers
+abbrev pub PushesOnto : {W B E S H : Type 0} → (W → ℕ) → (H → ℕ) → holding.Ghosts B W S → writing.Ghosts B W E → ℕ → ℕ → ℕ → H → H → H → B → Result H E → B → Type 0
+PushesOnto number head_number holds writes w s precision left p head old result new =
+    EncodesOnto number holds writes w s head_number head old
+    (record { precision = precision; left = head_number left; p = head_number p }) result new
 
 -- The possible results of decoding one symbol with this step.
 pub record DecodeCall {W B E S : Type 0} (number : W → ℕ) (holds : holding.Ghosts B W S) (reads : reading.Ghosts B W S E) (w s : ℕ) (old : AnsValue B) (step : Step) (answer : Result (Unit {0}) E) (new : AnsValue B) : Type 0 where

@@ -7,3 +7,4 @@ pub mod Imports
 pub mod Positions
 pub mod Sizes
 pub mod Symbols
+pub mod Lists

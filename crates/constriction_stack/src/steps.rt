@@ -1,9 +1,9 @@
 //! The arithmetic of a step, on a head and a backend.
 
-ghost use Rattle.std.specs.Prelude.{◌≡◌, ◌+◌, ◌-◌, ◌*◌, ◌/◌, ◌%◌, ◌^◌, ◌<◌, ◌≤◌, map, IfSome, MatchResult, Err};
+ghost use Rattle.std.specs.Prelude.{◌≡◌, ◌+◌, ◌-◌, ◌*◌, ◌/◌, ◌%◌, ◌^◌, ◌<◌, ◌≤◌, IfSome};
 ghost use Rattle.constriction_base.specs.Steps.{IsStep, IsSizes};
 ghost use Rattle.constriction_words.specs.Reciprocals.{IsReciprocalOf};
-ghost use Rattle.constriction_stack.specs.Ans.{EncodesOnto, RefillsBy, refilled, state_of};
+ghost use Rattle.constriction_stack.specs.Ans.{PushesOnto, RefillsByReads, RefillsList};
 
 use constriction_base::backends::{Holds, ReadWords, Stack, WriteWords};
 use constriction_words::{BitArray, Reciprocal, WordOf};
@@ -31,14 +31,10 @@ pub fn refilled<Word: WordOf<State>, State: BitArray, Backend: ReadWords<Word, S
     head: State,
 ) -> Result<State, Backend::ReadError>
     requires { IsSizes Word.BITS State.BITS }
-    ensures list { Backend.is_list → MatchResult result
-        (λ new. refilled Word.BITS State.BITS (State.number head) (map Word.number (Backend.words bulk.old))
-        ≡ state_of Word.number Backend.Holds (State.number new) bulk.new)
-        (λ _. Backend.words bulk.new ≡ Backend.words bulk.old) }
-    ensures reads { MatchResult result
-        (λ new. RefillsBy Word.number Backend.reads Word.BITS State.BITS
-        (State.number head) bulk.old (State.number new) bulk.new)
-        (λ e. (State.number head < 2 ^ (State.BITS - Word.BITS)) × Backend.reads bulk.old (Err e) bulk.new) }
+    ensures list { RefillsList Word.number State.number Backend.Holds Word.BITS State.BITS
+        head bulk.old result bulk.new }
+    ensures reads { RefillsByReads Word.number State.number Backend.reads Word.BITS State.BITS
+        head bulk.old result bulk.new }
 {
     if !head.shifted_right(State::BITS - Word::BITS).is_nothing() {
         return Ok(head);
@@ -67,8 +63,8 @@ pub fn pushed_onto<Word: WordOf<State>, State: BitArray, Backend: WriteWords<Wor
     requires sizes { IsSizes Word.BITS State.BITS }
     requires reciprocal { IfSome reciprocal (λ r. IsReciprocalOf r (State.number p)) }
     requires step { IsStep Word.BITS record { precision = precision; left = State.number left; p = State.number p } }
-    ensures { EncodesOnto Word.number Backend.Holds Backend.WriteWords.own Word.BITS State.BITS State.number
-        head bulk.old record { precision = precision; left = State.number left; p = State.number p } result bulk.new }
+    ensures { PushesOnto Word.number State.number Backend.Holds Backend.WriteWords.own Word.BITS State.BITS
+        precision left p head bulk.old result bulk.new }
 {
     if head.shifted_right(State::BITS - precision).is_below(p) {
         return Ok(pushed(head, left, p, reciprocal, precision));

@@ -1,10 +1,11 @@
 -- The possible results of look-ups.
-use Rattle.std.specs.Prelude.{◌≡◌, ◌⊎◌, ℕ, ◌<◌, ◌≤◌, ⊤, List, [], ◌∷◌, Result, MatchResult, length, slice_index, take}
+use Rattle.std.specs.Prelude.{◌≡◌, ◌⊎◌, ℕ, ◌<◌, ◌≤◌, ⊤, List, [], ◌∷◌, Result, MatchResult, length, map, slice_index, take}
 use Rattle.std.specs.declared.vec.Vec.{Vec}
 use Rattle.constriction_base.specs.Models.{Model, items_of}
 use Rattle.constriction_queue.specs.Range.{Run}
-use Rattle.constriction_queue.specs.Symbols.{FindsAll}
-use Rattle.constriction_store.specs.Stores.{Entry, HoldsChunk, HoldsNoChunk, HoldsNoSymbol, entry_in, run_at}
+use Rattle.constriction_queue.specs.Symbols.{FindsAll, model_at}
+use Rattle.constriction_store.specs.Chunks.{chunk_in, lists_of}
+use Rattle.constriction_store.specs.Stores.{Entry, HoldsChunk, HoldsNoChunk, HoldsNoSymbol, Stored, entry_in, run_at}
 use Rattle.constriction_store.specs.Built.{BuildFails}
 use Rattle.constriction_store.specs.declared.laws.ThroughStore.{ThroughStore}
 use Rattle.constriction_store.specs.declared.laws.ThroughStore.TheVariants.{Build, LookUp}
@@ -39,6 +40,11 @@ HoldsEach w s model words index (place ∷ places) [] = ⊥
 HoldsEach w s model words index (place ∷ places) (chunk ∷ chunks) =
     (place < length index) × HoldsChunk w s model words (entry_in index place) chunk × HoldsEach w s model words index places chunks
 
+-- The store has a chunk at each of these places, and holds these chunks there.
+abbrev pub StoreHoldsEach : {M : Type 0} → ℕ → ℕ → ℕ → (M → List (ℕ × ℕ × ℕ)) → Stored M → List ℕ → List (List ℕ) → Type 0
+StoreHoldsEach w s precision table store places chunks =
+    HoldsEach w s (model_at precision table store.model) store.words store.index places chunks
+
 -- The store holds a chunk at this place, but there is no memory to add the chunk to a list.
 abbrev pub HasNoRoom : ℕ → ℕ → Model ℕ → List ℕ → List Entry → ℕ → ChunkError → Type 0
 HasNoRoom w s model words index i refusal =
@@ -62,6 +68,11 @@ abbrev pub CannotLookUp : List (List ℕ) → List ℕ → ChunkError → Type 0
 CannotLookUp chunks places NoSuchChunk = (k : ℕ) × (k < length places) × (length chunks ≤ slice_index places k)
 CannotLookUp chunks places Invalid = ⊥
 CannotLookUp chunks places Memory = 0 < length places
+
+-- The answer is the chunks with these numbers, or the error of a look-up that fails in a store that holds the chunks.
+abbrev pub AreChunks : {A B : Type 0} → List (List ℕ) → List ℕ → Result (Vec (Vec ℕ A) B) ChunkError → Type 0
+AreChunks chunks places answer =
+    MatchResult answer (λ found. lists_of found.items ≡ map (chunk_in chunks) places) (CannotLookUp chunks places)
 
 -- A round trip of chunks through a store fails with this error.
 abbrev pub HasNoChunks : Model ℕ → List (List ℕ) → List ℕ → ThroughStore → Type 0

@@ -1,12 +1,12 @@
 -- What a store holds: its index, its words, and the chunks at its entries.
-use Rattle.std.specs.Prelude.{◌≡◌, ℕ, ◌+◌, ◌/◌, ◌^◌, ◌<◌, ◌≤◌, List, [], ◌∷◌, length, slice_index_or}
+use Rattle.std.specs.Prelude.{◌≡◌, ℕ, ◌+◌, ◌/◌, ◌^◌, ◌<◌, ◌≤◌, List, [], ◌∷◌, length, slice_index, slice_index_or}
 use Rattle.std.specs.List.{AllByRecursion}
 use Rattle.constriction_base.specs.Models.{Model, items_of}
 use Rattle.constriction_queue.specs.Range.{Run, offset, initial}
 use Rattle.constriction_queue.specs.SelfDelimiting.{SelfDelimits}
 use Rattle.constriction_queue.specs.States.{IsPosition, lower_of, range_of}
 use Rattle.constriction_queue.specs.declared.state.RangeCoderState.{RangeCoderState}
-use Rattle.constriction_queue.specs.Symbols.{FindsAll, NarrowsAll}
+use Rattle.constriction_queue.specs.Symbols.{FindsAll, NarrowsAll, model_at}
 use Rattle.constriction_store.specs.Chunks.{chunk_in}
 
 -- ---- the index
@@ -59,6 +59,14 @@ run_from place lower range = record { low = lower; range = range; moves = place 
 abbrev pub run_at : Entry → Run
 run_at entry = run_from entry.place entry.lower entry.range
 
+-- Decoding the words from the entry, each symbol under the model, returns these symbols and ends at this run.
+abbrev pub FindsAt : ℕ → ℕ → List ℕ → Model ℕ → Entry → List ℕ → Run → Type 0
+FindsAt w s words model entry symbols last = FindsAll w s words (items_of model symbols) (run_at entry) last
+
+-- The lists have the same words from one place to another.
+abbrev pub Agree : List ℕ → List ℕ → ℕ → ℕ → Type 0
+Agree words others from to = (i : ℕ) → from ≤ i → i < to → slice_index others i ≡ slice_index words i
+
 -- The words hold these symbols at the entry: decoding from there, each under the model, returns exactly them.
 abbrev pub HoldsChunk : ℕ → ℕ → Model ℕ → List ℕ → Entry → List ℕ → Type 0
 HoldsChunk w s model words entry symbols =
@@ -78,6 +86,16 @@ HoldsNoChunk w s model words entry =
 pub record HoldsChunks (w s : ℕ) (model : Model ℕ) (words : List ℕ) (index : List Entry) (chunks : List (List ℕ)) : Type 0 where
   pub count : length index ≡ length chunks
   pub each : (i : ℕ) → i < length chunks → HoldsChunk w s model words (entry_in index i) (chunk_in chunks i)
+
+-- The store holds these symbols as the chunk with this number.
+abbrev pub StoreHoldsChunk : {M : Type 0} → ℕ → ℕ → ℕ → (M → List (ℕ × ℕ × ℕ)) → Stored M → ℕ → List ℕ → Type 0
+StoreHoldsChunk w s precision table store i symbols =
+    HoldsChunk w s (model_at precision table store.model) store.words (entry_in store.index i) symbols
+
+-- The store holds these chunks in order, and no others.
+abbrev pub StoreHoldsChunks : {M : Type 0} → ℕ → ℕ → ℕ → (M → List (ℕ × ℕ × ℕ)) → Stored M → List (List ℕ) → Type 0
+StoreHoldsChunks w s precision table store chunks =
+    HoldsChunks w s (model_at precision table store.model) store.words store.index chunks
 
 -- ---- how it is built
 

@@ -1,13 +1,14 @@
 //! Laws of stores: the words at an entry, and functions that build a store and look up its chunks in any order.
 
-ghost use Rattle.std.specs.Prelude.{◌≡◌, ◌+◌, ◌/◌, ◌<◌, ◌≤◌, ℕ, List, map, slice_index, IfOk, IfErr, MatchResult};
-ghost use Rattle.constriction_base.specs.Models.{Model, IsModel, items_of};
+ghost use Rattle.std.specs.Prelude.{◌≡◌, ◌+◌, ◌/◌, ℕ, List, map, IfOk, IfErr};
+ghost use Rattle.constriction_base.specs.Models.{Model, IsModel};
 ghost use Rattle.constriction_base.specs.Steps.{IsSizes, AreWords};
 ghost use Rattle.constriction_queue.specs.Range.{Run};
-ghost use Rattle.constriction_queue.specs.Symbols.{FindsAll};
+ghost use Rattle.constriction_queue.specs.Symbols.{model_at};
 ghost use Rattle.constriction_store.specs.Chunks.{chunk_in, lists_of};
-ghost use Rattle.constriction_store.specs.LookedUp.{CannotLookUp, FailsFirst, HasNoChunks, HoldsEach};
-ghost use Rattle.constriction_store.specs.Stores.{Entry, HoldsChunk, HoldsChunks, HoldsNoChunk, IsBuilt, run_at};
+ghost use Rattle.constriction_store.specs.LookedUp.{AreChunks, FailsFirst, HasNoChunks, StoreHoldsEach};
+ghost use Rattle.constriction_store.specs.Stores.{Agree, Entry, FindsAt, HoldsChunk, HoldsNoChunk, IsBuilt};
+ghost use Rattle.constriction_store.specs.Stores.{StoreHoldsChunks};
 
 use crate::{BuildError, ChunkError, Store};
 use constriction_base::model::{DecoderModel, EncoderModel, EntropyModel};
@@ -33,9 +34,9 @@ pub fn one_chunk_at_entry()
 pub fn other_words_are_not_read()
     ensures { (w s : ℕ) (model : Model ℕ) (words others : List ℕ) (entry : Entry) (symbols : List ℕ) (last : Run) →
         IsSizes w s → AreWords w words → AreWords w others →
-        FindsAll w s words (items_of model symbols) (run_at entry) last →
-        ((i : ℕ) → entry.place ≤ i → i < last.moves + s / w → slice_index others i ≡ slice_index words i) →
-        FindsAll w s others (items_of model symbols) (run_at entry) last }
+        FindsAt w s words model entry symbols last →
+        Agree words others entry.place (last.moves + s / w) →
+        FindsAt w s others model entry symbols last }
 {}
 
 /// Looks up the chunks whose numbers `places` lists, and returns these chunks in the order of `places`.
@@ -58,15 +59,13 @@ pub fn look_up<
 ) -> Result<Vec<Vec<usize>>, ChunkError>
 where
     M::Probability: WordOf<Word>,
-    ensures each { IfOk result (λ found. HoldsEach Word.BITS State.BITS
-        record { precision = PRECISION; table = M.table store.now.model } store.now.words store.now.index places.now
-        (lists_of found.items)) }
+    ensures each { IfOk result (λ found. StoreHoldsEach Word.BITS State.BITS PRECISION M.table store.now
+        places.now (lists_of found.items)) }
     ensures err { IfErr result (FailsFirst Word.BITS State.BITS
-        record { precision = PRECISION; table = M.table store.now.model } store.now.words store.now.index places.now) }
-    ensures back { (chunks : List (List ℕ)) → HoldsChunks Word.BITS State.BITS
-        record { precision = PRECISION; table = M.table store.now.model } store.now.words store.now.index chunks →
-        MatchResult result (λ found. lists_of found.items ≡ map (chunk_in chunks) places.now)
-        (CannotLookUp chunks places.now) }
+        (model_at PRECISION M.table store.now.model) store.now.words store.now.index places.now) }
+    ensures back { (chunks : List (List ℕ)) →
+        StoreHoldsChunks Word.BITS State.BITS PRECISION M.table store.now chunks →
+        AreChunks chunks places.now result }
 {
     let mut found = Vec::new(alloc);
     for place in places {
@@ -115,9 +114,9 @@ where
     requires { IsSizes Word.BITS State.BITS }
     ensures back { IfOk result (λ through. lists_of through.1.items ≡ map (chunk_in (lists_of chunks.now)) places.now) }
     ensures store { IfOk result (λ through. IsBuilt Word.BITS State.BITS
-        record { precision = PRECISION; table = M.table model } (lists_of chunks.now) through.0.index through.0.words) }
+        (model_at PRECISION M.table model) (lists_of chunks.now) through.0.index through.0.words) }
     ensures model { IfOk result (λ through. through.0.model ≡ model) }
-    ensures err { IfErr result (HasNoChunks record { precision = PRECISION; table = M.table model }
+    ensures err { IfErr result (HasNoChunks (model_at PRECISION M.table model)
         (lists_of chunks.now) places.now) }
 {
     let store = match Store::<Word, State, M, PRECISION>::build(alloc, chunks, model) {
@@ -156,9 +155,9 @@ where
     requires { IsSizes Word.BITS State.BITS }
     ensures back { IfOk result (λ through. lists_of through.1.items ≡ map (chunk_in (lists_of chunks.now)) places.now) }
     ensures store { IfOk result (λ through. IsBuilt Word.BITS State.BITS
-        record { precision = PRECISION; table = M.table model } (lists_of chunks.now) through.0.index through.0.words) }
+        (model_at PRECISION M.table model) (lists_of chunks.now) through.0.index through.0.words) }
     ensures model { IfOk result (λ through. through.0.model ≡ model) }
-    ensures err { IfErr result (HasNoChunks record { precision = PRECISION; table = M.table model }
+    ensures err { IfErr result (HasNoChunks (model_at PRECISION M.table model)
         (lists_of chunks.now) places.now) }
 {
     let built = match Store::<Word, State, M, PRECISION>::build(alloc, chunks, model) {

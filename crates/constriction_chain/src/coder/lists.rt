@@ -1,7 +1,6 @@
 //! Encoding lists of symbols from last to first, as methods of the coder, so that no trait has to be in scope.
 
-ghost use Rattle.constriction_stream.specs.Lists.{GivesAtMost, LowersByItems, StepsUntilFault, TriesItem};
-ghost use Rattle.constriction_stream.specs.Symbols.{EncodesPair, EncodesSymbol};
+ghost use Rattle.constriction_chain.specs.Lists.{EncodesPairs, EncodesSymbols, GivesAtMostLeft, LowersLeft, TriesPairs};
 
 use crate::coder::ChainCoder;
 use crate::errors::EncoderError;
@@ -37,15 +36,12 @@ impl<
         S: Lent<M::Symbol> + Drop,
         I: IntoIterator<Item = (S, M)>,
         I::IntoIter: DoubleEndedIterator + Drop,
-        requires { GivesAtMost (I.into_iter_gives symbols_and_models) I.IntoIter.can_next_back I.IntoIter.remaining
-            (⟦<Self as Encode<PRECISION>>⟧.counts_symbols)
-            (⟦<Self as Encode<PRECISION>>⟧.symbols_left self.old) }
-        ensures steps { StepsUntilFault (EncodesPair (⟦<Self as Encode<PRECISION>>⟧.encodes)
-            (⟦<Self as Encode<PRECISION>>⟧.is_impossible_symbol) PRECISION M.table S.lent)
+        requires { GivesAtMostLeft ⟦<Self as Encode<PRECISION>>⟧ (I.into_iter_gives symbols_and_models)
+            I.IntoIter.can_next_back I.IntoIter.remaining self.old }
+        ensures steps { EncodesPairs ⟦<Self as Encode<PRECISION>>⟧ PRECISION M.table S.lent
             (I.into_iter_gives symbols_and_models) I.IntoIter.next_back_gives self.old result self.new }
-        ensures fewer_left { LowersByItems (I.into_iter_gives symbols_and_models) I.IntoIter.remaining
-            (⟦<Self as Encode<PRECISION>>⟧.symbols_left self.old)
-            (⟦<Self as Encode<PRECISION>>⟧.symbols_left self.new) }
+        ensures fewer_left { LowersLeft ⟦<Self as Encode<PRECISION>>⟧ (I.into_iter_gives symbols_and_models)
+            I.IntoIter.remaining self.old self.new }
     {
         EncodeReverse::<PRECISION>::encode_symbols_reverse(self, symbols_and_models)
     }
@@ -69,16 +65,12 @@ impl<
         S: Lent<M::Symbol> + Drop,
         I: IntoIterator<Item = Result<(S, M), E>>,
         I::IntoIter: DoubleEndedIterator + Drop,
-        requires { GivesAtMost (I.into_iter_gives symbols_and_models) I.IntoIter.can_next_back I.IntoIter.remaining
-            (⟦<Self as Encode<PRECISION>>⟧.counts_symbols)
-            (⟦<Self as Encode<PRECISION>>⟧.symbols_left self.old) }
-        ensures steps { StepsUntilFault
-            (TriesItem (EncodesPair (⟦<Self as Encode<PRECISION>>⟧.encodes)
-            (⟦<Self as Encode<PRECISION>>⟧.is_impossible_symbol) PRECISION M.table S.lent))
+        requires { GivesAtMostLeft ⟦<Self as Encode<PRECISION>>⟧ (I.into_iter_gives symbols_and_models)
+            I.IntoIter.can_next_back I.IntoIter.remaining self.old }
+        ensures steps { TriesPairs ⟦<Self as Encode<PRECISION>>⟧ PRECISION M.table S.lent
             (I.into_iter_gives symbols_and_models) I.IntoIter.next_back_gives self.old result self.new }
-        ensures fewer_left { LowersByItems (I.into_iter_gives symbols_and_models) I.IntoIter.remaining
-            (⟦<Self as Encode<PRECISION>>⟧.symbols_left self.old)
-            (⟦<Self as Encode<PRECISION>>⟧.symbols_left self.new) }
+        ensures fewer_left { LowersLeft ⟦<Self as Encode<PRECISION>>⟧ (I.into_iter_gives symbols_and_models)
+            I.IntoIter.remaining self.old self.new }
     {
         EncodeReverse::<PRECISION>::try_encode_symbols_reverse(self, symbols_and_models)
     }
@@ -109,17 +101,12 @@ impl<
         S: Lent<M::Symbol> + Drop,
         I: IntoIterator<Item = S>,
         I::IntoIter: DoubleEndedIterator + Drop,
-        requires { GivesAtMost (I.into_iter_gives symbols) I.IntoIter.can_next_back I.IntoIter.remaining
-            (⟦<Self as Encode<PRECISION>>⟧.counts_symbols)
-            (⟦<Self as Encode<PRECISION>>⟧.symbols_left self.old) }
-        ensures steps { StepsUntilFault (λ old symbol result new. EncodesSymbol
-            (⟦<Self as Encode<PRECISION>>⟧.encodes)
-            (⟦<Self as Encode<PRECISION>>⟧.is_impossible_symbol)
-            PRECISION (M.table model) (S.lent symbol) old result new)
+        requires { GivesAtMostLeft ⟦<Self as Encode<PRECISION>>⟧ (I.into_iter_gives symbols)
+            I.IntoIter.can_next_back I.IntoIter.remaining self.old }
+        ensures steps { EncodesSymbols ⟦<Self as Encode<PRECISION>>⟧ PRECISION (M.table model) S.lent
             (I.into_iter_gives symbols) I.IntoIter.next_back_gives self.old result self.new }
-        ensures fewer_left { LowersByItems (I.into_iter_gives symbols) I.IntoIter.remaining
-            (⟦<Self as Encode<PRECISION>>⟧.symbols_left self.old)
-            (⟦<Self as Encode<PRECISION>>⟧.symbols_left self.new) }
+        ensures fewer_left { LowersLeft ⟦<Self as Encode<PRECISION>>⟧ (I.into_iter_gives symbols)
+            I.IntoIter.remaining self.old self.new }
     {
         EncodeReverse::<PRECISION>::encode_iid_symbols_reverse(self, symbols, model)
     }

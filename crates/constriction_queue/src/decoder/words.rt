@@ -2,9 +2,8 @@
 
 ghost use Rattle.std.specs.Prelude.{◌≡◌, ◌↔◌, ◌+◌, ◌-◌, ◌%◌, ◌<◌, ◌^◌, map, IfOk, IfErr, IsOk, IsTrue};
 ghost use Rattle.constriction_base.specs.Steps.{IsSizes};
-ghost use Rattle.constriction_queue.specs.Range.{initial};
 ghost use Rattle.constriction_queue.specs.States.{lower_of, range_of};
-ghost use Rattle.constriction_queue.specs.Decoder.{BeginsOver, IsDecoder, MayBeExhausted, RefusesPoint, StandsAt};
+ghost use Rattle.constriction_queue.specs.Decoder.{BeginsOver, IsDecoder, MayBeExhausted, RefusesPoint, StandsAtStart};
 ghost use Rattle.constriction_queue.specs.Decoder.{decoder_of, distance};
 
 use crate::decoder::RangeDecoder;
@@ -39,7 +38,7 @@ impl<Word: WordOf<State>, State: BitArray, Backend: ReadWords<Word, Queue>> Rang
         Backend: Drop,
         requires { IsSizes Word.BITS State.BITS }
         ensures ok { Backend.is_list → IfOk result (λ d.
-            StandsAt Word.BITS State.BITS (map Word.number (Backend.words bulk)) (initial State.BITS) d) }
+            StandsAtStart Word.BITS State.BITS (map Word.number (Backend.words bulk)) d) }
         ensures reads { IfOk result (λ d. BeginsOver Word.number Backend.ReadWords.own Word.BITS State.BITS bulk d) }
         ensures err { IfErr result (λ e. (rest : Backend)
             × RefusesPoint Word.number Backend.ReadWords.own Word.BITS State.BITS bulk e rest) }
@@ -74,7 +73,7 @@ impl<Word: WordOf<State>, State: BitArray, Backend: ReadWords<Word, Queue>> Rang
         Backend: Drop,
         requires { IsSizes Word.BITS State.BITS }
         ensures ok { Backend.is_list → IfOk result (λ d.
-            StandsAt Word.BITS State.BITS (map Word.number (Buf.words compressed)) (initial State.BITS) d) }
+            StandsAtStart Word.BITS State.BITS (map Word.number (Buf.words compressed)) d) }
         ensures place { IfOk result (λ d. (first : Backend) × Buf.becomes compressed first
             × BeginsOver Word.number Backend.ReadWords.own Word.BITS State.BITS first d) }
         ensures err { IfErr result (λ e. (first rest : Backend) × Buf.becomes compressed first
@@ -102,7 +101,7 @@ impl<Word: WordOf<State>, State: BitArray, Backend: ReadWords<Word, Queue>> Rang
         Backend: Drop,
         requires { IsSizes Word.BITS State.BITS }
         ensures ok { Backend.is_list → IfOk result (λ d.
-            StandsAt Word.BITS State.BITS (map Word.number (Buf.words compressed.now)) (initial State.BITS) d) }
+            StandsAtStart Word.BITS State.BITS (map Word.number (Buf.words compressed.now)) d) }
         ensures place { IfOk result (λ d. (first : Backend) × Buf.becomes compressed.now first
             × BeginsOver Word.number Backend.ReadWords.own Word.BITS State.BITS first d) }
         ensures err { IfErr result (λ e. (first rest : Backend) × Buf.becomes compressed.now first

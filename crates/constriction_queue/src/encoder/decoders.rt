@@ -1,9 +1,8 @@
 //! Turning an encoder into a decoder of its symbols.
 
 ghost use Rattle.std.specs.Prelude.{IfOk, IfErr, MatchResult};
-ghost use Rattle.constriction_queue.specs.Range.{initial};
 ghost use Rattle.constriction_queue.specs.Encoder.{sealed_by};
-ghost use Rattle.constriction_queue.specs.Decoder.{IsDecoder, StandsAt};
+ghost use Rattle.constriction_queue.specs.Decoder.{IsDecoder, StandsAtStart};
 ghost use Rattle.constriction_queue.specs.Calls.{BeginsSealed, DecodesSealed, NoDecoder, queue_reads};
 
 use crate::decoder::RangeDecoder;
@@ -38,11 +37,10 @@ impl<
             Backend::WriteError,
         >,
     >
-        ensures ok { ⟦<Backend::IntoReadWords as Holds<Word, Queue>>⟧.is_list → IfOk result (λ decoder.
-            StandsAt Word.BITS State.BITS (sealed_by Word.BITS State.BITS self) (initial State.BITS) decoder) }
-        ensures place { IfOk result (λ decoder.
-            BeginsSealed Word.number ⟦<Backend as Holds<Word, Stack>>⟧ Backend.becomes
-            (queue_reads ⟦<Backend::IntoReadWords as ReadWords<Word, Queue>>⟧) Word.BITS State.BITS self decoder) }
+        ensures ok { ⟦<Backend::IntoReadWords as Holds<Word, Queue>>⟧.is_list →
+            IfOk result (StandsAtStart Word.BITS State.BITS (sealed_by Word.BITS State.BITS self)) }
+        ensures place { IfOk result (BeginsSealed Word.number ⟦<Backend as Holds<Word, Stack>>⟧ Backend.becomes
+            (queue_reads ⟦<Backend::IntoReadWords as ReadWords<Word, Queue>>⟧) Word.BITS State.BITS self) }
         ensures coder { IfOk result (λ decoder.
             IsDecoder Word.number ⟦<Backend::IntoReadWords as Holds<Word, Queue>>⟧ Word.BITS State.BITS decoder) }
         ensures err { IfErr result (NoDecoder Word.number ⟦<Backend as Holds<Word, Stack>>⟧ Backend.WriteWords.own

@@ -2,8 +2,7 @@
 
 ghost use Rattle.std.specs.Prelude.{◌≡◌, ◌+◌, ◌<◌, drop, length, reverse, IfOk, OnErr};
 ghost use Rattle.constriction_queue.specs.Encoder.{HasHeads, sealed_by};
-ghost use Rattle.constriction_queue.specs.Decoder.{StandsAt};
-ghost use Rattle.constriction_queue.specs.Range.{initial};
+ghost use Rattle.constriction_queue.specs.Decoder.{StandsAtStart};
 
 use crate::decoder::RangeDecoder;
 use crate::encoder::RangeEncoder;
@@ -124,7 +123,7 @@ impl<Word: WordOf<State>, State: BitArray, A: Allocator> RangeEncoder<Word, Stat
     >
         ensures same_reference { IfOk result (λ d. (lender d.bulk.buf).ghost_name ≡ self.entry.ghost_name) }
         ensures ok { IfOk result (λ d.
-            StandsAt Word.BITS State.BITS (sealed_by Word.BITS State.BITS self.old) (initial State.BITS) d) }
+            StandsAtStart Word.BITS State.BITS (sealed_by Word.BITS State.BITS self.old) d) }
         ensures shows { IfOk result (λ d.
             reverse (lender d.bulk.buf).now.words ≡ sealed_by Word.BITS State.BITS self.old) }
         ensures back { IfOk result (λ d. drop (written d.bulk.buf) (lender d.bulk.buf).now.words ≡ self.old.words) }

@@ -3,8 +3,7 @@
 //! The contracts refer to the iterator's `next_back`, so a caller needs no contract of `Rev`. They require that the
 //! iterator ends and that its `next_back` may be called.
 
-ghost use Rattle.constriction_stream.specs.Lists.{GivesAtMost, LowersByItems, StepsUntilFault, TriesItem};
-ghost use Rattle.constriction_stream.specs.Symbols.{EncodesPair, EncodesSymbol};
+ghost use Rattle.constriction_stack.specs.Lists.{EncodesPairs, EncodesSymbols, GivesAtMostLeft, LowersLeft, TriesPairs};
 
 use crate::coder::AnsCoder;
 use constriction_base::backends::{Holds, Stack, WriteWords};
@@ -38,15 +37,12 @@ impl<Word: WordOf<State>, State: BitArray, Backend: WriteWords<Word>> AnsCoder<
         S: Lent<M::Symbol> + Drop,
         I: IntoIterator<Item = (S, M)>,
         I::IntoIter: DoubleEndedIterator + Drop,
-        requires { GivesAtMost (I.into_iter_gives symbols_and_models) I.IntoIter.can_next_back I.IntoIter.remaining
-            (⟦<AnsCoder<Word, State, Backend> as Encode<PRECISION>>⟧.counts_symbols)
-            (⟦<AnsCoder<Word, State, Backend> as Encode<PRECISION>>⟧.symbols_left self.old) }
-        ensures steps { StepsUntilFault (EncodesPair (⟦<AnsCoder<Word, State, Backend> as Encode<PRECISION>>⟧.encodes)
-            (⟦<AnsCoder<Word, State, Backend> as Encode<PRECISION>>⟧.is_impossible_symbol) PRECISION M.table S.lent)
+        requires { GivesAtMostLeft ⟦<Self as Encode<PRECISION>>⟧ (I.into_iter_gives symbols_and_models)
+            I.IntoIter.can_next_back I.IntoIter.remaining self.old }
+        ensures steps { EncodesPairs ⟦<Self as Encode<PRECISION>>⟧ PRECISION M.table S.lent
             (I.into_iter_gives symbols_and_models) I.IntoIter.next_back_gives self.old result self.new }
-        ensures fewer_left { LowersByItems (I.into_iter_gives symbols_and_models) I.IntoIter.remaining
-            (⟦<AnsCoder<Word, State, Backend> as Encode<PRECISION>>⟧.symbols_left self.old)
-            (⟦<AnsCoder<Word, State, Backend> as Encode<PRECISION>>⟧.symbols_left self.new) }
+        ensures fewer_left { LowersLeft ⟦<Self as Encode<PRECISION>>⟧ (I.into_iter_gives symbols_and_models)
+            I.IntoIter.remaining self.old self.new }
     {
         EncodeReverse::<PRECISION>::encode_symbols_reverse(self, symbols_and_models)
     }
@@ -70,16 +66,12 @@ impl<Word: WordOf<State>, State: BitArray, Backend: WriteWords<Word>> AnsCoder<
         S: Lent<M::Symbol> + Drop,
         I: IntoIterator<Item = Result<(S, M), E>>,
         I::IntoIter: DoubleEndedIterator + Drop,
-        requires { GivesAtMost (I.into_iter_gives symbols_and_models) I.IntoIter.can_next_back I.IntoIter.remaining
-            (⟦<AnsCoder<Word, State, Backend> as Encode<PRECISION>>⟧.counts_symbols)
-            (⟦<AnsCoder<Word, State, Backend> as Encode<PRECISION>>⟧.symbols_left self.old) }
-        ensures steps { StepsUntilFault
-            (TriesItem (EncodesPair (⟦<AnsCoder<Word, State, Backend> as Encode<PRECISION>>⟧.encodes)
-            (⟦<AnsCoder<Word, State, Backend> as Encode<PRECISION>>⟧.is_impossible_symbol) PRECISION M.table S.lent))
+        requires { GivesAtMostLeft ⟦<Self as Encode<PRECISION>>⟧ (I.into_iter_gives symbols_and_models)
+            I.IntoIter.can_next_back I.IntoIter.remaining self.old }
+        ensures steps { TriesPairs ⟦<Self as Encode<PRECISION>>⟧ PRECISION M.table S.lent
             (I.into_iter_gives symbols_and_models) I.IntoIter.next_back_gives self.old result self.new }
-        ensures fewer_left { LowersByItems (I.into_iter_gives symbols_and_models) I.IntoIter.remaining
-            (⟦<AnsCoder<Word, State, Backend> as Encode<PRECISION>>⟧.symbols_left self.old)
-            (⟦<AnsCoder<Word, State, Backend> as Encode<PRECISION>>⟧.symbols_left self.new) }
+        ensures fewer_left { LowersLeft ⟦<Self as Encode<PRECISION>>⟧ (I.into_iter_gives symbols_and_models)
+            I.IntoIter.remaining self.old self.new }
     {
         EncodeReverse::<PRECISION>::try_encode_symbols_reverse(self, symbols_and_models)
     }
@@ -111,17 +103,12 @@ impl<Word: WordOf<State>, State: BitArray, Backend: WriteWords<Word>> AnsCoder<
         S: Lent<M::Symbol> + Drop,
         I: IntoIterator<Item = S>,
         I::IntoIter: DoubleEndedIterator + Drop,
-        requires { GivesAtMost (I.into_iter_gives symbols) I.IntoIter.can_next_back I.IntoIter.remaining
-            (⟦<AnsCoder<Word, State, Backend> as Encode<PRECISION>>⟧.counts_symbols)
-            (⟦<AnsCoder<Word, State, Backend> as Encode<PRECISION>>⟧.symbols_left self.old) }
-        ensures steps { StepsUntilFault (λ old symbol result new. EncodesSymbol
-            (⟦<AnsCoder<Word, State, Backend> as Encode<PRECISION>>⟧.encodes)
-            (⟦<AnsCoder<Word, State, Backend> as Encode<PRECISION>>⟧.is_impossible_symbol)
-            PRECISION (M.table model) (S.lent symbol) old result new)
+        requires { GivesAtMostLeft ⟦<Self as Encode<PRECISION>>⟧ (I.into_iter_gives symbols)
+            I.IntoIter.can_next_back I.IntoIter.remaining self.old }
+        ensures steps { EncodesSymbols ⟦<Self as Encode<PRECISION>>⟧ PRECISION (M.table model) S.lent
             (I.into_iter_gives symbols) I.IntoIter.next_back_gives self.old result self.new }
-        ensures fewer_left { LowersByItems (I.into_iter_gives symbols) I.IntoIter.remaining
-            (⟦<AnsCoder<Word, State, Backend> as Encode<PRECISION>>⟧.symbols_left self.old)
-            (⟦<AnsCoder<Word, State, Backend> as Encode<PRECISION>>⟧.symbols_left self.new) }
+        ensures fewer_left { LowersLeft ⟦<Self as Encode<PRECISION>>⟧ (I.into_iter_gives symbols)
+            I.IntoIter.remaining self.old self.new }
     {
         EncodeReverse::<PRECISION>::encode_iid_symbols_reverse(self, symbols, model)
     }

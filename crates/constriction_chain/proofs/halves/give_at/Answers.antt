@@ -20,78 +20,87 @@ give_quantile-requires-clause-below g c =
     let place = placed _ g.Word.BitArray.BITS _ _ (g.State.BitArray.number c.in-Ok-Some.v) c.requires.sized.within_word c.requires.some c.requires.total in
     rw (c.plus-quantile.ensures, c.narrow.ensures, c.divided-quotient.ensures.rest, c.widen-p.ensures, place.0) place.1
 
-pub returns-in-Err-clause-err : goal.returns-in-Err-clause-err
-returns-in-Err-clause-err g c =
+pub returns-in-Err : goal.returns-in-Err
+returns-in-Err g c =
     let number = g.Word.BitArray.number in
     let law = g.met.Word.BitArray.number_law in
     let parts = c.requires in
     let refused = c.in-Err.ensures.err in
     let words = ap (λ (ws : List _). map number ws) c.in-Err.ensures.words in
-    (record {
-      before = coder_of _ _ _ number law g.C.Holds g.R.Holds _ _ _ _ parts.sized parts.head (law _) parts.window;
-      after = coder_of _ _ _ number law g.C.Holds g.R.Holds _ _ _ _ parts.sized parts.head (law _) parts.window;
-      outcome = record {
-        owes = refused.0;
-        h = refl;
-        r = refl;
-        compressed = words;
-        why = inl (refused.1, state_same _ _ refl refl words refl, refl);
-        room_left = c.in-Err.ensures.room;
+    record {
+      err = record {
+        before = coder_of _ _ _ number law g.C.Holds g.R.Holds _ _ _ _ parts.sized parts.head (law _) parts.window;
+        after = coder_of _ _ _ number law g.C.Holds g.R.Holds _ _ _ _ parts.sized parts.head (law _) parts.window;
+        outcome = record {
+          owes = refused.0;
+          h = refl;
+          r = refl;
+          compressed = words;
+          why = inl (refused.1, state_same _ _ refl refl words refl, refl);
+          room_left = c.in-Err.ensures.room;
+        };
       };
-    })
+      ok = tt;
+    }
 
-pub returns-in-Ok-None-clause-err : goal.returns-in-Ok-None-clause-err
-returns-in-Ok-None-clause-err g c =
+pub returns-in-Ok-None : goal.returns-in-Ok-None
+returns-in-Ok-None g c =
     let number = g.Word.BitArray.number in
     let law = g.met.Word.BitArray.number_law in
     let parts = c.requires in
     let refused = rw (c.in-Ok-None.field-0-is, c.widen-p.ensures) at c.in-Ok-None.ensures.none in
     let words = ap (λ (ws : List _). map number ws) c.prepare_for_quantile.ensures.words in
     let asked = c.in_default.ensures.ok in
-    (record {
-      before = coder_of _ _ _ number law g.C.Holds g.R.Holds _ _ _ _ parts.sized parts.head (law _) parts.window;
-      after = coder_of _ _ _ number law g.C.Holds g.R.Holds _ _ _ _ parts.sized parts.head (law _) parts.window;
-      outcome = record {
-        short = refused.0;
-        answered = refused.1;
-        stays = record {
-          h = refl;
-          r = refl;
-          others = words;
-          all = λ list. state_same _ _ refl refl words (ap (λ (ws : List _). map number ws) ((refused.1.1 list).1 ∙ sym (refused.1.1 list).0));
+    record {
+      err = record {
+        before = coder_of _ _ _ number law g.C.Holds g.R.Holds _ _ _ _ parts.sized parts.head (law _) parts.window;
+        after = coder_of _ _ _ number law g.C.Holds g.R.Holds _ _ _ _ parts.sized parts.head (law _) parts.window;
+        outcome = record {
+          short = refused.0;
+          answered = refused.1;
+          stays = record {
+            h = refl;
+            r = refl;
+            others = words;
+            all = λ list. state_same _ _ refl refl words (ap (λ (ws : List _). map number ws) ((refused.1.1 list).1 ∙ sym (refused.1.1 list).0));
+          };
+          room_left = asked.room_left;
+          roomy = asked.made;
         };
-        room_left = asked.room_left;
-        roomy = asked.made;
       };
-    })
+      ok = tt;
+    }
 
-pub returns-in-Err-regain-clause-err : goal.returns-in-Err-regain-clause-err
-returns-in-Err-regain-clause-err g c =
+pub returns-in-Err-regain : goal.returns-in-Err-regain
+returns-in-Err-regain g c =
     let number = g.Word.BitArray.number in
     let law = g.met.Word.BitArray.number_law in
     let parts = c.requires in
     let refused = rw (c.widen-p.ensures) at c.in-Err-regain.ensures.err in
     let words = ap (λ (ws : List _). map number ws) c.prepare_for_quantile.ensures.words in
     let asked = c.in_default.ensures.ok in
-    (record {
-      before = coder_of _ _ _ number law g.C.Holds g.R.Holds _ _ _ _ parts.sized parts.head (law _) parts.window;
-      after = coder_of _ _ _ number law g.C.Holds g.R.Holds _ _ _ _ parts.sized parts.head (law _) parts.window;
-      outcome = record {
-        short = refused.0;
-        answered = refused.1;
-        stays = record {
-          h = refl;
-          r = refl;
-          others = words;
-          all = λ list. state_same _ _ refl refl words (ap (λ (ws : List _). map number ws) (refused.1.1 list));
+    record {
+      err = record {
+        before = coder_of _ _ _ number law g.C.Holds g.R.Holds _ _ _ _ parts.sized parts.head (law _) parts.window;
+        after = coder_of _ _ _ number law g.C.Holds g.R.Holds _ _ _ _ parts.sized parts.head (law _) parts.window;
+        outcome = record {
+          short = refused.0;
+          answered = refused.1;
+          stays = record {
+            h = refl;
+            r = refl;
+            others = words;
+            all = λ list. state_same _ _ refl refl words (ap (λ (ws : List _). map number ws) (refused.1.1 list));
+          };
+          room_left = asked.room_left;
+          roomy = asked.made;
         };
-        room_left = asked.room_left;
-        roomy = asked.made;
       };
-    })
+      ok = tt;
+    }
 
-pub returns-in-Ok-clause-ok : goal.returns-in-Ok-clause-ok
-returns-in-Ok-clause-ok g c =
+pub returns-in-Ok : goal.returns-in-Ok
+returns-in-Ok g c =
     let number = g.Word.BitArray.number in
     let law = g.met.Word.BitArray.number_law in
     let parts = c.requires in
@@ -107,22 +116,25 @@ returns-in-Ok-clause-ok g c =
     let asked = c.in_default.ensures.ok in
     let window : IsInWindow g.Word.BitArray.BITS (least g.Word.BitArray.BITS g.State.BitArray.BITS c.args.precision) (g.State.BitArray.number c.divided-quotient.result.0) = rw quotient within in
     let after = coder_of _ _ _ number law g.C.Holds g.R.Holds _ _ c.give_quantile.new.compressed c.regain.new.remainders parts.sized c.in-Ok.ensures.some (law _) window in
-    (record {
-      before = coder_of _ _ _ number law g.C.Holds g.R.Holds _ _ _ _ parts.sized parts.head (law _) parts.window;
-      after = after;
-      outcome = record {
-        encoded = λ list. encode_of _ _ _ parts.sized.within_word _ v _ _ after.chain c.requires.some refl quotient walk (found.brought list);
-        v = v;
-        by = rw c.widen-p.ensures at found.by;
-        walk = walk;
-        r = quotient;
-        untouched = λ none. given.untouched none ∙ asked.unasked none;
-        room_used = rw (length-map, length-map) (omega (arith, used, asked.room_left));
+    record {
+      ok = record {
+        before = coder_of _ _ _ number law g.C.Holds g.R.Holds _ _ _ _ parts.sized parts.head (law _) parts.window;
+        after = after;
+        outcome = record {
+          encoded = λ list. encode_of _ _ _ parts.sized.within_word _ v _ _ after.chain c.requires.some refl quotient walk (found.brought list);
+          v = v;
+          by = rw c.widen-p.ensures at found.by;
+          walk = walk;
+          r = quotient;
+          untouched = λ none. given.untouched none ∙ asked.unasked none;
+          room_used = rw (length-map, length-map) (omega (arith, used, asked.room_left));
+        };
       };
-    })
+      err = tt;
+    }
 
-pub returns-in-Err-give_quantile-clause-err : goal.returns-in-Err-give_quantile-clause-err
-returns-in-Err-give_quantile-clause-err g c =
+pub returns-in-Err-give_quantile : goal.returns-in-Err-give_quantile
+returns-in-Err-give_quantile g c =
     let number = g.Word.BitArray.number in
     let law = g.met.Word.BitArray.number_law in
     let parts = c.requires in
@@ -130,15 +142,18 @@ returns-in-Err-give_quantile-clause-err g c =
     let by = rw c.widen-p.ensures at found.by in
     let refused = c.in-Err-give_quantile.ensures.err in
     let asked = c.in_default.ensures.ok in
-    (record {
-      before = coder_of _ _ _ number law g.C.Holds g.R.Holds _ _ _ _ parts.sized parts.head (law _) parts.window;
-      after = coder_of _ _ _ number law g.C.Holds g.R.Holds _ _ _ _ parts.sized parts.head (law _) parts.window;
-      outcome = record {
-        owes = refused.0;
-        h = refl;
-        r = refl;
-        compressed = ap (λ (ws : List _). map number ws) (c.in-Err-give_quantile.ensures.kept ∙ c.prepare_for_quantile.ensures.words);
-        why = inr (λ m. g.met.C.WriteWords.room_law _ _ (asked.made m refused.0) refused.1, asked.fails _ refused.1, (_, by));
-        room_left = (let none = no_room (g.C.WriteWords.room c.prepare_for_quantile.new.compressed) (λ some. g.met.C.WriteWords.room_law _ _ some refused.1) in omega (arith, none, asked.room_left));
+    record {
+      err = record {
+        before = coder_of _ _ _ number law g.C.Holds g.R.Holds _ _ _ _ parts.sized parts.head (law _) parts.window;
+        after = coder_of _ _ _ number law g.C.Holds g.R.Holds _ _ _ _ parts.sized parts.head (law _) parts.window;
+        outcome = record {
+          owes = refused.0;
+          h = refl;
+          r = refl;
+          compressed = ap (λ (ws : List _). map number ws) (c.in-Err-give_quantile.ensures.kept ∙ c.prepare_for_quantile.ensures.words);
+          why = inr (λ m. g.met.C.WriteWords.room_law _ _ (asked.made m refused.0) refused.1, asked.fails _ refused.1, (_, by));
+          room_left = (let none = no_room (g.C.WriteWords.room c.prepare_for_quantile.new.compressed) (λ some. g.met.C.WriteWords.room_law _ _ some refused.1) in omega (arith, none, asked.room_left));
+        };
       };
-    })
+      ok = tt;
+    }

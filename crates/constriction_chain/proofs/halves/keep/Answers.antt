@@ -1,7 +1,7 @@
 use Rattle.constriction_chain.proofs.halves.keep.Goals as goal
 
-pub returns-in-Ok-clause-ok : goal.returns-in-Ok-clause-ok
-returns-in-Ok-clause-ok g c = rw (c.widen-t.ensures, c.minus.ensures, c.widen.ensures) at c.in-Ok.ensures.ok
+pub returns-in-Ok : goal.returns-in-Ok
+returns-in-Ok g c = record { ok = rw (c.widen-t.ensures, c.minus.ensures, c.widen.ensures) at c.in-Ok.ensures.ok; err = tt }
 
-pub returns-in-Err-clause-err : goal.returns-in-Err-clause-err
-returns-in-Err-clause-err g c = rw (c.widen-t.ensures, c.minus.ensures, c.widen.ensures) at c.in-Err.ensures.err
+pub returns-in-Err : goal.returns-in-Err
+returns-in-Err g c = record { ok = tt; err = rw (c.widen-t.ensures, c.minus.ensures, c.widen.ensures) at c.in-Err.ensures.err }

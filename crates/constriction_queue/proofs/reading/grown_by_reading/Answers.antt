@@ -5,11 +5,6 @@ use Rattle.constriction_queue.proofs.Pointing.{at_long, at_short}
 use Rattle.constriction_queue.proofs.Distances.{point_shifted, room_for_word}
 use Rattle.constriction_queue.proofs.reading.grown_by_reading.Goals as goal
 
-pub returns-then-not-is_nothing-clause-wide : goal.returns-then-not-is_nothing-clause-wide
-returns-then-not-is_nothing-clause-wide g c =
-    let is = rw (c.BITS.ensures, c.BITS-2.ensures) at c.shifted_right.ensures in
-    large_of_shr _ _ (λ e. let off = c.if-not-is_nothing.ensures.1 (is ∙ e) in cc)
-
 pub shifted_left-lower-requires-clause-fits : goal.shifted_left-lower-requires-clause-fits
 shifted_left-lower-requires-clause-fits g c =
     rw (c.low_bits.ensures, c.BITS.ensures, c.BITS-2.ensures, c.BITS-3.ensures) (lower_fits _ _ _ (omega arith))
@@ -35,14 +30,32 @@ plus-distance-requires g c =
     rw (c.shifted_left.ensures, c.BITS-5.ensures, c.widen.ensures)
     (room_for_word g.Word.BitArray.BITS g.State.BitArray.BITS (g.State.BitArray.number c.args.distance) _ (omega arith) (omega (arith, short, c.requires.below)) (g.met.Word.BitArray.number_law _))
 
-pub returns-then-not-is_nothing-clause-list : goal.returns-then-not-is_nothing-clause-list
-returns-then-not-is_nothing-clause-list g c list ws r h =
+pub returns-then-not-is_nothing : goal.returns-then-not-is_nothing
+returns-then-not-is_nothing g c =
     let is = rw (c.BITS.ensures, c.BITS-2.ensures) at c.shifted_right.ensures in
     let long = large_of_shr _ _ (λ e. let off = c.if-not-is_nothing.ensures.1 (is ∙ e) in cc) in
-    at_long _ _ ws r _ _ _ _ long h
+    record {
+      wide = long;
+      list = λ list ws r h. at_long _ _ ws r _ _ _ _ long h;
+      kept = λ _. tt;
+      reads = inr (λ short. absurd (omega (arith, short, long)), refl, λ ws r rest h. at_long _ _ ws r _ _ _ _ long h);
+      err = tt;
+    }
 
-pub returns-clause-list : goal.returns-clause-list
-returns-clause-list g c list ws r h =
+pub returns-in-Err : goal.returns-in-Err
+returns-in-Err g c =
+    let is = rw (c.BITS.ensures, c.BITS-2.ensures) at c.shifted_right.ensures in
+    let short = small_of_shr _ _ (sym is ∙ c.if-not-is_nothing.ensures.0 refl) in
+    record {
+      wide = tt;
+      list = λ _. tt;
+      kept = λ list. c.in-Err.ensures.kept list;
+      reads = tt;
+      err = (short, c.in-Err.ensures.err);
+    }
+
+pub returns : goal.returns
+returns g c =
     let is = rw (c.BITS.ensures, c.BITS-2.ensures) at c.shifted_right.ensures in
     let short = small_of_shr _ _ (sym is ∙ c.if-not-is_nothing.ensures.0 refl) in
     let lower = rw (c.low_bits.ensures, c.BITS.ensures, c.BITS-2.ensures, c.BITS-3.ensures) at c.shifted_left-lower.ensures in
@@ -51,30 +64,19 @@ returns-clause-list g c list ws r h =
     let point : (g.State.BitArray.number c.plus-distance.result + g.State.BitArray.number c.shifted_left-lower.result) % 2 ^ g.State.BitArray.BITS
     ≡ (g.State.BitArray.number c.args.distance + g.State.BitArray.number c.args.lower) % 2 ^ g.State.BitArray.BITS % 2 ^ (g.State.BitArray.BITS - g.Word.BitArray.BITS) * 2 ^ g.Word.BitArray.BITS + g.Word.BitArray.number c.in-Ok.word =
     rw (distance, lower) (point_shifted g.Word.BitArray.BITS g.State.BitArray.BITS (g.State.BitArray.number c.args.distance) (g.State.BitArray.number c.args.lower) _ (omega arith) (g.met.Word.BitArray.number_law c.in-Ok.word)) in
-    at_short _ _ ws r _ _ _ _ _ _ _ _ _ (omega arith) (g.met.Word.BitArray.number_law _) short lower range point (c.in-Ok.ensures.word list) (c.in-Ok.ensures.rest list) h
-
-pub returns-then-not-is_nothing-clause-reads : goal.returns-then-not-is_nothing-clause-reads
-returns-then-not-is_nothing-clause-reads g c =
-    let is = rw (c.BITS.ensures, c.BITS-2.ensures) at c.shifted_right.ensures in
-    let long = large_of_shr _ _ (λ e. let off = c.if-not-is_nothing.ensures.1 (is ∙ e) in cc) in
-    inr (λ short. absurd (omega arith), refl, λ ws r rest h. at_long _ _ ws r _ _ _ _ long h)
-
-pub returns-clause-reads : goal.returns-clause-reads
-returns-clause-reads g c =
-    let is = rw (c.BITS.ensures, c.BITS-2.ensures) at c.shifted_right.ensures in
-    let short = small_of_shr _ _ (sym is ∙ c.if-not-is_nothing.ensures.0 refl) in
-    let lower = rw (c.low_bits.ensures, c.BITS.ensures, c.BITS-2.ensures, c.BITS-3.ensures) at c.shifted_left-lower.ensures in
-    let range = rw c.BITS-4.ensures at c.shifted_left-range.ensures in
-    let distance = rw (c.shifted_left.ensures, c.BITS-5.ensures, c.widen.ensures) at c.plus-distance.ensures in
-    let point : (g.State.BitArray.number c.plus-distance.result + g.State.BitArray.number c.shifted_left-lower.result) % 2 ^ g.State.BitArray.BITS
-    ≡ (g.State.BitArray.number c.args.distance + g.State.BitArray.number c.args.lower) % 2 ^ g.State.BitArray.BITS % 2 ^ (g.State.BitArray.BITS - g.Word.BitArray.BITS) * 2 ^ g.Word.BitArray.BITS + g.Word.BitArray.number c.in-Ok.word =
-    rw (distance, lower) (point_shifted g.Word.BitArray.BITS g.State.BitArray.BITS (g.State.BitArray.number c.args.distance) (g.State.BitArray.number c.args.lower) _ (omega arith) (g.met.Word.BitArray.number_law c.in-Ok.word)) in
-    inl (
-      short,
-      (
-        g.Word.BitArray.number c.in-Ok.word,
-        c.in-Ok.ensures.reads,
-        λ ws r rest h.
-            at_short _ _ ws r _ _ _ _ _ _ _ (g.Word.BitArray.number c.in-Ok.word ∷ rest) rest (omega arith) (g.met.Word.BitArray.number_law _) short lower range point refl refl h,
-      ),
-    )
+    record {
+      wide = rw range c.requires.wide;
+      list = λ list ws r h.
+          at_short _ _ ws r _ _ _ _ _ _ _ _ _ (omega arith) (g.met.Word.BitArray.number_law _) short lower range point (c.in-Ok.ensures.word list) (c.in-Ok.ensures.rest list) h;
+      kept = λ _. tt;
+      reads = inl (
+        short,
+        (
+          g.Word.BitArray.number c.in-Ok.word,
+          c.in-Ok.ensures.reads,
+          λ ws r rest h.
+              at_short _ _ ws r _ _ _ _ _ _ _ (g.Word.BitArray.number c.in-Ok.word ∷ rest) rest (omega arith) (g.met.Word.BitArray.number_law _) short lower range point refl refl h,
+        ),
+      );
+      err = tt;
+    }

@@ -11,18 +11,8 @@ grown_by_reading-requires-clause-wide g c =
     rw (c.times-part.ensures, c.shifted_right-scale.ensures)
     (cut_wide _ _ _ _ _ c.requires.step.within_word c.requires.sizes.two_words c.requires.step.not_empty c.requires.wide)
 
-pub returns-in-Ok-clause-list : goal.returns-in-Ok-clause-list
-returns-in-Ok-clause-list g c list ws r h =
-    let scale = c.shifted_right-scale.ensures in
-    let lower = rw c.times-before.ensures at c.wrapping_plus-start.ensures in
-    let some = scale_some g.Word.BitArray.BITS g.State.BitArray.BITS c.args.precision _ c.requires.step.within_word c.requires.sizes.two_words c.requires.wide in
-    let before = part_from (g.State.BitArray.number c.args.distance) _ (g.State.BitArray.number c.args.left) some c.requires.above in
-    let stays : (g.State.BitArray.number c.minus.result + g.State.BitArray.number c.wrapping_plus-start.result) % 2 ^ g.State.BitArray.BITS ≡ (g.State.BitArray.number c.args.distance + g.State.BitArray.number c.args.lower) % 2 ^ g.State.BitArray.BITS =
-    rw (c.minus.ensures, lower, c.times-before.ensures, scale) (point_stays (g.State.BitArray.number c.args.distance) (g.State.BitArray.number c.args.lower) _ (2 ^ g.State.BitArray.BITS) (pow_pos g.State.BitArray.BITS) before) in
-    (rw stays at c.in-Ok.ensures.list) list ws (cut _ r) (at_cut _ _ _ _ _ ws r _ _ _ _ _ _ _ scale lower c.times-part.ensures h)
-
-pub returns-in-Ok-clause-reads : goal.returns-in-Ok-clause-reads
-returns-in-Ok-clause-reads g c =
+pub returns-in-Ok : goal.returns-in-Ok
+returns-in-Ok g c =
     let scale = c.shifted_right-scale.ensures in
     let lower = rw c.times-before.ensures at c.wrapping_plus-start.ensures in
     let some = scale_some g.Word.BitArray.BITS g.State.BitArray.BITS c.args.precision _ c.requires.step.within_word c.requires.sizes.two_words c.requires.wide in
@@ -31,17 +21,23 @@ returns-in-Ok-clause-reads g c =
     rw (c.minus.ensures, lower, c.times-before.ensures, scale) (point_stays (g.State.BitArray.number c.args.distance) (g.State.BitArray.number c.args.lower) _ (2 ^ g.State.BitArray.BITS) (pow_pos g.State.BitArray.BITS) before) in
     let range = rw scale at c.times-part.ensures in
     let reads = rw stays at c.in-Ok.ensures.reads in
-    elim reads [
-      | inl read ↦ inl (
-        rw range at read.0,
-        (read.1.0, read.1.1, λ ws r rest h. read.1.2 ws (cut _ r) rest (at_cut _ _ _ _ _ ws r _ _ _ _ _ _ _ scale lower c.times-part.ensures h)),
-      )
-      | inr none ↦ inr (
-        λ owes. none.0 (rw (← range) at owes),
-        none.1,
-        λ ws r rest h. none.2 ws (cut _ r) rest (at_cut _ _ _ _ _ ws r _ _ _ _ _ _ _ scale lower c.times-part.ensures h),
-      )
-    ]
+    record {
+      wide = c.in-Ok.ensures.wide;
+      list = λ list ws r h. (rw stays at c.in-Ok.ensures.list) list ws (cut _ r) (at_cut _ _ _ _ _ ws r _ _ _ _ _ _ _ scale lower c.times-part.ensures h);
+      kept = λ _. tt;
+      reads = elim reads [
+        | inl read ↦ inl (
+          rw range at read.0,
+          (read.1.0, read.1.1, λ ws r rest h. read.1.2 ws (cut _ r) rest (at_cut _ _ _ _ _ ws r _ _ _ _ _ _ _ scale lower c.times-part.ensures h)),
+        )
+        | inr none ↦ inr (
+          λ owes. none.0 (rw (← range) at owes),
+          none.1,
+          λ ws r rest h. none.2 ws (cut _ r) rest (at_cut _ _ _ _ _ ws r _ _ _ _ _ _ _ scale lower c.times-part.ensures h),
+        )
+      ];
+      err = tt;
+    }
 
 pub shifted_right-scale-requires : goal.shifted_right-scale-requires
 shifted_right-scale-requires g c = omega (arith, c.requires.step.within_word, c.requires.sizes.two_words, c.requires.sizes.some_bits)
@@ -55,14 +51,14 @@ times-before-requires g c = before_fits _ _ _ _ _ _ c.shifted_right-scale.ensure
 pub grown_by_reading-requires-clause-sized : goal.grown_by_reading-requires-clause-sized
 grown_by_reading-requires-clause-sized g c = c.requires.sizes.two_words
 
-pub returns-in-Ok-clause-wide : goal.returns-in-Ok-clause-wide
-returns-in-Ok-clause-wide g c = c.in-Ok.ensures.wide
-
-pub returns-in-Err-clause-kept : goal.returns-in-Err-clause-kept
-returns-in-Err-clause-kept g c = λ list. c.in-Err.ensures.kept list
-
-pub returns-in-Err-clause-err : goal.returns-in-Err-clause-err
-returns-in-Err-clause-err g c = (rw (c.times-part.ensures, c.shifted_right-scale.ensures) at c.in-Err.ensures.err.0, c.in-Err.ensures.err.1)
+pub returns-in-Err : goal.returns-in-Err
+returns-in-Err g c = record {
+  wide = tt;
+  list = λ _. tt;
+  kept = λ list. c.in-Err.ensures.kept list;
+  reads = tt;
+  err = (rw (c.times-part.ensures, c.shifted_right-scale.ensures) at c.in-Err.ensures.err.0, c.in-Err.ensures.err.1);
+}
 
 pub minus-requires : goal.minus-requires
 minus-requires g c =

@@ -9,8 +9,8 @@ pub grow-after-requires-clause-wide : goal.grow-after-requires-clause-wide
 grow-after-requires-clause-wide g c =
     rw c.narrowed-part.ensures.range (cut_wide _ _ _ _ _ c.requires.step.within_word c.requires.sizes.two_words c.requires.step.not_empty c.requires.wide)
 
-pub returns-in-Ok-clause-ok : goal.returns-in-Ok-clause-ok
-returns-in-Ok-clause-ok g c =
+pub returns-in-Ok : goal.returns-in-Ok
+returns-in-Ok g c =
     let number = g.Word.BitArray.number in
     let words = map number (g.Backend.Holds.words c.args.bulk.now) in
     let released = released_of number c.narrowed-part.result.released in
@@ -18,32 +18,37 @@ returns-in-Ok-clause-ok g c =
     let all = c.grow-after.ensures.run (released ++ words) ∙ ap (grown g.Word.BitArray.BITS g.State.BitArray.BITS) (c.narrowed-part.ensures.run words) in
     let is = rw (sym (append_assoc top released words)) at all in
     record {
-      before = is_encoder number g.Backend.Holds _ _ _ _ _ c.args.situation c.requires.sizes c.requires.fit c.requires.wide (g.met.State.BitArray.number_law _) (g.met.State.BitArray.number_law _);
-      after = is_encoder number g.Backend.Holds _ _ _ _ _ c.grow-after.result.situation c.requires.sizes c.grow-after.ensures.fit c.grow-after.ensures.wide (g.met.State.BitArray.number_law _) (g.met.State.BitArray.number_law _);
-      narrowed = rw c.in-Ok.ensures.written.words is;
-      written = record {
-        owed = top ++ released;
-        owes = record {
-          are_words = owed_are_words number _ g.met.Word.BitArray.number_law c.narrowed-part.result.released c.grow-after.result.top;
-          lower_fits = g.met.State.BitArray.number_law _;
-          situation = c.grow-after.result.situation;
-          lower = _;
-          range = _;
-          fits = c.grow-after.ensures.fit;
-          is = is;
+      ok = record {
+        before = is_encoder number g.Backend.Holds _ _ _ _ _ c.args.situation c.requires.sizes c.requires.fit c.requires.wide (g.met.State.BitArray.number_law _) (g.met.State.BitArray.number_law _);
+        after = is_encoder number g.Backend.Holds _ _ _ _ _ c.grow-after.result.situation c.requires.sizes c.grow-after.ensures.fit c.grow-after.ensures.wide (g.met.State.BitArray.number_law _) (g.met.State.BitArray.number_law _);
+        narrowed = rw c.in-Ok.ensures.written.words is;
+        written = record {
+          owed = top ++ released;
+          owes = record {
+            are_words = owed_are_words number _ g.met.Word.BitArray.number_law c.narrowed-part.result.released c.grow-after.result.top;
+            lower_fits = g.met.State.BitArray.number_law _;
+            situation = c.grow-after.result.situation;
+            lower = _;
+            range = _;
+            fits = c.grow-after.ensures.fit;
+            is = is;
+          };
+          words = c.in-Ok.ensures.written.words;
+          room_used = c.in-Ok.ensures.written.room_used;
+          untouched = λ none. (c.in-Ok.ensures.written.untouched none).1;
         };
-        words = c.in-Ok.ensures.written.words;
-        room_used = c.in-Ok.ensures.written.room_used;
-        untouched = λ none. (c.in-Ok.ensures.written.untouched none).1;
+        held = omega (arith, c.grow-after.ensures.held, c.narrowed-part.ensures.held);
+        heads = tt;
+        kept = λ _. tt;
+        error = tt;
       };
-      held = omega (arith, c.grow-after.ensures.held, c.narrowed-part.ensures.held);
-      heads = tt;
-      kept = λ _. tt;
-      error = tt;
+      wide = c.grow-after.ensures.wide;
+      fit = c.grow-after.ensures.fit;
+      err = tt;
     }
 
-pub returns-in-Err-clause-err : goal.returns-in-Err-clause-err
-returns-in-Err-clause-err g c =
+pub returns-in-Err : goal.returns-in-Err
+returns-in-Err g c =
     let number = g.Word.BitArray.number in
     let words = map number (g.Backend.Holds.words c.args.bulk.now) in
     let released = released_of number c.narrowed-part.result.released in
@@ -51,30 +56,35 @@ returns-in-Err-clause-err g c =
     let all = c.grow-after.ensures.run (released ++ words) ∙ ap (grown g.Word.BitArray.BITS g.State.BitArray.BITS) (c.narrowed-part.ensures.run words) in
     let is = rw (sym (append_assoc top released words)) at all in
     record {
-      before = is_encoder number g.Backend.Holds _ _ _ _ _ c.args.situation c.requires.sizes c.requires.fit c.requires.wide (g.met.State.BitArray.number_law _) (g.met.State.BitArray.number_law _);
-      after = is_encoder number g.Backend.Holds _ _ _ _ _ c.args.situation c.requires.sizes c.requires.fit c.requires.wide (g.met.State.BitArray.number_law _) (g.met.State.BitArray.number_law _);
-      narrowed = tt;
-      written = tt;
-      held = omega arith;
-      heads = record { held = refl; lower = refl; range = refl };
-      kept = λ makes. ap (map number) (c.in-Err.ensures.written.kept makes);
-      error = record {
-        owed = top ++ released;
-        owes = record {
-          are_words = owed_are_words number _ g.met.Word.BitArray.number_law c.narrowed-part.result.released c.grow-after.result.top;
-          lower_fits = g.met.State.BitArray.number_law _;
-          situation = c.grow-after.result.situation;
-          lower = _;
-          range = _;
-          fits = c.grow-after.ensures.fit;
-          is = is;
+      err = record {
+        before = is_encoder number g.Backend.Holds _ _ _ _ _ c.args.situation c.requires.sizes c.requires.fit c.requires.wide (g.met.State.BitArray.number_law _) (g.met.State.BitArray.number_law _);
+        after = is_encoder number g.Backend.Holds _ _ _ _ _ c.args.situation c.requires.sizes c.requires.fit c.requires.wide (g.met.State.BitArray.number_law _) (g.met.State.BitArray.number_law _);
+        narrowed = tt;
+        written = tt;
+        held = omega arith;
+        heads = record { held = refl; lower = refl; range = refl };
+        kept = λ makes. ap (map number) (c.in-Err.ensures.written.kept makes);
+        error = record {
+          owed = top ++ released;
+          owes = record {
+            are_words = owed_are_words number _ g.met.Word.BitArray.number_law c.narrowed-part.result.released c.grow-after.result.top;
+            lower_fits = g.met.State.BitArray.number_law _;
+            situation = c.grow-after.result.situation;
+            lower = _;
+            range = _;
+            fits = c.grow-after.ensures.fit;
+            is = is;
+          };
+          begun = c.in-Err.ensures.written.begun;
+          short = c.in-Err.ensures.written.short;
+          error = elim c.in-Err.ensures.written.error [
+            | inl room ↦ inl room.0
+            | inr write ↦ inr write
+          ];
+          one = λ none. c.in-Err.ensures.one (c.narrowed-part.ensures.none none);
         };
-        begun = c.in-Err.ensures.written.begun;
-        short = c.in-Err.ensures.written.short;
-        error = elim c.in-Err.ensures.written.error [
-          | inl room ↦ inl room.0
-          | inr write ↦ inr write
-        ];
-        one = λ none. c.in-Err.ensures.one (c.narrowed-part.ensures.none none);
       };
+      ok = tt;
+      wide = tt;
+      fit = tt;
     }
