@@ -10,8 +10,8 @@ use Rattle.constriction_inputs.specs.declared.refusal.Refusal.{Refusal}
 use Rattle.constriction_inputs.specs.declared.refusal.Refusal.TheVariants.{ImpossibleSymbol, WrongInterval, WrongLength, WrongWeights}
 
 -- ---- quantizers
--- The errors of making a quantizer: there are as many locations as scales, the range has at least two and at most
--- 2 ^ precision symbols, and a family has the caller's number and each scale is above 0.
+-- The errors of making a quantizer. The call checks in this order: there are as many locations as scales, the range has
+-- at least two and at most 2 ^ precision symbols, and a family has the caller's number and each scale is above 0.
 abbrev pub AsksFamily : {T : Type 0} → ℕ → ByFamily → Result T Refusal → Type 0
 AsksFamily precision by = Asks WrongLength (length by.locations ≡ length by.scales)
     (Asks WrongInterval (IsRange precision by.min by.max) (Asks WrongWeights (AreScaled by.family by.scales) (Else Never)))
