@@ -7,9 +7,12 @@ use Rattle.constriction_stack.specs.Binary.{binary_words}
 use Rattle.constriction_stack.specs.Symbols.{DecodesAll, EncodesAll}
 use Rattle.constriction_inputs.specs.Buffers.{Appended, stack_in}
 use Rattle.constriction_inputs.specs.Coded.{AsksFit, Coded, items}
+use Rattle.constriction_inputs.specs.Intervals.{as_intervals}
 use Rattle.constriction_inputs.specs.Refusals.{Asks, Else, Memory, Never, Room}
+use Rattle.constriction_inputs.specs.Weights.{by_weights}
 use Rattle.constriction_inputs.specs.declared.refusal.Refusal.{Refusal}
 use Rattle.constriction_inputs.specs.declared.refusal.Refusal.TheVariants.{ImpossibleSymbol, InvalidData, WrongLength}
+use Rattle.constriction_words.specs.declared.bit_array.BitArray as numbers
 
 -- A coder that a caller keeps: a head, and a buffer whose first `len` words are in use. The last of these is on top.
 pub record AnsKept (Word State : Type 0) : Type 0 where
@@ -72,6 +75,32 @@ pub record AnsTakes {Word State : Type 0} (number : Word → ℕ) (state : State
   pub asked : Asks WrongLength (IsWithin old) (AsksFit precision (coded old_symbols) (Else Memory)) answer
   pub kept : OnErr answer ((new ≡ old) × (new_symbols ≡ old_symbols))
 
+-- ---- symbols, with the numbers of types
+-- `AnsPuts` with the numbers and sizes in bits of two types: of words and of heads. The head, the buffer and the number
+-- of words in use come first as they are before the call, and then as they are after it.
+abbrev pub AnsPutsBy : {Word State N M : Type 0} → numbers.Ghosts Word N → numbers.Ghosts State M → ℕ → Coded
+    → State → List Word → ℕ → State → List Word → ℕ → Result (Unit {0}) Refusal → Type 0
+AnsPutsBy word state precision coded head words len new_head new_words new_len answer =
+    AnsPuts word.number state.number word.BITS state.BITS precision coded (coder_of head words len) (coder_of new_head new_words new_len) answer
+
+-- `AnsPutsBy` for intervals, each given by its start and its length.
+abbrev pub AnsPutsIntervals : {Word State P N M : Type 0} → numbers.Ghosts Word N → numbers.Ghosts State M → ℕ → (P → ℕ) → List P → List P
+    → State → List Word → ℕ → State → List Word → ℕ → Result (Unit {0}) Refusal → Type 0
+AnsPutsIntervals word state precision number lefts ps head words len new_head new_words new_len answer =
+    AnsPutsBy word state precision (as_intervals (map number lefts) (map number ps)) head words len new_head new_words new_len answer
+
+-- `AnsTakes` with the numbers and sizes in bits of two types: of words and of heads. The buffer stays as it is.
+abbrev pub AnsTakesBy : {Word State N M : Type 0} → numbers.Ghosts Word N → numbers.Ghosts State M → ℕ → (List ℕ → Coded)
+    → List Word → State → ℕ → State → ℕ → List ℕ → List ℕ → Result (Unit {0}) Refusal → Type 0
+AnsTakesBy word state precision coded words head len new_head new_len old_symbols new_symbols answer =
+    AnsTakes word.number state.number word.BITS state.BITS precision coded (coder_of head words len) (coder_of new_head words new_len) old_symbols new_symbols answer
+
+-- `AnsTakesBy` with one table of weights for all symbols.
+abbrev pub AnsTakesByWeights : {Word State P N M : Type 0} → numbers.Ghosts Word N → numbers.Ghosts State M → ℕ → (P → ℕ) → List P
+    → List Word → State → ℕ → State → ℕ → List ℕ → List ℕ → Result (Unit {0}) Refusal → Type 0
+AnsTakesByWeights word state precision number weights words head len new_head new_len old_symbols new_symbols answer =
+    AnsTakesBy word state precision (by_weights (map number weights)) words head len new_head new_len old_symbols new_symbols answer
+
 -- ---- words
 -- The contract of an import call. It makes the state `makes` of the caller's words, of which the last is on top.
 -- `InvalidData` comes exactly if the words don't have the property `holds`.
@@ -81,6 +110,12 @@ pub record AnsImports {Word State : Type 0} (number : Word → ℕ) (state : Sta
   pub within : OnOk answer ((new.words ≡ old.words) × IsWithin new)
   pub asked : Asks InvalidData (holds (map number (reverse old.words))) (Else Never) answer
   pub kept : OnErr answer (new ≡ old)
+
+-- `AnsImports` with the numbers and sizes in bits of two types: of words and of heads. `makes` takes the sizes first.
+abbrev pub AnsImportsBy : {Word State N M : Type 0} → numbers.Ghosts Word N → numbers.Ghosts State M → (ℕ → ℕ → List ℕ → AnsState) → (List ℕ → Type 0)
+    → List Word → State → ℕ → State → ℕ → Result (Unit {0}) Refusal → Type 0
+AnsImportsBy word state makes holds words head len new_head new_len answer =
+    AnsImports word.number state.number (makes word.BITS state.BITS) holds (coder_of head words len) (coder_of new_head words new_len) answer
 
 -- A state has `needed` words in the form `are`, but the buffer holds only `room` words, which is fewer.
 pub record ExportLacksRoom (are : AnsState → List ℕ → Type 0) (room : ℕ) (old : AnsState) (needed : ℕ) : Type 0 where

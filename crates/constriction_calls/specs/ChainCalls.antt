@@ -1,5 +1,5 @@
 -- Contracts of the chain coder's calls: what each call does with the caller's coder, and when each error comes.
-use Rattle.std.specs.Prelude.{◌≡◌, ℕ, ◌*◌, ◌<◌, ◌≤◌, List, ◌∷◌, ◌++◌, [], length, reverse, take, Result, OnErr, OnOk}
+use Rattle.std.specs.Prelude.{◌≡◌, ℕ, ◌*◌, ◌<◌, ◌≤◌, List, ◌∷◌, ◌++◌, [], length, map, reverse, take, Result, OnErr, OnOk}
 use Rattle.constriction_base.specs.Models.{AreKnown, Item}
 use Rattle.constriction_base.specs.Tables.{AtEntry}
 use Rattle.constriction_base.specs.Windows.{IsInWindow}
@@ -8,10 +8,13 @@ use Rattle.constriction_chain.specs.Symbols.{TakesOffAll, PutsBackAll}
 use Rattle.constriction_chain.specs.Walk.{NeedsWord}
 use Rattle.constriction_inputs.specs.Buffers.{Appended, stack_in}
 use Rattle.constriction_inputs.specs.Coded.{AsksFit, Coded, items}
+use Rattle.constriction_inputs.specs.Intervals.{as_intervals}
 use Rattle.constriction_inputs.specs.Refusals.{Asks, DataOrRoom, Else}
+use Rattle.constriction_inputs.specs.Weights.{by_weights}
 use Rattle.constriction_calls.specs.declared.chain.ChainHeads.{ChainHeads}
 use Rattle.constriction_inputs.specs.declared.refusal.Refusal.{Refusal}
 use Rattle.constriction_inputs.specs.declared.refusal.Refusal.TheVariants.{ImpossibleSymbol, InvalidData, WrongLength}
+use Rattle.constriction_words.specs.declared.bit_array.BitArray as numbers
 
 -- ---- states
 -- The chain coder's state with the compressed head `h`, the remainders head `r`, and the words in use of two buffers.
@@ -37,6 +40,10 @@ keeps heads compressed len remainders len' = record { heads = heads; compressed 
 abbrev pub chain_kept : {Word State : Type 0} → (Word → ℕ) → (State → ℕ) → ChainKept Word State → ChainState
 chain_kept number state kept =
     chain_in number (number kept.heads.compressed) (state kept.heads.remainders) kept.compressed kept.compressed_len kept.remainders kept.remainders_len
+
+-- The heads that a caller keeps are those of the state `x`.
+abbrev pub AreHeadsOf : {Word State : Type 0} → (Word → ℕ) → (State → ℕ) → ChainState → ChainHeads Word State → Type 0
+AreHeadsOf number state x heads = (number heads.compressed ≡ x.h) × (state heads.remainders ≡ x.r)
 
 -- The words in use are within the buffers.
 abbrev pub AreInUse : {Word State : Type 0} → ChainKept Word State → Type 0
@@ -106,6 +113,16 @@ pub record ChainPuts {Word State : Type 0} (number : Word → ℕ) (state : Stat
   pub asked : Asks WrongLength (AreInUse old) (AsksFit P coded (AsksToPut number state w s P (items P coded) old)) answer
   pub kept : OnErr answer (new ≡ old)
 
+-- `ChainPuts` with the numbers and sizes in bits of two types: of words and of remainders heads.
+abbrev pub ChainPutsBy : {Word State N M : Type 0} → numbers.Ghosts Word N → numbers.Ghosts State M → ℕ → Coded
+    → ChainKept Word State → ChainKept Word State → Result (Unit {0}) Refusal → Type 0
+ChainPutsBy word state P coded old new answer = ChainPuts word.number state.number word.BITS state.BITS P coded old new answer
+
+-- `ChainPutsBy` for intervals, each given by its start and its length.
+abbrev pub ChainPutsIntervals : {Word State P N M : Type 0} → numbers.Ghosts Word N → numbers.Ghosts State M → ℕ → (P → ℕ) → List P → List P
+    → ChainKept Word State → ChainKept Word State → Result (Unit {0}) Refusal → Type 0
+ChainPutsIntervals word state P number lefts ps old new answer = ChainPutsBy word state P (as_intervals (map number lefts) (map number ps)) old new answer
+
 -- The errors of a decode call whose lengths and models fit: `InvalidData` if no coder has these heads, and then
 -- `OutOfData`, `NoSpace` or `NoMemory`.
 abbrev pub AsksToTake : {Word State : Type 0} → (Word → ℕ) → (State → ℕ) → ℕ → ℕ → ℕ → (List ℕ → List (Item ℕ)) → ℕ → ChainKept Word State → Result (Unit {0}) Refusal → Type 0
@@ -124,3 +141,15 @@ pub record ChainTakes {Word State : Type 0} (number : Word → ℕ) (state : Sta
   pub asked : Asks WrongLength (AreInUse old)
       (AsksFit P (coded old_symbols) (AsksToTake number state w s P (λ symbols. items P (coded symbols)) (length old_symbols) old)) answer
   pub kept : OnErr answer ((new ≡ old) × (new_symbols ≡ old_symbols))
+
+-- `ChainTakes` with the numbers and sizes in bits of two types: of words and of remainders heads.
+abbrev pub ChainTakesBy : {Word State N M : Type 0} → numbers.Ghosts Word N → numbers.Ghosts State M → ℕ → (List ℕ → Coded)
+    → ChainKept Word State → ChainKept Word State → List ℕ → List ℕ → Result (Unit {0}) Refusal → Type 0
+ChainTakesBy word state P coded old new old_symbols new_symbols answer =
+    ChainTakes word.number state.number word.BITS state.BITS P coded old new old_symbols new_symbols answer
+
+-- `ChainTakesBy` with one table of weights for all symbols.
+abbrev pub ChainTakesByWeights : {Word State P N M : Type 0} → numbers.Ghosts Word N → numbers.Ghosts State M → ℕ → (P → ℕ) → List P
+    → ChainKept Word State → ChainKept Word State → List ℕ → List ℕ → Result (Unit {0}) Refusal → Type 0
+ChainTakesByWeights word state P number weights old new old_symbols new_symbols answer =
+    ChainTakesBy word state P (by_weights (map number weights)) old new old_symbols new_symbols answer

@@ -10,6 +10,7 @@ use Rattle.constriction_inputs.specs.Refusals.{Asks, Else, Never, Room}
 use Rattle.constriction_calls.specs.declared.chain.ChainHeads.{ChainHeads}
 use Rattle.constriction_inputs.specs.declared.refusal.Refusal.{Refusal}
 use Rattle.constriction_inputs.specs.declared.refusal.Refusal.TheVariants.{InvalidData, WrongLength}
+use Rattle.constriction_words.specs.declared.bit_array.BitArray as numbers
 
 -- The form of the words that a chain coder is imported from, or exported as.
 -- `InCompressed`: compressed words, and above them the words of the remainders head. `InBinary`: the same, with the
@@ -46,6 +47,13 @@ pub record ChainBegins {Word State : Type 0} (number : Word → ℕ) (state : St
   pub within : OnOk answer (new.len ≤ length words)
   pub asked : Asks InvalidData ((x : ChainState) × Begins form w s P (map number (reverse words)) x) (Else Never) answer
   pub kept : OnErr answer (new ≡ old)
+
+-- `ChainBegins` with the numbers and sizes in bits of two types: of words and of remainders heads. The heads and the
+-- number of words below them come first as they are before the call, and then as they are after it.
+abbrev pub ChainBeginsBy : {Word State N M : Type 0} → numbers.Ghosts Word N → numbers.Ghosts State M → ℕ → Form → List Word
+    → ChainHeads Word State → ℕ → ChainHeads Word State → ℕ → Result (Unit {0}) Refusal → Type 0
+ChainBeginsBy word state P form words heads len new_heads new_len answer =
+    ChainBegins word.number state.number word.BITS state.BITS P form words (record { heads = heads; len = len }) (record { heads = new_heads; len = new_len }) answer
 
 -- ---- words of heads
 -- The heads belong to a coder without bits left over.
@@ -86,3 +94,10 @@ pub record ChainEnds {Word State : Type 0} (number : Word → ℕ) (state : Stat
   pub asked : Asks WrongLength (old.len ≤ length old.words) (Asks InvalidData (HaveWords number state w s P form heads)
       (Else (Room (NoRoomFor (length old.words) (λ words. AreWordsInForm form w words (heads_over number state form heads old.words old.len)))))) answer
   pub kept : OnErr answer (new ≡ old)
+
+-- `ChainEnds` with the numbers and sizes in bits of two types: of words and of remainders heads. The buffer and the
+-- number of words in use come first as they are before the call, and then as they are after it.
+abbrev pub ChainEndsBy : {Word State N M : Type 0} → numbers.Ghosts Word N → numbers.Ghosts State M → ℕ → Form → ChainHeads Word State
+    → List Word → ℕ → List Word → ℕ → Result (Unit {0}) Refusal → Type 0
+ChainEndsBy word state P form heads words len new_words new_len answer =
+    ChainEnds word.number state.number word.BITS state.BITS P form heads (record { words = words; len = len }) (record { words = new_words; len = new_len }) answer

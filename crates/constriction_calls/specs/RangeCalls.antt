@@ -9,9 +9,12 @@ use Rattle.constriction_queue.specs.States.{IsPosition}
 use Rattle.constriction_queue.specs.Symbols.{FindsAll, MayEnd, NarrowsAll}
 use Rattle.constriction_inputs.specs.Buffers.{Appended}
 use Rattle.constriction_inputs.specs.Coded.{AsksFit, Coded, items}
+use Rattle.constriction_inputs.specs.Intervals.{as_intervals}
 use Rattle.constriction_inputs.specs.Refusals.{Asks, Else, Never, Room, Words}
+use Rattle.constriction_inputs.specs.Weights.{by_weights}
 use Rattle.constriction_inputs.specs.declared.refusal.Refusal.{Refusal}
 use Rattle.constriction_inputs.specs.declared.refusal.Refusal.TheVariants.{ImpossibleSymbol, InvalidData, NoMemory, NoSpace, WrongLength}
+use Rattle.constriction_words.specs.declared.bit_array.BitArray as numbers
 use Rattle.constriction_calls.specs.declared.range.parts.EncoderParts.{EncoderParts}
 use Rattle.constriction_calls.specs.declared.range.parts.DecoderParts.{DecoderParts}
 
@@ -99,6 +102,19 @@ pub record RangePuts {Word State : Type 0} (number : Word → ℕ) (state : Stat
       (Else (Room (LacksRoom number state w s (items precision (coded symbols)) old.encoder old.words old.len))))))) answer
   pub kept : OnErr answer (new ≡ old)
 
+-- `RangePuts` with the numbers and sizes in bits of two types: of words and of interval ends. The encoder, the buffer
+-- and the number of words in use come first as they are before the call, and then as they are after it.
+abbrev pub RangePutsBy : {Word State N M : Type 0} → numbers.Ghosts Word N → numbers.Ghosts State M → ℕ → (List ℕ → Coded) → List ℕ
+    → EncoderParts Word State → List Word → ℕ → EncoderParts Word State → List Word → ℕ → Result (Unit {0}) Refusal → Type 0
+RangePutsBy word state precision coded symbols encoder words len new_encoder new_words new_len answer =
+    RangePuts word.number state.number word.BITS state.BITS precision coded symbols (kept_in encoder words len) (kept_in new_encoder new_words new_len) answer
+
+-- `RangePutsBy` for intervals, each given by its start and its length.
+abbrev pub RangePutsIntervals : {Word State P N M : Type 0} → numbers.Ghosts Word N → numbers.Ghosts State M → ℕ → (P → ℕ) → List P → List P
+    → EncoderParts Word State → List Word → ℕ → EncoderParts Word State → List Word → ℕ → Result (Unit {0}) Refusal → Type 0
+RangePutsIntervals word state precision number lefts ps encoder words len new_encoder new_words new_len answer =
+    RangePutsBy word state precision (as_intervals (map number lefts)) (map number ps) encoder words len new_encoder new_words new_len answer
+
 -- The words are those of the run, completed with a seal.
 abbrev pub IsSealed : ℕ → ℕ → Run → List ℕ → Type 0
 IsSealed w s r words = words ≡ sealed w s r
@@ -123,6 +139,13 @@ pub record RangeSeals {Word State : Type 0} (number : Word → ℕ) (state : Sta
   pub asked : Asks WrongLength (old.len ≤ length old.words) (Asks InvalidData (IsEncoderKept number state w s old.encoder)
       (Else (RoomFirst (length old.words) (length (sealed w s (run_kept number state w s old.encoder (take old.len old.words))))))) answer
   pub kept : OnErr answer (new ≡ old)
+
+-- `RangeSeals` with the numbers and sizes in bits of two types: of words and of interval ends. `ends` takes the sizes
+-- first. The call leaves the encoder as it is.
+abbrev pub RangeSealsBy : {Word State N M : Type 0} → numbers.Ghosts Word N → numbers.Ghosts State M → (ℕ → ℕ → Run → List ℕ → Type 0)
+    → EncoderParts Word State → List Word → ℕ → List Word → ℕ → Result (Unit {0}) Refusal → Type 0
+RangeSealsBy word state ends encoder words len new_words new_len answer =
+    RangeSeals word.number state.number word.BITS state.BITS (ends word.BITS state.BITS) (kept_in encoder words len) (kept_in encoder new_words new_len) answer
 
 -- ---- decoders
 -- The numbers are those of a range decoder: the interval is at least 2^(s - w) long, and the point lies in it.
@@ -168,6 +191,13 @@ pub record RangeTakes {State : Type 0} (state : State → ℕ) (w s precision : 
   pub asked : Asks WrongLength (old.pos ≤ length buffer) (AsksFit precision (coded old_symbols) (Asks InvalidData (IsDecoderKept state w s old)
       (Else (Words (LeadsNowhere state w s buffer (λ symbols. items precision (coded symbols)) (length old_symbols) old))))) answer
   pub kept : OnErr answer ((new ≡ old) × (new_symbols ≡ old_symbols))
+
+-- `RangeTakes` with the numbers and sizes in bits of two types, of words and of interval ends, and with one table of
+-- weights for all symbols.
+abbrev pub RangeTakesByWeights : {Word State P N M : Type 0} → numbers.Ghosts Word N → numbers.Ghosts State M → ℕ → (P → ℕ) → List P → List Word
+    → DecoderParts State → DecoderParts State → List ℕ → List ℕ → Result (Unit {0}) Refusal → Type 0
+RangeTakesByWeights word state precision number weights words old new old_symbols new_symbols answer =
+    RangeTakes state.number word.BITS state.BITS precision (by_weights (map number weights)) (map word.number words) old new old_symbols new_symbols answer
 
 -- The contract of the call that makes a decoder of words: the decoder stands before the first symbol.
 pub record RangeBegins {Word State : Type 0} (number : Word → ℕ) (state : State → ℕ) (w s : ℕ) (words : List Word) (new : DecoderParts State) : Type 0 where

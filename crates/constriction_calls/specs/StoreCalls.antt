@@ -28,6 +28,10 @@ pub record StoreKept (Word State : Type 0) : Type 0 where
   pub words : List Word
   pub len : ℕ
 
+-- Makes one value of the buffers of a store.
+abbrev pub store_in : {Word State : Type 0} → List ℕ → List State → List State → List Word → ℕ → StoreKept Word State
+store_in positions lowers ranges words len = record { positions = positions; lowers = lowers; ranges = ranges; words = words; len = len }
+
 -- The index that the buffers hold, for chunks of the given lengths.
 abbrev pub index_kept : {Word State : Type 0} → (State → ℕ) → List ℕ → StoreKept Word State → List Entry
 index_kept state lengths kept = entries_by kept.positions (map state kept.lowers) (map state kept.ranges) lengths

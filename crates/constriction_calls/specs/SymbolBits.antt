@@ -20,6 +20,10 @@ pub record BitKept (Word : Type 0) : Type 0 where
   pub words : List Word
   pub bit : ℕ
 
+-- Makes one value of a buffer and the bit.
+abbrev pub words_at : {Word : Type 0} → List Word → ℕ → BitKept Word
+words_at words bit = record { words = words; bit = bit }
+
 -- The words hold a queue of bits: the first `bit` bits of the words `old`, and then the bits `code`.
 abbrev pub AreWordsFrom : ℕ → List ℕ → ℕ → List Bool → List ℕ → Type 0
 AreWordsFrom w old bit code words = IsQueueWords w (take bit (bits_of_words w old) ++ code) words
@@ -49,6 +53,10 @@ pub record PutsAtBit {S Word : Type 0} (symbol : S → ℕ) (number : Word → �
 pub record SymbolsKept (S : Type 0) : Type 0 where
   pub symbols : List S
   pub bit : ℕ
+
+-- Makes one value of a list of symbols and the bit.
+abbrev pub symbols_at : {S : Type 0} → List S → ℕ → SymbolsKept S
+symbols_at symbols bit = record { symbols = symbols; bit = bit }
 
 -- The symbols' codewords are the bits from the old bit up to the new one. Any bits may follow.
 abbrev pub TakesCode : {S : Type 0} → (S → Option (List Bool)) → List Bool → List S → ℕ → ℕ → Type 0

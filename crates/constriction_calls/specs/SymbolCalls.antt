@@ -1,5 +1,5 @@
 -- Contracts of the calls that use codebooks: what each call does with the caller's buffer, and when each error comes.
-use Rattle.std.specs.Prelude.{◌≡◌, ℕ, ◌<◌, ◌⊎◌, ◌-◌, ◌^◌, Bool, List, [], ◌∷◌, ◌++◌, length, map, reverse, Option, Some, OnErr, OnOk, Result}
+use Rattle.std.specs.Prelude.{◌≡◌, ℕ, ◌<◌, ◌⊎◌, ◌-◌, ◌^◌, Bool, List, [], ◌∷◌, ◌++◌, length, map, reverse, Option, Some, Err, OnErr, OnOk, Result}
 use Rattle.constriction_base.specs.declared.errors.CoderError.{CoderError}
 use Rattle.constriction_base.specs.declared.errors.CoderError.TheVariants.{Frontend, Backend}
 use Rattle.constriction_symbol.specs.declared.codebooks.SymbolCodeError.{SymbolCodeError}
@@ -46,6 +46,12 @@ IsWrong (OfWeights width weights) bits = ⊥
 abbrev pub AllHaveCodewords : {S : Type 0} → (S → Option (List Bool)) → List S → Type 0
 AllHaveCodewords codeword symbols = (code : List Bool) × AreCodewords codeword symbols code
 
+-- The error states why the symbols aren't encoded: the weights make no Huffman tree, a symbol has no codeword, or there
+-- is no memory.
+abbrev pub PutsNone : {S : Type 0} → (S → ℕ) → SymbolCode → List S → Refusal → Type 0
+PutsNone symbol book symbols e =
+    Asks {T = Unit {0}} WrongWeights (MakesCode (2 ^ 62 - 1) book) (Asks ImpossibleSymbol (AllHaveCodewords (codeword_in symbol book) symbols) (Else Memory)) (Err e)
+
 -- ---- bits as words
 -- The order in which bits are read: the order of writing (`AsQueue`), or the reverse order (`AsStack`).
 pub data Order : Type 0 where
@@ -75,6 +81,10 @@ AreSymbolWords order w codeword symbols words = (code : List Bool) × AreCodewor
 -- The symbols' codewords take `needed` words, but the buffer holds only `room` words, which is fewer.
 abbrev pub LackRoom : {S : Type 0} → Order → ℕ → (S → Option (List Bool)) → List S → ℕ → ℕ → Type 0
 LackRoom order w codeword symbols room needed = (words : List ℕ) × AreSymbolWords order w codeword symbols words × (needed ≡ length words) × (room < needed)
+
+-- Makes one value of a buffer and the number of words in use.
+abbrev pub words_in : {Word : Type 0} → List Word → ℕ → WordsKept Word
+words_in words len = record { words = words; len = len }
 
 -- The contract of an encode call, which writes the words of the symbols at the beginning of a buffer.
 pub record PutsCodewords {S Word : Type 0} (symbol : S → ℕ) (number : Word → ℕ) (w : ℕ) (order : Order) (book : SymbolCode) (symbols : List S)

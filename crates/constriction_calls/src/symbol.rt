@@ -28,11 +28,11 @@ mod encoding;
 mod golomb;
 mod trees;
 
-ghost use Rattle.std.specs.Prelude.{◌≡◌, ◌-◌, ◌^◌, Bool, Err, IfOk, IfSome, List, OnSome, ℕ};
+ghost use Rattle.std.specs.Prelude.{◌≡◌, ◌-◌, ◌^◌, Bool, IfOk, IfSome, List, OnSome, ℕ};
 ghost use Rattle.constriction_inputs.specs.Refusals.{Asks, Else, Memory};
-ghost use Rattle.constriction_calls.specs.SymbolCalls.{SymbolCode, AllHaveCodewords, IsCutOff, IsWrong, MakesCode};
+ghost use Rattle.constriction_calls.specs.SymbolCalls.{SymbolCode, IsCutOff, IsWrong, MakesCode, PutsNone};
 ghost use Rattle.constriction_calls.specs.SymbolCalls.{codeword_in};
-ghost use Rattle.constriction_inputs.specs.declared.refusal.Refusal.TheVariants.{ImpossibleSymbol, WrongWeights};
+ghost use Rattle.constriction_inputs.specs.declared.refusal.Refusal.TheVariants.{WrongWeights};
 
 use constriction_inputs::refusal::Refusal;
 use constriction_symbol::codebooks::{Codebook, DecoderCodebook, EncoderCodebook};
@@ -71,8 +71,7 @@ pub trait Codes {
     ///
     /// The call needs no memory.
     fn refused(&self, symbols: &[Self::Symbol]) -> Refusal
-        ensures { Asks {T = Unit {0}} WrongWeights (MakesCode (2 ^ 62 - 1) (book self.now)) (Asks ImpossibleSymbol
-            (AllHaveCodewords (codeword_in number (book self.now)) symbols.now) (Else Memory)) (Err result) };
+        ensures { PutsNone number (book self.now) symbols.now result };
 
     /// Makes the codebook for decoding.
     ///

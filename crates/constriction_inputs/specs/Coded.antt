@@ -1,6 +1,6 @@
 -- A caller's arguments: symbols to encode or decode, and the numbers that their models are made from.
-use Rattle.std.specs.Prelude.{ℕ, List, Result}
-use Rattle.constriction_base.specs.Models.{Item}
+use Rattle.std.specs.Prelude.{◌≡◌, ℕ, List, Result, length}
+use Rattle.constriction_base.specs.Models.{Item, pairs_of}
 use Rattle.constriction_inputs.specs.Refusals.{Asks}
 use Rattle.constriction_inputs.specs.declared.refusal.Refusal.{Refusal}
 use Rattle.constriction_inputs.specs.declared.refusal.Refusal.TheVariants.{WrongInterval, WrongLength, WrongWeights}
@@ -21,6 +21,11 @@ pub record Coded : Type 1 where
 -- The symbols with their models, at a precision.
 abbrev pub items : ℕ → Coded → List (Item ℕ)
 items precision coded = coded.items_at precision
+
+-- For each list of `count` symbols, the tables are those of the symbols' models, in order.
+abbrev pub AreTablesFor : ℕ → (List ℕ → Coded) → ℕ → List (List (ℕ × ℕ × ℕ)) → Type 0
+AreTablesFor precision coded count tables =
+    (symbols : List ℕ) → length symbols ≡ count → items precision (coded symbols) ≡ pairs_of precision (λ table. table) symbols tables
 
 -- The lengths, the intervals and the weights all meet their requirements.
 abbrev pub AreFit : ℕ → Coded → Type 0

@@ -8,6 +8,7 @@ use Rattle.constriction_models.specs.Quantized.{indexed}
 use Rattle.constriction_models.specs.declared.families.Family.{Family}
 use Rattle.constriction_models.specs.declared.families.Family.TheVariants.{Gaussian, Laplace, Logistic}
 use Rattle.constriction_inputs.specs.Coded.{Coded}
+use Rattle.constriction_inputs.specs.declared.models.families.Families.{Families}
 
 -- The family with the given number, or `None` if no family has it.
 abbrev pub family_of : ℕ → Option Family
@@ -29,6 +30,10 @@ pub record ByFamily : Type 0 where
   pub max : ℤ
   pub locations : List ℤ
   pub scales : List ℕ
+
+-- The arguments that a value of the type `Families` has.
+abbrev pub family_arguments : Families → ByFamily
+family_arguments given = record { family = given.family; min = given.min; max = given.max; locations = given.locations.now; scales = given.scales.now }
 
 -- The number of symbols in the range from `min` to `max`.
 abbrev pub symbols_in : ℤ → ℤ → ℕ

@@ -4,16 +4,27 @@ use Rattle.std.specs.List.{sum, sum_by}
 use Rattle.constriction_base.specs.Models.{AreKnown}
 use Rattle.constriction_models.specs.Counts.{AllShare, AreShares, AreWeights, ServesLargest, positive}
 use Rattle.constriction_inputs.specs.Coded.{AsksFit}
-use Rattle.constriction_inputs.specs.Quantized.{AreIntervalsOf, ByFamily, by_family, family_items}
+use Rattle.constriction_inputs.specs.Quantized.{AreIntervalsOf, AreScaled, ByFamily, IsRange, by_family, family_items}
 use Rattle.constriction_inputs.specs.Refusals.{Asks, Else, Memory, Never}
 use Rattle.constriction_inputs.specs.declared.refusal.Refusal.{Refusal}
-use Rattle.constriction_inputs.specs.declared.refusal.Refusal.TheVariants.{ImpossibleSymbol, WrongLength, WrongWeights}
+use Rattle.constriction_inputs.specs.declared.refusal.Refusal.TheVariants.{ImpossibleSymbol, WrongInterval, WrongLength, WrongWeights}
+
+-- ---- quantizers
+-- The errors of making a quantizer. The call checks in this order: there are as many locations as scales, the range has
+-- at least two and at most 2 ^ precision symbols, and a family has the caller's number and each scale is above 0.
+abbrev pub AsksFamily : {T : Type 0} → ℕ → ByFamily → Result T Refusal → Type 0
+AsksFamily precision by = Asks WrongLength (length by.locations ≡ length by.scales)
+    (Asks WrongInterval (IsRange precision by.min by.max) (Asks WrongWeights (AreScaled by.family by.scales) (Else Never)))
 
 -- ---- intervals
 -- A caller's two buffers: one for the starts of intervals, and one for their lengths.
 pub record IntervalsKept (P : Type 0) : Type 0 where
   pub lefts : List P
   pub ps : List P
+
+-- Makes one value of the two buffers.
+abbrev pub intervals_in : {P : Type 0} → List P → List P → IntervalsKept P
+intervals_in lefts ps = record { lefts = lefts; ps = ps }
 
 -- Each of the two buffers has `count` items.
 abbrev pub HavePlaces : {P : Type 0} → ℕ → IntervalsKept P → Type 0

@@ -4,11 +4,11 @@
 //! quantiles above the interval.
 
 ghost use Rattle.std.specs.Prelude.{◌≡◌, ◌≢◌, ◌↔◌, ◌⊎◌, ◌*◌, ◌+◌, ◌^◌, ◌≤◌, length, map, IsTrue, IfOk, IfErr, OnOk};
-ghost use Rattle.std.specs.Prelude.{IfSome, IsErrOf, OnSome, [], ◌∷◌};
+ghost use Rattle.std.specs.Prelude.{IfSome, IsErrOf, IsSome, [], ◌∷◌};
 ghost use Rattle.constriction_base.specs.Models.{items_of};
 ghost use Rattle.constriction_inputs.specs.Coded.{AreFit};
 ghost use Rattle.constriction_inputs.specs.Intervals.{IsIntervalWithin, AreIntervals, interval_items, rows_between};
-ghost use Rattle.constriction_inputs.specs.Intervals.{as_intervals};
+ghost use Rattle.constriction_inputs.specs.Intervals.{MakeIntervals, as_intervals};
 ghost use Rattle.constriction_inputs.specs.Rows.{AreTotals, row_items};
 ghost use Rattle.constriction_inputs.specs.Weights.{IsTotal, weights_model};
 ghost use Rattle.constriction_inputs.specs.declared.refusal.Refusal.TheVariants as refusals;
@@ -48,8 +48,7 @@ pub fn rows_by_intervals<P: BitArray, const PRECISION: usize>(
     ensures totals { IfOk result (λ made. AreTotals PRECISION 3 (length lefts.now) (map P.number made.0.items)) }
     ensures counted { IfOk result
         (λ made. (length made.0.items ≡ 3 * length lefts.now) × (length made.1.items ≡ length lefts.now)) }
-    ensures intervals { OnOk result
-        ((length lefts.now ≡ length ps.now) × AreIntervals PRECISION (map P.number lefts.now) (map P.number ps.now)) }
+    ensures intervals { OnOk result (MakeIntervals P.number PRECISION lefts.now ps.now) }
     ensures wrong_length { IsErrOf result refusals.WrongLength ↔ (length lefts.now ≢ length ps.now) }
     ensures wrong_interval { IsErrOf result refusals.WrongInterval
         ↔ ((length lefts.now ≡ length ps.now)
@@ -82,7 +81,8 @@ pub fn row_of_one<P: BitArray, const PRECISION: usize>(lefts: &[P], ps: &[P]) ->
     ensures items { IfSome result (λ row. items_of (weights_model PRECISION (map P.number row)) (1 ∷ [])
         ≡ interval_items PRECISION (map P.number lefts.now) (map P.number ps.now)) }
     ensures total { IfSome result (λ row. IsTotal PRECISION (map P.number row)) }
-    ensures fit { OnSome result (AreFit PRECISION (as_intervals (map P.number lefts.now) (map P.number ps.now))) }
+    ensures variant { IsSome result ↔ ((length lefts.now ≡ 1)
+        × AreFit PRECISION (as_intervals (map P.number lefts.now) (map P.number ps.now))) }
 {
     if lefts.len() != 1 || ps.len() != 1 {
         return None;

@@ -12,8 +12,8 @@ mod rows;
 pub mod weights;
 
 ghost use Rattle.std.specs.Prelude.{◌≡◌, ◌↔◌, ◌<◌, ◌≤◌, ℕ, List, get_or, length, map, replicate, IfSome, IsTrue};
-ghost use Rattle.constriction_base.specs.Models.{AreKnown, pairs_of};
-ghost use Rattle.constriction_inputs.specs.Coded.{AreFit, AsksFit, Coded, items};
+ghost use Rattle.constriction_base.specs.Models.{AreKnown};
+ghost use Rattle.constriction_inputs.specs.Coded.{AreFit, AreTablesFor, AsksFit, Coded, items};
 ghost use Rattle.constriction_inputs.specs.Refusals.{Else, Never};
 
 use crate::refusal::Refusal;
@@ -94,9 +94,8 @@ pub trait Models<P: BitArray, const PRECISION: usize> {
         requires precision { (1 ≤ PRECISION) × (PRECISION ≤ P.BITS) }
         requires fit { AreFit PRECISION (coded self.now symbols.now) }
         ensures count { IfSome result (λ list. length (Self.List.tables list) ≡ length symbols.now) }
-        ensures items { IfSome result (λ list. (others : List ℕ) → length others ≡ length symbols.now →
-            items PRECISION (coded self.now others)
-            ≡ pairs_of PRECISION (λ table. table) others (Self.List.tables list)) };
+        ensures items { IfSome result (λ list. AreTablesFor PRECISION (coded self.now) (length symbols.now)
+            (Self.List.tables list)) };
 }
 
 /// A list of models for symbols that all have the same model. It keeps that model once.

@@ -3,8 +3,7 @@
 ghost use Rattle.std.specs.Prelude.{◌≡◌, ◌≤◌, length, map};
 ghost use Rattle.constriction_base.specs.Models.{pairs_of};
 ghost use Rattle.constriction_base.specs.Steps.{IsSizes};
-ghost use Rattle.constriction_calls.specs.AnsCalls.{AnsTakes, coder_of, state_kept};
-ghost use Rattle.constriction_inputs.specs.Weights.{by_weights};
+ghost use Rattle.constriction_calls.specs.AnsCalls.{AnsTakesBy, AnsTakesByWeights, coder_of, state_kept};
 ghost use Rattle.constriction_stack.specs.Symbols.{Decodes, DecodesAll};
 
 use constriction_base::cursor::Cursor;
@@ -42,8 +41,8 @@ pub fn decode<
 ) -> Result<(), Refusal>
     requires sizes { IsSizes Word.BITS State.BITS }
     requires precision { (1 ≤ PRECISION) × (PRECISION ≤ P.BITS) }
-    ensures call { AnsTakes Word.number State.number Word.BITS State.BITS PRECISION (G.coded models.now)
-        (coder_of head.old words.now len.old) (coder_of head.new words.now len.new) symbols.old symbols.new result }
+    ensures call { AnsTakesBy Word.BitArray State.BitArray PRECISION (G.coded models.now)
+        words.now head.old len.old head.new len.new symbols.old symbols.new result }
 {
     if *len > words.len() {
         return Err(Refusal::WrongLength);
@@ -81,9 +80,8 @@ pub fn decode_by_weights<
 ) -> Result<(), Refusal>
     requires sizes { IsSizes Word.BITS State.BITS }
     requires precision { (1 ≤ PRECISION) × (PRECISION ≤ P.BITS) }
-    ensures call { AnsTakes Word.number State.number Word.BITS State.BITS PRECISION
-        (by_weights (map P.number weights.now))
-        (coder_of head.old words.now len.old) (coder_of head.new words.now len.new) symbols.old symbols.new result }
+    ensures call { AnsTakesByWeights Word.BitArray State.BitArray PRECISION P.number weights.now
+        words.now head.old len.old head.new len.new symbols.old symbols.new result }
 {
     if symbols.len() <= 1
         && let Some(row) = Row::<P, PRECISION>::new(weights)

@@ -5,8 +5,7 @@
 ghost use Rattle.std.specs.Prelude.{◌≡◌, ◌≤◌, [], length, map, reverse, IfSome};
 ghost use Rattle.constriction_base.specs.Models.{AreModels, pairs_of};
 ghost use Rattle.constriction_base.specs.Steps.{IsSizes};
-ghost use Rattle.constriction_calls.specs.AnsCalls.{AnsPuts, coder_of};
-ghost use Rattle.constriction_inputs.specs.Intervals.{as_intervals};
+ghost use Rattle.constriction_calls.specs.AnsCalls.{AnsPutsBy, AnsPutsIntervals};
 ghost use Rattle.constriction_stack.specs.Symbols.{EncodesAll};
 
 use constriction_base::model::{EncoderModel, EntropyModel};
@@ -44,8 +43,8 @@ pub fn encode_reverse<
 ) -> Result<(), Refusal>
     requires sizes { IsSizes Word.BITS State.BITS }
     requires precision { (1 ≤ PRECISION) × (PRECISION ≤ P.BITS) }
-    ensures call { AnsPuts Word.number State.number Word.BITS State.BITS PRECISION (G.coded models.now symbols.now)
-        (coder_of head.old words.old len.old) (coder_of head.new words.new len.new) result }
+    ensures call { AnsPutsBy Word.BitArray State.BitArray PRECISION (G.coded models.now symbols.now)
+        head.old words.old len.old head.new words.new len.new result }
 {
     if *len > words.len() {
         return Err(Refusal::WrongLength);
@@ -91,9 +90,8 @@ pub fn encode_intervals_reverse<
 ) -> Result<(), Refusal>
     requires sizes { IsSizes Word.BITS State.BITS }
     requires precision { (1 ≤ PRECISION) × (PRECISION ≤ P.BITS) }
-    ensures call { AnsPuts Word.number State.number Word.BITS State.BITS PRECISION
-        (as_intervals (map P.number lefts.now) (map P.number ps.now))
-        (coder_of head.old words.old len.old) (coder_of head.new words.new len.new) result }
+    ensures call { AnsPutsIntervals Word.BitArray State.BitArray PRECISION P.number lefts.now ps.now
+        head.old words.old len.old head.new words.new len.new result }
 {
     if lefts.len() == 1
         && size_of_val(lefts) <= 64
@@ -120,9 +118,8 @@ fn intervals_by_rows<Word: WordOf<State>, State: BitArray, P: WordOf<Word>, cons
 ) -> Result<(), Refusal>
     requires sizes { IsSizes Word.BITS State.BITS }
     requires precision { (1 ≤ PRECISION) × (PRECISION ≤ P.BITS) }
-    ensures call { AnsPuts Word.number State.number Word.BITS State.BITS PRECISION
-        (as_intervals (map P.number lefts.now) (map P.number ps.now))
-        (coder_of head.old words.old len.old) (coder_of head.new words.new len.new) result }
+    ensures call { AnsPutsIntervals Word.BitArray State.BitArray PRECISION P.number lefts.now ps.now
+        head.old words.old len.old head.new words.new len.new result }
 {
     if *len > words.len() {
         return Err(Refusal::WrongLength);

@@ -3,7 +3,7 @@
 ghost use Rattle.std.specs.Prelude.{Ok};
 ghost use Rattle.constriction_base.specs.Readings.{BeginsHigh};
 ghost use Rattle.constriction_base.specs.Steps.{IsSizes};
-ghost use Rattle.constriction_calls.specs.AnsCalls.{AnsExports, AnsImports, coder_of};
+ghost use Rattle.constriction_calls.specs.AnsCalls.{AnsExports, AnsImportsBy, coder_of};
 ghost use Rattle.constriction_calls.specs.AnsCalls.{AreBinary, AreCompressed, HasBinary};
 ghost use Rattle.constriction_stack.specs.Ans.{filled};
 ghost use Rattle.constriction_stack.specs.Binary.{binary_state};
@@ -29,8 +29,8 @@ pub fn from_compressed<Word: WordOf<State>, State: BitArray>(
     head: &mut State,
 ) -> Result<(), Refusal>
     requires { IsSizes Word.BITS State.BITS }
-    ensures { AnsImports Word.number State.number (filled Word.BITS State.BITS 0) BeginsHigh
-        (coder_of head.old words.now len.old) (coder_of head.new words.now len.new) result }
+    ensures { AnsImportsBy Word.BitArray State.BitArray (λ w s. filled w s 0) BeginsHigh
+        words.now head.old len.old head.new len.new result }
 {
     let Ok(coder) = AnsCoder::<Word, State, Cursor<Word, &[Word]>>::from_compressed_slice(words)
     else {
@@ -52,8 +52,8 @@ pub fn from_binary<Word: WordOf<State>, State: BitArray>(
     head: &mut State,
 )
     requires { IsSizes Word.BITS State.BITS }
-    ensures { AnsImports Word.number State.number (binary_state Word.BITS State.BITS) (λ all. Unit {0})
-        (coder_of head.old words.now len.old) (coder_of head.new words.now len.new) (Ok tt) }
+    ensures { AnsImportsBy Word.BitArray State.BitArray binary_state (λ all. Unit {0})
+        words.now head.old len.old head.new len.new (Ok tt) }
 {
     let coder = AnsCoder::<Word, State, Cursor<Word, &[Word]>>::from_binary_slice(words);
     let (cursor, new_head) = coder.into_raw_parts();

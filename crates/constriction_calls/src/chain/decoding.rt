@@ -5,10 +5,9 @@ ghost use Rattle.constriction_base.specs.Models.{pairs_of};
 ghost use Rattle.constriction_chain.specs.Chain.{IsSized};
 ghost use Rattle.constriction_chain.specs.Symbols.{TakesOffAll};
 ghost use Rattle.constriction_inputs.specs.Buffers.{Appended};
-ghost use Rattle.constriction_calls.specs.ChainCalls.{ChainTakes, LacksCompressed, keeps};
+ghost use Rattle.constriction_calls.specs.ChainCalls.{AreHeadsOf, ChainTakesBy, ChainTakesByWeights, LacksCompressed, keeps};
 ghost use Rattle.constriction_calls.specs.ChainFits.{CoderFits};
 ghost use Rattle.constriction_inputs.specs.Coded.{AreFit, items};
-ghost use Rattle.constriction_inputs.specs.Weights.{by_weights};
 ghost use Rattle.constriction_inputs.specs.declared.refusal.Refusal.TheVariants as refusals;
 
 use crate::chain::ChainHeads;
@@ -62,7 +61,7 @@ pub fn decode<
     requires sized { IsSized Word.BITS State.BITS PRECISION }
     requires within { PRECISION ≤ P.BITS }
     requires fits { CoderFits Word.row State.row }
-    ensures call { ChainTakes Word.number State.number Word.BITS State.BITS PRECISION (G.coded models.now)
+    ensures call { ChainTakesBy Word.BitArray State.BitArray PRECISION (G.coded models.now)
         (keeps heads.old compressed.now compressed_len.old remainders.old remainders_len.old)
         (keeps heads.new compressed.now compressed_len.new remainders.new remainders_len.new)
         symbols.old symbols.new result }
@@ -117,8 +116,7 @@ pub fn decode_by_weights<
     requires sized { IsSized Word.BITS State.BITS PRECISION }
     requires within { PRECISION ≤ P.BITS }
     requires fits { CoderFits Word.row State.row }
-    ensures call { ChainTakes Word.number State.number Word.BITS State.BITS PRECISION
-        (by_weights (map P.number weights.now))
+    ensures call { ChainTakesByWeights Word.BitArray State.BitArray PRECISION P.number weights.now
         (keeps heads.old compressed.now compressed_len.old remainders.old remainders_len.old)
         (keeps heads.new compressed.now compressed_len.new remainders.new remainders_len.new)
         symbols.old symbols.new result }
@@ -240,8 +238,7 @@ fn end_taking<'a, Word: WordOf<State>, State: BitArray, const PRECISION: usize>(
     remainders_len: &mut usize,
 ) -> Result<(), Refusal>
     requires { remainders_len.now ≤ length remainders.now }
-    ensures heads { OnOk result ((Word.number heads.new.compressed ≡ coder.entry.state.h)
-        × (State.number heads.new.remainders ≡ coder.entry.state.r)) }
+    ensures heads { OnOk result (AreHeadsOf Word.number State.number coder.entry.state heads.new) }
     ensures compressed { OnOk result (compressed_len.new ≡ length coder.entry.state.compressed) }
     ensures remainders { OnOk result ((added : List Word)
         × (map Word.number (reverse added) ≡ coder.entry.state.remainders)

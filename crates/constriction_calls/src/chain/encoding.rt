@@ -5,10 +5,9 @@ ghost use Rattle.constriction_base.specs.Models.{AreKnown, pairs_of};
 ghost use Rattle.constriction_chain.specs.Chain.{IsSized};
 ghost use Rattle.constriction_chain.specs.Symbols.{PutsBackAll};
 ghost use Rattle.constriction_inputs.specs.Buffers.{Appended};
-ghost use Rattle.constriction_calls.specs.ChainCalls.{ChainPuts, LacksRemainders, keeps};
+ghost use Rattle.constriction_calls.specs.ChainCalls.{AreHeadsOf, ChainPutsBy, ChainPutsIntervals, LacksRemainders, keeps};
 ghost use Rattle.constriction_calls.specs.ChainFits.{CoderFits};
 ghost use Rattle.constriction_inputs.specs.Coded.{AreFit, items};
-ghost use Rattle.constriction_inputs.specs.Intervals.{as_intervals};
 ghost use Rattle.constriction_inputs.specs.Refusals.{Asks, Else};
 ghost use Rattle.constriction_inputs.specs.declared.refusal.Refusal.TheVariants as refusals;
 
@@ -63,7 +62,7 @@ pub fn encode_reverse<
     requires sized { IsSized Word.BITS State.BITS PRECISION }
     requires within { PRECISION ≤ P.BITS }
     requires fits { CoderFits Word.row State.row }
-    ensures call { ChainPuts Word.number State.number Word.BITS State.BITS PRECISION (G.coded models.now symbols.now)
+    ensures call { ChainPutsBy Word.BitArray State.BitArray PRECISION (G.coded models.now symbols.now)
         (keeps heads.old compressed.old compressed_len.old remainders.now remainders_len.old)
         (keeps heads.new compressed.new compressed_len.new remainders.now remainders_len.new) result }
 {
@@ -112,7 +111,7 @@ fn encode_within<
     requires sized { IsSized Word.BITS State.BITS PRECISION }
     requires within { PRECISION ≤ P.BITS }
     requires fits { CoderFits Word.row State.row }
-    ensures call { ChainPuts Word.number State.number Word.BITS State.BITS PRECISION (G.coded models.now symbols.now)
+    ensures call { ChainPutsBy Word.BitArray State.BitArray PRECISION (G.coded models.now symbols.now)
         (keeps heads.old compressed.old compressed_len.old remainders.now remainders_len.old)
         (keeps heads.new compressed.new compressed_len.new remainders.now remainders_len.new) result }
 {
@@ -165,8 +164,7 @@ pub fn encode_intervals_reverse<
     requires sized { IsSized Word.BITS State.BITS PRECISION }
     requires within { PRECISION ≤ P.BITS }
     requires fits { CoderFits Word.row State.row }
-    ensures call { ChainPuts Word.number State.number Word.BITS State.BITS PRECISION
-        (as_intervals (map P.number lefts.now) (map P.number ps.now))
+    ensures call { ChainPutsIntervals Word.BitArray State.BitArray PRECISION P.number lefts.now ps.now
         (keeps heads.old compressed.old compressed_len.old remainders.now remainders_len.old)
         (keeps heads.new compressed.new compressed_len.new remainders.now remainders_len.new) result }
 {
@@ -218,8 +216,7 @@ fn intervals_by_rows<Word: WordOf<State>, State: BitArray, P: WordOf<Word>, cons
     requires sized { IsSized Word.BITS State.BITS PRECISION }
     requires within { PRECISION ≤ P.BITS }
     requires fits { CoderFits Word.row State.row }
-    ensures call { ChainPuts Word.number State.number Word.BITS State.BITS PRECISION
-        (as_intervals (map P.number lefts.now) (map P.number ps.now))
+    ensures call { ChainPutsIntervals Word.BitArray State.BitArray PRECISION P.number lefts.now ps.now
         (keeps heads.old compressed.old compressed_len.old remainders.now remainders_len.old)
         (keeps heads.new compressed.new compressed_len.new remainders.now remainders_len.new) result }
 {
@@ -367,8 +364,7 @@ fn end_putting<'a, Word: WordOf<State>, State: BitArray, const PRECISION: usize>
     remainders_len: &mut usize,
 ) -> Result<(), Refusal>
     requires { compressed_len.now ≤ length compressed.now }
-    ensures heads { OnOk result ((Word.number heads.new.compressed ≡ coder.entry.state.h)
-        × (State.number heads.new.remainders ≡ coder.entry.state.r)) }
+    ensures heads { OnOk result (AreHeadsOf Word.number State.number coder.entry.state heads.new) }
     ensures remainders { OnOk result (remainders_len.new ≡ length coder.entry.state.remainders) }
     ensures compressed { OnOk result ((added : List Word)
         × (map Word.number (reverse added) ≡ coder.entry.state.compressed)

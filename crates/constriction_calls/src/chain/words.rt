@@ -1,7 +1,7 @@
 //! Importing chain coders from a caller's words, and exporting the words of chain coders.
 ghost use Rattle.constriction_chain.specs.Chain.{IsSized};
 ghost use Rattle.constriction_calls.specs.ChainFits.{CoderFits};
-ghost use Rattle.constriction_calls.specs.ChainWords.{ChainBegins, ChainEnds, InBinary, InCompressed, InRemainders};
+ghost use Rattle.constriction_calls.specs.ChainWords.{ChainBeginsBy, ChainEndsBy, InBinary, InCompressed, InRemainders};
 
 use crate::chain::ChainHeads;
 use crate::chain::decoding::Taking;
@@ -46,8 +46,8 @@ pub fn from_compressed<Word: WordOf<State>, State: BitArray, const PRECISION: us
 ) -> Result<(), Refusal>
     requires sized { IsSized Word.BITS State.BITS PRECISION }
     requires fits { CoderFits Word.row State.row }
-    ensures call { ChainBegins Word.number State.number Word.BITS State.BITS PRECISION InCompressed words.now
-        record { heads = heads.old; len = len.old } record { heads = heads.new; len = len.new } result }
+    ensures call { ChainBeginsBy Word.BitArray State.BitArray PRECISION InCompressed words.now
+        heads.old len.old heads.new len.new result }
 {
     let lent = Cursor::new_at_write_end(words);
     match Taking::<'_, Word, State, PRECISION>::from_compressed(alloc, lent) {
@@ -81,8 +81,8 @@ pub fn from_binary<Word: WordOf<State>, State: BitArray, const PRECISION: usize>
 ) -> Result<(), Refusal>
     requires sized { IsSized Word.BITS State.BITS PRECISION }
     requires fits { CoderFits Word.row State.row }
-    ensures call { ChainBegins Word.number State.number Word.BITS State.BITS PRECISION InBinary words.now
-        record { heads = heads.old; len = len.old } record { heads = heads.new; len = len.new } result }
+    ensures call { ChainBeginsBy Word.BitArray State.BitArray PRECISION InBinary words.now
+        heads.old len.old heads.new len.new result }
 {
     let lent = Cursor::new_at_write_end(words);
     match Taking::<'_, Word, State, PRECISION>::from_binary(alloc, lent) {
@@ -116,8 +116,8 @@ pub fn from_remainders<Word: WordOf<State>, State: BitArray, const PRECISION: us
 ) -> Result<(), Refusal>
     requires sized { IsSized Word.BITS State.BITS PRECISION }
     requires fits { CoderFits Word.row State.row }
-    ensures call { ChainBegins Word.number State.number Word.BITS State.BITS PRECISION InRemainders words.now
-        record { heads = heads.old; len = len.old } record { heads = heads.new; len = len.new } result }
+    ensures call { ChainBeginsBy Word.BitArray State.BitArray PRECISION InRemainders words.now
+        heads.old len.old heads.new len.new result }
 {
     let lent = Cursor::new_at_write_end(words);
     match Putting::<'_, Word, State, PRECISION>::from_remainders(alloc, lent) {
@@ -157,9 +157,8 @@ pub fn into_compressed<Word: WordOf<State>, State: BitArray, const PRECISION: us
 ) -> Result<(), Refusal>
     requires sized { IsSized Word.BITS State.BITS PRECISION }
     requires fits { CoderFits Word.row State.row }
-    ensures call { ChainEnds Word.number State.number Word.BITS State.BITS PRECISION InCompressed heads.now
-        record { words = compressed.old; len = compressed_len.old }
-        record { words = compressed.new; len = compressed_len.new } result }
+    ensures call { ChainEndsBy Word.BitArray State.BitArray PRECISION InCompressed heads.now
+        compressed.old compressed_len.old compressed.new compressed_len.new result }
 {
     if *compressed_len > compressed.len() {
         return Err(Refusal::WrongLength);
@@ -196,9 +195,8 @@ pub fn into_binary<Word: WordOf<State>, State: BitArray, const PRECISION: usize>
 ) -> Result<(), Refusal>
     requires sized { IsSized Word.BITS State.BITS PRECISION }
     requires fits { CoderFits Word.row State.row }
-    ensures call { ChainEnds Word.number State.number Word.BITS State.BITS PRECISION InBinary heads.now
-        record { words = compressed.old; len = compressed_len.old }
-        record { words = compressed.new; len = compressed_len.new } result }
+    ensures call { ChainEndsBy Word.BitArray State.BitArray PRECISION InBinary heads.now
+        compressed.old compressed_len.old compressed.new compressed_len.new result }
 {
     if *compressed_len > compressed.len() {
         return Err(Refusal::WrongLength);
@@ -235,9 +233,8 @@ pub fn into_remainders<Word: WordOf<State>, State: BitArray, const PRECISION: us
 ) -> Result<(), Refusal>
     requires sized { IsSized Word.BITS State.BITS PRECISION }
     requires fits { CoderFits Word.row State.row }
-    ensures call { ChainEnds Word.number State.number Word.BITS State.BITS PRECISION InRemainders heads.now
-        record { words = remainders.old; len = remainders_len.old }
-        record { words = remainders.new; len = remainders_len.new } result }
+    ensures call { ChainEndsBy Word.BitArray State.BitArray PRECISION InRemainders heads.now
+        remainders.old remainders_len.old remainders.new remainders_len.new result }
 {
     if *remainders_len > remainders.len() {
         return Err(Refusal::WrongLength);

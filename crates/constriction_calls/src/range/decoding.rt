@@ -6,9 +6,8 @@ ghost use Rattle.constriction_base.specs.Steps.{IsSizes};
 ghost use Rattle.constriction_queue.specs.Decoder.{StandsAt};
 ghost use Rattle.constriction_queue.specs.Range.{Run};
 ghost use Rattle.constriction_queue.specs.Symbols.{FindsAll};
-ghost use Rattle.constriction_calls.specs.RangeCalls.{RangeTakes};
+ghost use Rattle.constriction_calls.specs.RangeCalls.{RangeTakes, RangeTakesByWeights};
 ghost use Rattle.constriction_inputs.specs.Refusals.{Words};
-ghost use Rattle.constriction_inputs.specs.Weights.{by_weights};
 
 use crate::range::parts::{DecoderParts, Reading, decoder_of, decoder_parts};
 use constriction_inputs::models::{ModelList, Models, Weights};
@@ -140,8 +139,8 @@ pub fn decode_by_weights<
 ) -> Result<(), Refusal>
     requires sizes { IsSizes Word.BITS State.BITS }
     requires precision { (1 ≤ PRECISION) × (PRECISION ≤ P.BITS) }
-    ensures call { RangeTakes State.number Word.BITS State.BITS PRECISION (by_weights (map P.number weights.now))
-        (map Word.number words.now) decoder.old decoder.new symbols.old symbols.new result }
+    ensures call { RangeTakesByWeights Word.BitArray State.BitArray PRECISION P.number weights.now
+        words.now decoder.old decoder.new symbols.old symbols.new result }
 {
     if symbols.len() <= 1
         && let Some(row) = Row::<P, PRECISION>::new(weights)

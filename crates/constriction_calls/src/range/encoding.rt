@@ -6,8 +6,7 @@ ghost use Rattle.constriction_base.specs.Steps.{IsSizes};
 ghost use Rattle.constriction_queue.specs.Encoder.{left_to_encode, run_by};
 ghost use Rattle.constriction_queue.specs.Symbols.{NarrowsAll};
 ghost use Rattle.constriction_inputs.specs.Coded.{AreFit, items};
-ghost use Rattle.constriction_inputs.specs.Intervals.{as_intervals};
-ghost use Rattle.constriction_calls.specs.RangeCalls.{IsEncoderKept, RangePuts, kept_in, run_kept};
+ghost use Rattle.constriction_calls.specs.RangeCalls.{IsEncoderKept, RangePutsBy, RangePutsIntervals, run_kept};
 
 use crate::range::parts::{EncoderParts, encoder_for, parts_of};
 use constriction_inputs::buffers::append;
@@ -113,8 +112,8 @@ pub fn encode<
 ) -> Result<(), Refusal>
     requires sizes { IsSizes Word.BITS State.BITS }
     requires precision { (1 ≤ PRECISION) × (PRECISION ≤ P.BITS) }
-    ensures call { RangePuts Word.number State.number Word.BITS State.BITS PRECISION (G.coded models.now) symbols.now
-        (kept_in encoder.old buffer.old len.old) (kept_in encoder.new buffer.new len.new) result }
+    ensures call { RangePutsBy Word.BitArray State.BitArray PRECISION (G.coded models.now) symbols.now
+        encoder.old buffer.old len.old encoder.new buffer.new len.new result }
 {
     if *len > buffer.len() {
         return Err(Refusal::WrongLength);
@@ -174,9 +173,8 @@ pub fn encode_intervals<
 ) -> Result<(), Refusal>
     requires sizes { IsSizes Word.BITS State.BITS }
     requires precision { (1 ≤ PRECISION) × (PRECISION ≤ P.BITS) }
-    ensures call { RangePuts Word.number State.number Word.BITS State.BITS PRECISION
-        (as_intervals (map P.number lefts.now)) (map P.number ps.now)
-        (kept_in encoder.old buffer.old len.old) (kept_in encoder.new buffer.new len.new) result }
+    ensures call { RangePutsIntervals Word.BitArray State.BitArray PRECISION P.number lefts.now ps.now
+        encoder.old buffer.old len.old encoder.new buffer.new len.new result }
 {
     if lefts.len() == 1
         && size_of_val(lefts) <= 64
@@ -203,9 +201,8 @@ fn intervals_by_rows<Word: WordOf<State>, State: BitArray, P: WordOf<Word>, cons
 ) -> Result<(), Refusal>
     requires sizes { IsSizes Word.BITS State.BITS }
     requires precision { (1 ≤ PRECISION) × (PRECISION ≤ P.BITS) }
-    ensures call { RangePuts Word.number State.number Word.BITS State.BITS PRECISION
-        (as_intervals (map P.number lefts.now)) (map P.number ps.now)
-        (kept_in encoder.old buffer.old len.old) (kept_in encoder.new buffer.new len.new) result }
+    ensures call { RangePutsIntervals Word.BitArray State.BitArray PRECISION P.number lefts.now ps.now
+        encoder.old buffer.old len.old encoder.new buffer.new len.new result }
 {
     if *len > buffer.len() {
         return Err(Refusal::WrongLength);

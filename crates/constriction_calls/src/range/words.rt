@@ -3,7 +3,7 @@
 ghost use Rattle.std.specs.Prelude.{◌≡◌, ◌/◌, [], length};
 ghost use Rattle.constriction_base.specs.Steps.{IsSizes};
 ghost use Rattle.constriction_queue.specs.Range.{sealed};
-ghost use Rattle.constriction_calls.specs.RangeCalls.{IsEncoderKept, IsSealed, IsSelfSealed, RangeSeals, kept_in};
+ghost use Rattle.constriction_calls.specs.RangeCalls.{IsEncoderKept, IsSealed, IsSelfSealed, RangeSealsBy};
 ghost use Rattle.constriction_calls.specs.RangeCalls.{run_kept};
 
 use crate::range::parts::{EncoderParts, encoder_for};
@@ -30,8 +30,8 @@ pub fn into_compressed<Word: WordOf<State>, State: BitArray>(
     len: &mut usize,
 ) -> Result<(), Refusal>
     requires { IsSizes Word.BITS State.BITS }
-    ensures call { RangeSeals Word.number State.number Word.BITS State.BITS (IsSealed Word.BITS State.BITS)
-        (kept_in encoder.now buffer.old len.old) (kept_in encoder.now buffer.new len.new) result }
+    ensures call { RangeSealsBy Word.BitArray State.BitArray IsSealed
+        encoder.now buffer.old len.old buffer.new len.new result }
 {
     if *len > buffer.len() {
         return Err(Refusal::WrongLength);
@@ -85,8 +85,8 @@ pub fn into_self_delimited<Word: WordOf<State>, State: BitArray>(
 ) -> Result<(), Refusal>
     requires sizes { IsSizes Word.BITS State.BITS }
     requires two_words { State.BITS / Word.BITS ≡ 2 }
-    ensures call { RangeSeals Word.number State.number Word.BITS State.BITS (IsSelfSealed Word.BITS State.BITS)
-        (kept_in encoder.now buffer.old len.old) (kept_in encoder.now buffer.new len.new) result }
+    ensures call { RangeSealsBy Word.BitArray State.BitArray IsSelfSealed
+        encoder.now buffer.old len.old buffer.new len.new result }
 {
     into_compressed(alloc, encoder, buffer, len)
 }

@@ -3,7 +3,7 @@
 ghost use Rattle.std.specs.Prelude.{◌↔◌, ◌≤◌, length, map, sum, IfSome, IsTrue};
 ghost use Rattle.constriction_base.specs.Steps.{IsSizes};
 ghost use Rattle.constriction_store.specs.Stores.{HoldsChunks, IsBuilt, entry_at};
-ghost use Rattle.constriction_calls.specs.StoreCalls.{FitStore, StoreBuilds, chunks_by};
+ghost use Rattle.constriction_calls.specs.StoreCalls.{FitStore, StoreBuilds, chunks_by, store_in};
 ghost use Rattle.constriction_inputs.specs.Weights.{weights_model};
 
 use crate::store::cutting::{add_up, cut};
@@ -99,9 +99,8 @@ pub fn build<Word: WordOf<State>, State: BitArray, P: WordOf<Word>, const PRECIS
     requires precision { (1 ≤ PRECISION) × (PRECISION ≤ P.BITS) }
     ensures call { StoreBuilds Word.number State.number Word.BITS State.BITS PRECISION
         (map P.number weights.now) symbols.now lengths.now
-        record { positions = positions.old; lowers = lowers.old; ranges = ranges.old; words = words.old; len = len.old }
-        record { positions = positions.new; lowers = lowers.new; ranges = ranges.new; words = words.new; len = len.new }
-        result }
+        (store_in positions.old lowers.old ranges.old words.old len.old)
+        (store_in positions.new lowers.new ranges.new words.new len.new) result }
 {
     if !fit(
         symbols.len(),

@@ -1,7 +1,7 @@
 //! Decoding symbols from words.
 
 ghost use Rattle.std.specs.Prelude.{◌≡◌, IfErr, OnErr, OnOk, length, map};
-ghost use Rattle.constriction_calls.specs.SymbolBits.{TakesAtBit};
+ghost use Rattle.constriction_calls.specs.SymbolBits.{TakesAtBit, symbols_at};
 ghost use Rattle.constriction_calls.specs.SymbolCalls.{AreTakenOff, AsQueue, AsStack, IsToldAs, ReadsNone};
 ghost use Rattle.constriction_calls.specs.SymbolCalls.{TakesCodewords};
 
@@ -55,7 +55,7 @@ pub fn decode_at<Word: BitArray, C: Codes>(
     symbols: &mut [C::Symbol],
 ) -> Result<(), Refusal>
     ensures call { TakesAtBit C.number Word.BITS (C.book codes.now) (map Word.number words.now)
-        record { symbols = symbols.old; bit = bit.old } record { symbols = symbols.new; bit = bit.new } result }
+        (symbols_at symbols.old bit.old) (symbols_at symbols.new bit.new) result }
 {
     if !is_bit(words, *bit) {
         return Err(Refusal::WrongLength);

@@ -5,9 +5,9 @@ ghost use Rattle.std.specs.Prelude.{IfErr, IfSome, OnErr, OnOk, OnSome};
 ghost use Rattle.constriction_symbol.specs.Bits.{IsQueueWords, bits_of_words};
 ghost use Rattle.constriction_symbol.specs.Lists.{AreCodewords};
 ghost use Rattle.constriction_inputs.specs.Buffers.{Appended};
-ghost use Rattle.constriction_calls.specs.SymbolBits.{AreWordsFrom, IsBit, PutsAtBit};
+ghost use Rattle.constriction_calls.specs.SymbolBits.{AreWordsFrom, IsBit, PutsAtBit, words_at};
 ghost use Rattle.constriction_calls.specs.SymbolCalls.{AreSymbolWords, AsQueue, AsStack, MakesCode, PutsCodewords};
-ghost use Rattle.constriction_calls.specs.SymbolCalls.{codeword_in};
+ghost use Rattle.constriction_calls.specs.SymbolCalls.{codeword_in, words_in};
 ghost use Rattle.constriction_inputs.specs.declared.refusal.Refusal.TheVariants as refusals;
 
 use crate::symbol::Codes;
@@ -38,7 +38,7 @@ pub fn encode_queue<Word: BitArray, C: Codes>(
     len: &mut usize,
 ) -> Result<(), Refusal>
     ensures call { PutsCodewords C.number Word.number Word.BITS AsQueue (C.book codes.now)
-        symbols.now record { words = words.old; len = len.old } record { words = words.new; len = len.new } result }
+        symbols.now (words_in words.old len.old) (words_in words.new len.new) result }
 {
     match queue_words(alloc, codes, QueueEncoder::new(alloc), symbols) {
         Some((all, _)) => put_words(&all, words, len),
@@ -63,7 +63,7 @@ pub fn encode_at<Word: BitArray, C: Codes>(
     bit: &mut usize,
 ) -> Result<(), Refusal>
     ensures call { PutsAtBit C.number Word.number Word.BITS (C.book codes.now) symbols.now
-        record { words = words.old; bit = bit.old } record { words = words.new; bit = bit.new } result }
+        (words_at words.old bit.old) (words_at words.new bit.new) result }
 {
     if !is_bit(words, *bit) {
         return Err(Refusal::WrongLength);
@@ -93,7 +93,7 @@ pub fn encode_stack<Word: BitArray, C: Codes>(
     len: &mut usize,
 ) -> Result<(), Refusal>
     ensures call { PutsCodewords C.number Word.number Word.BITS AsStack (C.book codes.now)
-        symbols.now record { words = words.old; len = len.old } record { words = words.new; len = len.new } result }
+        symbols.now (words_in words.old len.old) (words_in words.new len.new) result }
 {
     match stack_words(alloc, codes, symbols) {
         Some(all) => put_words(&all, words, len),

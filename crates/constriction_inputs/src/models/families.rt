@@ -3,10 +3,9 @@
 ghost use Rattle.std.specs.Prelude.{◌≡◌, ◌↔◌, ◌<◌, ◌≤◌, ◌<ℤ◌, Some, length, map, IfOk, IsTrue};
 ghost use Rattle.std.specs.List.{AllByRecursion};
 ghost use Rattle.constriction_models.specs.Quantizers.{symbol_count, first_symbol};
-ghost use Rattle.constriction_inputs.specs.Quantized.{ArePlacesInRange, AreScaled, IsRange, family_of, symbols_in};
-ghost use Rattle.constriction_inputs.specs.Quantized.{by_family, tables_by};
-ghost use Rattle.constriction_inputs.specs.Refusals.{Asks, Else, Never};
-ghost use Rattle.constriction_inputs.specs.declared.refusal.Refusal.TheVariants as refusals;
+ghost use Rattle.constriction_inputs.specs.Quantized.{ArePlacesInRange, by_family, family_arguments, family_of};
+ghost use Rattle.constriction_inputs.specs.Quantized.{symbols_in, tables_by};
+ghost use Rattle.constriction_inputs.specs.QuantizedCalls.{AsksFamily};
 
 use crate::models::{Each, Models};
 use crate::refusal::Refusal;
@@ -47,14 +46,7 @@ pub struct Families<'a> {
 impl<'a, P: WordOf<u32>, const PRECISION: usize> Models<P, PRECISION> for Families<'a> {
     type List = Each<FamilyModel<P, PRECISION>>;
 
-    ghost coded = { λ given. by_family
-        (record {
-          family = given.family;
-          min = given.min;
-          max = given.max;
-          locations = given.locations.now;
-          scales = given.scales.now;
-        }) };
+    ghost coded = { λ given. by_family (family_arguments given) };
 
     fn check(&self, symbols: &[usize]) -> Result<(), Refusal> {
         if self.locations.len() != symbols.len() {
@@ -118,9 +110,7 @@ impl<'a> Families<'a> {
         ensures family { IfOk result (λ made. family_of self.now.family ≡ Some made.0) }
         ensures first { IfOk result (λ made. first_symbol made.1 ≡ self.now.min) }
         ensures count { IfOk result (λ made. symbol_count made.1 ≡ symbols_in self.now.min self.now.max) }
-        ensures asks { Asks refusals.WrongLength (length self.now.locations.now ≡ length self.now.scales.now)
-            (Asks refusals.WrongInterval (IsRange PRECISION self.now.min self.now.max)
-            (Asks refusals.WrongWeights (AreScaled self.now.family self.now.scales.now) (Else Never))) result }
+        ensures asks { AsksFamily PRECISION (family_arguments self.now) result }
     {
         if self.locations.len() != self.scales.len() {
             return Err(Refusal::WrongLength);

@@ -8,8 +8,8 @@ ghost use Rattle.std.specs.Prelude.{◌≡◌, ◌<◌, ◌≤◌, Some, length,
 ghost use Rattle.std.specs.List.{AllByRecursion};
 ghost use Rattle.constriction_base.specs.Models.{pairs_of};
 ghost use Rattle.constriction_models.specs.Quantizers.{symbol_count, first_symbol};
-ghost use Rattle.constriction_inputs.specs.Quantized.{AreIntervalsOf, tables_by};
-ghost use Rattle.constriction_inputs.specs.QuantizedCalls.{GivesIntervals};
+ghost use Rattle.constriction_inputs.specs.Quantized.{AreIntervalsOf, family_arguments, tables_by};
+ghost use Rattle.constriction_inputs.specs.QuantizedCalls.{GivesIntervals, intervals_in};
 
 use crate::models::{Families, Models};
 use crate::refusal::Refusal;
@@ -38,14 +38,8 @@ pub fn intervals_of_quantized<P: WordOf<u32>, const PRECISION: usize>(
 ) -> Result<(), Refusal>
     requires { (1 ≤ PRECISION) × (PRECISION ≤ P.BITS) }
     ensures call { GivesIntervals P.number PRECISION
-        record {
-          family = families.now.family;
-          min = families.now.min;
-          max = families.now.max;
-          locations = families.now.locations.now;
-          scales = families.now.scales.now;
-        } symbols.now
-        record { lefts = lefts.old; ps = ps.old } record { lefts = lefts.new; ps = ps.new } result }
+        (family_arguments families.now) symbols.now
+        (intervals_in lefts.old ps.old) (intervals_in lefts.new ps.new) result }
 {
     if lefts.len() != symbols.len() || ps.len() != symbols.len() {
         return Err(Refusal::WrongLength);

@@ -1,4 +1,4 @@
-use Rattle.std.proofs.Common.{◌≡◌, ◌∷◌, [], length, map, rules}
+use Rattle.std.proofs.Common.{◌≡◌, ◌∷◌, [], length, map, refl, rules}
 use Rattle.constriction_inputs.specs.Coded.{items}
 use Rattle.constriction_inputs.specs.Intervals.{as_intervals}
 use Rattle.constriction_inputs.specs.Weights.{by_weights}
@@ -23,5 +23,5 @@ returns g c =
     let is : items g.row.PRECISION one ≡ items g.row.PRECISION coded = rw c.of_total-model.ensures made.items in
     record {
       call = puts_as g.Word.BitArray.number g.State.BitArray.number g.Word.BitArray.BITS g.State.BitArray.BITS g.row.PRECISION one coded
-          (coder_of c.args.head.now c.args.words.now c.args.len.now) (coder_of now.head now.words now.len) c.encode_reverse.result is (tt, tt, rw c.of_total-model.ensures made.total) made.fit c.encode_reverse.ensures.call;
+          (coder_of c.args.head.now c.args.words.now c.args.len.now) (coder_of now.head now.words now.len) c.encode_reverse.result is (tt, tt, rw c.of_total-model.ensures made.total) (made.variant.0 refl).1 c.encode_reverse.ensures.call;
     }

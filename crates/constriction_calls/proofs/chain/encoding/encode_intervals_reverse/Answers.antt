@@ -1,4 +1,4 @@
-use Rattle.std.proofs.Common.{◌≡◌, ◌∷◌, [], length, map, rules}
+use Rattle.std.proofs.Common.{◌≡◌, ◌∷◌, [], length, map, refl, rules}
 use Rattle.constriction_inputs.specs.Coded.{items}
 use Rattle.constriction_inputs.specs.Intervals.{as_intervals}
 use Rattle.constriction_inputs.specs.Weights.{by_weights}
@@ -24,6 +24,6 @@ returns g c =
     record {
       call = puts_as g.Word.BitArray.number g.State.BitArray.number g.Word.BitArray.BITS g.State.BitArray.BITS g.row.PRECISION
           (keeps c.args.heads.now c.args.compressed.now c.args.compressed_len.now c.args.remainders.now c.args.remainders_len.now)
-          one coded is (tt, tt, rw c.of_total-model.ensures made.total) made.fit
+          one coded is (tt, tt, rw c.of_total-model.ensures made.total) (made.variant.0 refl).1
           (keeps now.heads now.compressed now.compressed_len c.args.remainders.now now.remainders_len) c.encode_within.result c.encode_within.ensures.call;
     }

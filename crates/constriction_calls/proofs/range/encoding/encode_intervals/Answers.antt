@@ -1,4 +1,4 @@
-use Rattle.std.proofs.Common.{◌≡◌, ◌∷◌, [], length, map, rules, arith}
+use Rattle.std.proofs.Common.{◌≡◌, ◌∷◌, [], length, map, refl, rules, arith}
 use Rattle.std.proofs.lemmas.List.{length-map}
 use Rattle.constriction_inputs.specs.Coded.{items}
 use Rattle.constriction_inputs.specs.Intervals.{as_intervals}
@@ -23,8 +23,9 @@ returns g c =
     let coded = as_intervals (map p c.args.lefts.now) in
     let is : items g.row.PRECISION (one (1 ∷ [])) ≡ items g.row.PRECISION (coded (map p c.args.ps.now)) = rw c.of_total-model.ensures made.items in
     let one' : length c.args.lefts.now ≡ 1 = search rules in
-    let same : 1 ≡ length (map p c.args.ps.now) = omega (arith, made.fit.0, length-map c.args.lefts.now p, one') in
+    let fit = (made.variant.0 refl).1 in
+    let same : 1 ≡ length (map p c.args.ps.now) = omega (arith, fit.0, length-map c.args.lefts.now p, one') in
     record {
       call = puts_as g.Word.BitArray.number g.State.BitArray.number g.Word.BitArray.BITS g.State.BitArray.BITS g.row.PRECISION one coded (1 ∷ []) (map p c.args.ps.now)
-          (kept_in c.args.encoder.now c.args.buffer.now c.args.len.now) (kept_in now.encoder now.buffer now.len) c.encode.result is same (tt, tt, rw c.of_total-model.ensures made.total) made.fit c.encode.ensures.call;
+          (kept_in c.args.encoder.now c.args.buffer.now c.args.len.now) (kept_in now.encoder now.buffer now.len) c.encode.result is same (tt, tt, rw c.of_total-model.ensures made.total) fit c.encode.ensures.call;
     }
