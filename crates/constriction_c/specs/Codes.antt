@@ -1,5 +1,5 @@
 -- The codes of C functions, and the answers that they stand for.
-use Rattle.std.specs.Prelude.{◌≡◌, ℕ, zero, suc, ◌+◌, ◌*◌, Result, Ok, Err}
+use Rattle.std.specs.Prelude.{◌≡◌, ℕ, zero, suc, ◌+◌, ◌*◌, ◌%◌, ◌^◌, Result, Ok, Err}
 use Rattle.constriction_inputs.specs.declared.refusal.Refusal.{Refusal}
 use Rattle.constriction_inputs.specs.declared.refusal.Refusal.TheVariants.{ImpossibleSymbol, WrongWeights, WrongInterval, WrongLength, NoSpace, NoMemory, InvalidData, OutOfData}
 
@@ -29,3 +29,12 @@ Told code old_needed needed call = call (answer_by_code code needed) × (needed 
 -- A version as a number.
 abbrev pub version_number : ℕ → ℕ → ℕ → ℕ
 version_number major minor patch = 10000 * major + 100 * minor + patch
+
+-- ---- symbols
+-- The number of a symbol of 8 bits.
+abbrev pub byte : ℕ → ℕ
+byte x = x % 2 ^ 8
+
+-- The number of a symbol of 16 bits.
+abbrev pub short : ℕ → ℕ
+short x = x % 2 ^ 16

@@ -1,12 +1,13 @@
 // Written by tools/sizes from large.rt.
 //! The stack coder with 16-bit words, 32-bit heads and a precision of 12 bits.
 
-ghost use Rattle.std.specs.Prelude.{map};
+ghost use Rattle.std.specs.Prelude.{◌^◌, map};
 ghost use Rattle.constriction_base.specs.Readings.{BeginsHigh};
 ghost use Rattle.constriction_c.specs.Small.{small_word, small_state, SmallAnsTakes, SmallAnsPuts};
-ghost use Rattle.constriction_c.specs.Codes.{Told, answer_by_code};
+ghost use Rattle.constriction_c.specs.Codes.{Told, answer_by_code, byte, short};
 ghost use Rattle.constriction_calls.specs.AnsCalls.{AnsExports, AnsImports, coder_of};
 ghost use Rattle.constriction_calls.specs.AnsCalls.{AreBinary, AreCompressed, HasBinary};
+ghost use Rattle.constriction_calls.specs.NarrowSymbols.{narrow_by_weights};
 ghost use Rattle.constriction_inputs.specs.Intervals.{as_intervals};
 ghost use Rattle.constriction_inputs.specs.Mixtures.{in_mixture};
 ghost use Rattle.constriction_inputs.specs.Quantized.{in_family};
@@ -16,8 +17,10 @@ ghost use Rattle.constriction_stack.specs.Ans.{filled};
 ghost use Rattle.constriction_stack.specs.Binary.{binary_state};
 
 use crate::codes::{code_of, code_without_space};
-use constriction_calls::ans::decoding::{decode, decode_by_weights};
-use constriction_calls::ans::encoding::{encode_intervals_reverse, encode_reverse};
+use constriction_calls::ans::decoding::{decode, decode_by_weights, decode_narrow};
+use constriction_calls::ans::encoding::{
+    encode_intervals_reverse, encode_narrow_reverse, encode_reverse,
+};
 use constriction_calls::ans::words::{from_binary, from_compressed, into_binary, into_compressed};
 use constriction_inputs::models::{Families, Mixtures, Rows, Weights};
 use std::alloc::Global;
@@ -40,6 +43,52 @@ pub extern "C" fn constriction_ans_encode_reverse_u16(
 {
     let table = Weights { weights };
     let answer = encode_reverse::<_, _, u16, _, 12>(alloc, head, words, len, &table, symbols);
+    code_of(answer, needed)
+}
+
+/// Encodes symbols of the type `u8` from the last to the first, with one table of weights for all symbols.
+///
+/// Calls [`encode_narrow_reverse`] and returns the code of its result ([`code_of`]).
+#[unsafe(no_mangle)]
+pub extern "C" fn constriction_ans_encode_bytes_reverse_u16(
+    alloc: Global,
+    head: &mut u32,
+    words: &mut [u16],
+    len: &mut usize,
+    weights: &[u16],
+    symbols: &[u8],
+    needed: &mut usize,
+) -> u32
+    ensures { Told result needed.old needed.new (SmallAnsPuts
+        (by_weights (map small_word weights.now) (map byte symbols.now)) (coder_of head.old words.old len.old)
+        (coder_of head.new words.new len.new)) }
+{
+    let answer = encode_narrow_reverse::<_, _, u16, u8, 12>(
+        alloc, head, words, len, weights, symbols,
+    );
+    code_of(answer, needed)
+}
+
+/// Encodes symbols of the type `u16` from the last to the first, with one table of weights for all symbols.
+///
+/// Calls [`encode_narrow_reverse`] and returns the code of its result ([`code_of`]).
+#[unsafe(no_mangle)]
+pub extern "C" fn constriction_ans_encode_shorts_reverse_u16(
+    alloc: Global,
+    head: &mut u32,
+    words: &mut [u16],
+    len: &mut usize,
+    weights: &[u16],
+    symbols: &[u16],
+    needed: &mut usize,
+) -> u32
+    ensures { Told result needed.old needed.new (SmallAnsPuts
+        (by_weights (map small_word weights.now) (map short symbols.now)) (coder_of head.old words.old len.old)
+        (coder_of head.new words.new len.new)) }
+{
+    let answer = encode_narrow_reverse::<_, _, u16, u16, 12>(
+        alloc, head, words, len, weights, symbols,
+    );
     code_of(answer, needed)
 }
 
@@ -155,6 +204,48 @@ pub extern "C" fn constriction_ans_decode_u16(
         (coder_of head.new words.now len.new) symbols.old symbols.new (answer_by_code result 0) }
 {
     code_without_space(decode_by_weights::<_, _, u16, 12>(
+        alloc, head, words, len, weights, symbols,
+    ))
+}
+
+/// Decodes symbols of the type `u8` with one table of weights for all symbols.
+///
+/// Calls [`decode_narrow`] and returns the code of its result ([`code_of`]).
+#[unsafe(no_mangle)]
+pub extern "C" fn constriction_ans_decode_bytes_u16(
+    alloc: Global,
+    head: &mut u32,
+    words: &[u16],
+    len: &mut usize,
+    weights: &[u16],
+    symbols: &mut [u8],
+) -> u32
+    ensures { SmallAnsTakes (narrow_by_weights (2 ^ 8) (map small_word weights.now))
+        (coder_of head.old words.now len.old) (coder_of head.new words.now len.new)
+        (map byte symbols.old) (map byte symbols.new) (answer_by_code result 0) }
+{
+    code_without_space(decode_narrow::<_, _, u16, u8, 12>(
+        alloc, head, words, len, weights, symbols,
+    ))
+}
+
+/// Decodes symbols of the type `u16` with one table of weights for all symbols.
+///
+/// Calls [`decode_narrow`] and returns the code of its result ([`code_of`]).
+#[unsafe(no_mangle)]
+pub extern "C" fn constriction_ans_decode_shorts_u16(
+    alloc: Global,
+    head: &mut u32,
+    words: &[u16],
+    len: &mut usize,
+    weights: &[u16],
+    symbols: &mut [u16],
+) -> u32
+    ensures { SmallAnsTakes (narrow_by_weights (2 ^ 16) (map small_word weights.now))
+        (coder_of head.old words.now len.old) (coder_of head.new words.now len.new)
+        (map short symbols.old) (map short symbols.new) (answer_by_code result 0) }
+{
+    code_without_space(decode_narrow::<_, _, u16, u16, 12>(
         alloc, head, words, len, weights, symbols,
     ))
 }

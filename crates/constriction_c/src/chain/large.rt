@@ -1,10 +1,11 @@
 //! The chain coder with 32-bit words, a 64-bit remainders head, a 32-bit compressed head and a precision of 24 bits.
 
-ghost use Rattle.std.specs.Prelude.{◌≡◌, map};
+ghost use Rattle.std.specs.Prelude.{◌≡◌, ◌^◌, map};
 ghost use Rattle.constriction_c.specs.Large.{LargeChainBegins, LargeChainEnds, LargeChainPuts, LargeChainTakes};
 ghost use Rattle.constriction_c.specs.Large.{large_chain, large_heads, large_word};
-ghost use Rattle.constriction_c.specs.Codes.{Told, answer_by_code};
+ghost use Rattle.constriction_c.specs.Codes.{Told, answer_by_code, byte, short};
 ghost use Rattle.constriction_calls.specs.ChainWords.{InBinary, InCompressed, InRemainders};
+ghost use Rattle.constriction_calls.specs.NarrowSymbols.{narrow_by_weights};
 ghost use Rattle.constriction_inputs.specs.Intervals.{as_intervals};
 ghost use Rattle.constriction_inputs.specs.Mixtures.{in_mixture};
 ghost use Rattle.constriction_inputs.specs.Quantized.{in_family};
@@ -13,8 +14,9 @@ ghost use Rattle.constriction_inputs.specs.Weights.{by_weights};
 
 use crate::codes::{code_of, code_without_space};
 use constriction_calls::chain::{
-    ChainHeads, decode, decode_by_weights, encode_intervals_reverse, encode_reverse, from_binary,
-    from_compressed, from_remainders, into_binary, into_compressed, into_remainders,
+    ChainHeads, decode, decode_by_weights, decode_narrow, encode_intervals_reverse,
+    encode_narrow_reverse, encode_reverse, from_binary, from_compressed, from_remainders,
+    into_binary, into_compressed, into_remainders,
 };
 use constriction_inputs::models::{Families, Mixtures, Rows, Weights};
 use std::alloc::Global;
@@ -72,6 +74,64 @@ pub extern "C" fn constriction_chain_decode_u32(
 {
     let mut both = heads.parts();
     let answer = decode_by_weights::<_, _, u32, 24>(
+        alloc, &mut both, compressed, count, remainders, rest, weights, symbols,
+    );
+    *heads = ChainHeadsU32::of(both);
+    code_of(answer, needed)
+}
+
+/// Decodes symbols of the type `u8` with one table of weights for all symbols.
+///
+/// Calls [`decode_narrow`] and returns the code of its result ([`code_of`]).
+#[unsafe(no_mangle)]
+pub extern "C" fn constriction_chain_decode_bytes_u32(
+    alloc: Global,
+    heads: &mut ChainHeadsU32,
+    compressed: &[u32],
+    count: &mut usize,
+    remainders: &mut [u32],
+    rest: &mut usize,
+    weights: &[u32],
+    symbols: &mut [u8],
+    needed: &mut usize,
+) -> u32
+    ensures { Told result needed.old needed.new (LargeChainTakes
+        (narrow_by_weights (2 ^ 8) (map large_word weights.now))
+        (large_chain heads.old compressed.now count.old remainders.old rest.old)
+        (large_chain heads.new compressed.now count.new remainders.new rest.new)
+        (map byte symbols.old) (map byte symbols.new)) }
+{
+    let mut both = heads.parts();
+    let answer = decode_narrow::<_, _, u32, u8, 24>(
+        alloc, &mut both, compressed, count, remainders, rest, weights, symbols,
+    );
+    *heads = ChainHeadsU32::of(both);
+    code_of(answer, needed)
+}
+
+/// Decodes symbols of the type `u16` with one table of weights for all symbols.
+///
+/// Calls [`decode_narrow`] and returns the code of its result ([`code_of`]).
+#[unsafe(no_mangle)]
+pub extern "C" fn constriction_chain_decode_shorts_u32(
+    alloc: Global,
+    heads: &mut ChainHeadsU32,
+    compressed: &[u32],
+    count: &mut usize,
+    remainders: &mut [u32],
+    rest: &mut usize,
+    weights: &[u32],
+    symbols: &mut [u16],
+    needed: &mut usize,
+) -> u32
+    ensures { Told result needed.old needed.new (LargeChainTakes
+        (narrow_by_weights (2 ^ 16) (map large_word weights.now))
+        (large_chain heads.old compressed.now count.old remainders.old rest.old)
+        (large_chain heads.new compressed.now count.new remainders.new rest.new)
+        (map short symbols.old) (map short symbols.new)) }
+{
+    let mut both = heads.parts();
+    let answer = decode_narrow::<_, _, u32, u16, 24>(
         alloc, &mut both, compressed, count, remainders, rest, weights, symbols,
     );
     *heads = ChainHeadsU32::of(both);
@@ -198,6 +258,62 @@ pub extern "C" fn constriction_chain_encode_reverse_u32(
     let mut both = heads.parts();
     let answer = encode_reverse::<_, _, u32, Weights<'_, u32>, 24>(
         alloc, &mut both, compressed, count, remainders, rest, &models, symbols,
+    );
+    *heads = ChainHeadsU32::of(both);
+    code_of(answer, needed)
+}
+
+/// Encodes symbols of the type `u8` from the last to the first, with one table of weights for all symbols.
+///
+/// Calls [`encode_narrow_reverse`] and returns the code of its result ([`code_of`]).
+#[unsafe(no_mangle)]
+pub extern "C" fn constriction_chain_encode_bytes_reverse_u32(
+    alloc: Global,
+    heads: &mut ChainHeadsU32,
+    compressed: &mut [u32],
+    count: &mut usize,
+    remainders: &[u32],
+    rest: &mut usize,
+    weights: &[u32],
+    symbols: &[u8],
+    needed: &mut usize,
+) -> u32
+    ensures { Told result needed.old needed.new (LargeChainPuts
+        (by_weights (map large_word weights.now) (map byte symbols.now))
+        (large_chain heads.old compressed.old count.old remainders.now rest.old)
+        (large_chain heads.new compressed.new count.new remainders.now rest.new)) }
+{
+    let mut both = heads.parts();
+    let answer = encode_narrow_reverse::<_, _, u32, u8, 24>(
+        alloc, &mut both, compressed, count, remainders, rest, weights, symbols,
+    );
+    *heads = ChainHeadsU32::of(both);
+    code_of(answer, needed)
+}
+
+/// Encodes symbols of the type `u16` from the last to the first, with one table of weights for all symbols.
+///
+/// Calls [`encode_narrow_reverse`] and returns the code of its result ([`code_of`]).
+#[unsafe(no_mangle)]
+pub extern "C" fn constriction_chain_encode_shorts_reverse_u32(
+    alloc: Global,
+    heads: &mut ChainHeadsU32,
+    compressed: &mut [u32],
+    count: &mut usize,
+    remainders: &[u32],
+    rest: &mut usize,
+    weights: &[u32],
+    symbols: &[u16],
+    needed: &mut usize,
+) -> u32
+    ensures { Told result needed.old needed.new (LargeChainPuts
+        (by_weights (map large_word weights.now) (map short symbols.now))
+        (large_chain heads.old compressed.old count.old remainders.now rest.old)
+        (large_chain heads.new compressed.new count.new remainders.now rest.new)) }
+{
+    let mut both = heads.parts();
+    let answer = encode_narrow_reverse::<_, _, u32, u16, 24>(
+        alloc, &mut both, compressed, count, remainders, rest, weights, symbols,
     );
     *heads = ChainHeadsU32::of(both);
     code_of(answer, needed)

@@ -1,11 +1,12 @@
 // Written by tools/sizes from large.rt.
 //! The chain coder with 16-bit words, a 32-bit remainders head, a 16-bit compressed head and a precision of 12 bits.
 
-ghost use Rattle.std.specs.Prelude.{◌≡◌, map};
+ghost use Rattle.std.specs.Prelude.{◌≡◌, ◌^◌, map};
 ghost use Rattle.constriction_c.specs.Small.{SmallChainBegins, SmallChainEnds, SmallChainPuts, SmallChainTakes};
 ghost use Rattle.constriction_c.specs.Small.{small_chain, small_heads, small_word};
-ghost use Rattle.constriction_c.specs.Codes.{Told, answer_by_code};
+ghost use Rattle.constriction_c.specs.Codes.{Told, answer_by_code, byte, short};
 ghost use Rattle.constriction_calls.specs.ChainWords.{InBinary, InCompressed, InRemainders};
+ghost use Rattle.constriction_calls.specs.NarrowSymbols.{narrow_by_weights};
 ghost use Rattle.constriction_inputs.specs.Intervals.{as_intervals};
 ghost use Rattle.constriction_inputs.specs.Mixtures.{in_mixture};
 ghost use Rattle.constriction_inputs.specs.Quantized.{in_family};
@@ -14,8 +15,9 @@ ghost use Rattle.constriction_inputs.specs.Weights.{by_weights};
 
 use crate::codes::{code_of, code_without_space};
 use constriction_calls::chain::{
-    ChainHeads, decode, decode_by_weights, encode_intervals_reverse, encode_reverse, from_binary,
-    from_compressed, from_remainders, into_binary, into_compressed, into_remainders,
+    ChainHeads, decode, decode_by_weights, decode_narrow, encode_intervals_reverse,
+    encode_narrow_reverse, encode_reverse, from_binary, from_compressed, from_remainders,
+    into_binary, into_compressed, into_remainders,
 };
 use constriction_inputs::models::{Families, Mixtures, Rows, Weights};
 use std::alloc::Global;
@@ -73,6 +75,64 @@ pub extern "C" fn constriction_chain_decode_u16(
 {
     let mut both = heads.parts();
     let answer = decode_by_weights::<_, _, u16, 12>(
+        alloc, &mut both, compressed, count, remainders, rest, weights, symbols,
+    );
+    *heads = ChainHeadsU16::of(both);
+    code_of(answer, needed)
+}
+
+/// Decodes symbols of the type `u8` with one table of weights for all symbols.
+///
+/// Calls [`decode_narrow`] and returns the code of its result ([`code_of`]).
+#[unsafe(no_mangle)]
+pub extern "C" fn constriction_chain_decode_bytes_u16(
+    alloc: Global,
+    heads: &mut ChainHeadsU16,
+    compressed: &[u16],
+    count: &mut usize,
+    remainders: &mut [u16],
+    rest: &mut usize,
+    weights: &[u16],
+    symbols: &mut [u8],
+    needed: &mut usize,
+) -> u32
+    ensures { Told result needed.old needed.new (SmallChainTakes
+        (narrow_by_weights (2 ^ 8) (map small_word weights.now))
+        (small_chain heads.old compressed.now count.old remainders.old rest.old)
+        (small_chain heads.new compressed.now count.new remainders.new rest.new)
+        (map byte symbols.old) (map byte symbols.new)) }
+{
+    let mut both = heads.parts();
+    let answer = decode_narrow::<_, _, u16, u8, 12>(
+        alloc, &mut both, compressed, count, remainders, rest, weights, symbols,
+    );
+    *heads = ChainHeadsU16::of(both);
+    code_of(answer, needed)
+}
+
+/// Decodes symbols of the type `u16` with one table of weights for all symbols.
+///
+/// Calls [`decode_narrow`] and returns the code of its result ([`code_of`]).
+#[unsafe(no_mangle)]
+pub extern "C" fn constriction_chain_decode_shorts_u16(
+    alloc: Global,
+    heads: &mut ChainHeadsU16,
+    compressed: &[u16],
+    count: &mut usize,
+    remainders: &mut [u16],
+    rest: &mut usize,
+    weights: &[u16],
+    symbols: &mut [u16],
+    needed: &mut usize,
+) -> u32
+    ensures { Told result needed.old needed.new (SmallChainTakes
+        (narrow_by_weights (2 ^ 16) (map small_word weights.now))
+        (small_chain heads.old compressed.now count.old remainders.old rest.old)
+        (small_chain heads.new compressed.now count.new remainders.new rest.new)
+        (map short symbols.old) (map short symbols.new)) }
+{
+    let mut both = heads.parts();
+    let answer = decode_narrow::<_, _, u16, u16, 12>(
         alloc, &mut both, compressed, count, remainders, rest, weights, symbols,
     );
     *heads = ChainHeadsU16::of(both);
@@ -199,6 +259,62 @@ pub extern "C" fn constriction_chain_encode_reverse_u16(
     let mut both = heads.parts();
     let answer = encode_reverse::<_, _, u16, Weights<'_, u16>, 12>(
         alloc, &mut both, compressed, count, remainders, rest, &models, symbols,
+    );
+    *heads = ChainHeadsU16::of(both);
+    code_of(answer, needed)
+}
+
+/// Encodes symbols of the type `u8` from the last to the first, with one table of weights for all symbols.
+///
+/// Calls [`encode_narrow_reverse`] and returns the code of its result ([`code_of`]).
+#[unsafe(no_mangle)]
+pub extern "C" fn constriction_chain_encode_bytes_reverse_u16(
+    alloc: Global,
+    heads: &mut ChainHeadsU16,
+    compressed: &mut [u16],
+    count: &mut usize,
+    remainders: &[u16],
+    rest: &mut usize,
+    weights: &[u16],
+    symbols: &[u8],
+    needed: &mut usize,
+) -> u32
+    ensures { Told result needed.old needed.new (SmallChainPuts
+        (by_weights (map small_word weights.now) (map byte symbols.now))
+        (small_chain heads.old compressed.old count.old remainders.now rest.old)
+        (small_chain heads.new compressed.new count.new remainders.now rest.new)) }
+{
+    let mut both = heads.parts();
+    let answer = encode_narrow_reverse::<_, _, u16, u8, 12>(
+        alloc, &mut both, compressed, count, remainders, rest, weights, symbols,
+    );
+    *heads = ChainHeadsU16::of(both);
+    code_of(answer, needed)
+}
+
+/// Encodes symbols of the type `u16` from the last to the first, with one table of weights for all symbols.
+///
+/// Calls [`encode_narrow_reverse`] and returns the code of its result ([`code_of`]).
+#[unsafe(no_mangle)]
+pub extern "C" fn constriction_chain_encode_shorts_reverse_u16(
+    alloc: Global,
+    heads: &mut ChainHeadsU16,
+    compressed: &mut [u16],
+    count: &mut usize,
+    remainders: &[u16],
+    rest: &mut usize,
+    weights: &[u16],
+    symbols: &[u16],
+    needed: &mut usize,
+) -> u32
+    ensures { Told result needed.old needed.new (SmallChainPuts
+        (by_weights (map small_word weights.now) (map short symbols.now))
+        (small_chain heads.old compressed.old count.old remainders.now rest.old)
+        (small_chain heads.new compressed.new count.new remainders.now rest.new)) }
+{
+    let mut both = heads.parts();
+    let answer = encode_narrow_reverse::<_, _, u16, u16, 12>(
+        alloc, &mut both, compressed, count, remainders, rest, weights, symbols,
     );
     *heads = ChainHeadsU16::of(both);
     code_of(answer, needed)

@@ -1,20 +1,21 @@
 //! The range coder with 32-bit words, 64-bit states and a precision of 24 bits.
 
-ghost use Rattle.std.specs.Prelude.{◌≡◌, map};
+ghost use Rattle.std.specs.Prelude.{◌≡◌, ◌^◌, map};
 ghost use Rattle.constriction_c.specs.Large.{large_word, large_state, large_kept, LargeRangeTakes, LargeRangePuts};
 ghost use Rattle.constriction_c.specs.Large.{large_decoder, large_encoder};
-ghost use Rattle.constriction_c.specs.Codes.{Told, answer_by_code};
+ghost use Rattle.constriction_c.specs.Codes.{Told, answer_by_code, byte, short};
 ghost use Rattle.constriction_inputs.specs.Intervals.{as_intervals};
 ghost use Rattle.constriction_inputs.specs.Mixtures.{in_mixture};
 ghost use Rattle.constriction_inputs.specs.Quantized.{in_family};
 ghost use Rattle.constriction_inputs.specs.Rows.{by_rows};
 ghost use Rattle.constriction_inputs.specs.Weights.{by_weights};
+ghost use Rattle.constriction_calls.specs.NarrowSymbols.{narrow_by_weights};
 ghost use Rattle.constriction_calls.specs.RangeCalls.{IsNew, IsSealed, IsSelfSealed, RangeBegins, RangeMayEnd};
 ghost use Rattle.constriction_calls.specs.RangeCalls.{RangeSeals, RangeSeeks};
 
 use crate::codes::{code_of, code_without_space};
-use constriction_calls::range::decoding::{decode, decode_by_weights};
-use constriction_calls::range::encoding::{encode, encode_intervals};
+use constriction_calls::range::decoding::{decode, decode_by_weights, decode_narrow};
+use constriction_calls::range::encoding::{encode, encode_intervals, encode_narrow};
 use constriction_calls::range::parts::{DecoderParts, EncoderParts};
 use constriction_calls::range::positions::{from_compressed, maybe_exhausted, seek};
 use constriction_calls::range::words::{into_compressed, into_self_delimited};
@@ -133,6 +134,54 @@ pub extern "C" fn constriction_range_encode_u32(
     let one = Weights { weights };
     let mut parts = encoder.parts();
     let answer = encode::<_, _, u32, _, 24>(alloc, &mut parts, words, len, &one, symbols);
+    *encoder = RangeEncoderU32::of(parts);
+    code_of(answer, needed)
+}
+
+/// Encodes symbols of the type `u8` in order, with one table of weights for all symbols.
+///
+/// Calls [`encode_narrow`] and returns the code of its result ([`code_of`]).
+#[unsafe(no_mangle)]
+pub extern "C" fn constriction_range_encode_bytes_u32(
+    alloc: Global,
+    encoder: &mut RangeEncoderU32,
+    words: &mut [u32],
+    len: &mut usize,
+    weights: &[u32],
+    symbols: &[u8],
+    needed: &mut usize,
+) -> u32
+    ensures { Told result needed.old needed.new (LargeRangePuts (by_weights (map large_word weights.now))
+        (map byte symbols.now) (large_kept encoder.old words.old len.old) (large_kept encoder.new words.new len.new)) }
+{
+    let mut parts = encoder.parts();
+    let answer = encode_narrow::<_, _, u32, u8, 24>(
+        alloc, &mut parts, words, len, weights, symbols,
+    );
+    *encoder = RangeEncoderU32::of(parts);
+    code_of(answer, needed)
+}
+
+/// Encodes symbols of the type `u16` in order, with one table of weights for all symbols.
+///
+/// Calls [`encode_narrow`] and returns the code of its result ([`code_of`]).
+#[unsafe(no_mangle)]
+pub extern "C" fn constriction_range_encode_shorts_u32(
+    alloc: Global,
+    encoder: &mut RangeEncoderU32,
+    words: &mut [u32],
+    len: &mut usize,
+    weights: &[u32],
+    symbols: &[u16],
+    needed: &mut usize,
+) -> u32
+    ensures { Told result needed.old needed.new (LargeRangePuts (by_weights (map large_word weights.now))
+        (map short symbols.now) (large_kept encoder.old words.old len.old) (large_kept encoder.new words.new len.new)) }
+{
+    let mut parts = encoder.parts();
+    let answer = encode_narrow::<_, _, u32, u16, 24>(
+        alloc, &mut parts, words, len, weights, symbols,
+    );
     *encoder = RangeEncoderU32::of(parts);
     code_of(answer, needed)
 }
@@ -309,6 +358,48 @@ pub extern "C" fn constriction_range_decode_u32(
 {
     let mut parts = decoder.parts();
     let answer = decode_by_weights::<_, _, u32, 24>(alloc, &mut parts, words, weights, symbols);
+    *decoder = RangeDecoderU32::of(parts);
+    code_without_space(answer)
+}
+
+/// Decodes symbols of the type `u8` in order, with one table of weights for all symbols.
+///
+/// Calls [`decode_narrow`] and returns the code of its result ([`code_of`]).
+#[unsafe(no_mangle)]
+pub extern "C" fn constriction_range_decode_bytes_u32(
+    alloc: Global,
+    decoder: &mut RangeDecoderU32,
+    words: &[u32],
+    weights: &[u32],
+    symbols: &mut [u8],
+) -> u32
+    ensures { LargeRangeTakes (narrow_by_weights (2 ^ 8) (map large_word weights.now)) words.now
+        (large_decoder decoder.old) (large_decoder decoder.new)
+        (map byte symbols.old) (map byte symbols.new) (answer_by_code result 0) }
+{
+    let mut parts = decoder.parts();
+    let answer = decode_narrow::<_, _, u32, u8, 24>(alloc, &mut parts, words, weights, symbols);
+    *decoder = RangeDecoderU32::of(parts);
+    code_without_space(answer)
+}
+
+/// Decodes symbols of the type `u16` in order, with one table of weights for all symbols.
+///
+/// Calls [`decode_narrow`] and returns the code of its result ([`code_of`]).
+#[unsafe(no_mangle)]
+pub extern "C" fn constriction_range_decode_shorts_u32(
+    alloc: Global,
+    decoder: &mut RangeDecoderU32,
+    words: &[u32],
+    weights: &[u32],
+    symbols: &mut [u16],
+) -> u32
+    ensures { LargeRangeTakes (narrow_by_weights (2 ^ 16) (map large_word weights.now)) words.now
+        (large_decoder decoder.old) (large_decoder decoder.new)
+        (map short symbols.old) (map short symbols.new) (answer_by_code result 0) }
+{
+    let mut parts = decoder.parts();
+    let answer = decode_narrow::<_, _, u32, u16, 24>(alloc, &mut parts, words, weights, symbols);
     *decoder = RangeDecoderU32::of(parts);
     code_without_space(answer)
 }

@@ -7,12 +7,14 @@ ghost use Rattle.constriction_queue.specs.Encoder.{left_to_encode, run_by};
 ghost use Rattle.constriction_queue.specs.Symbols.{NarrowsAll};
 ghost use Rattle.constriction_inputs.specs.Coded.{AreFit, items};
 ghost use Rattle.constriction_inputs.specs.Intervals.{as_intervals};
+ghost use Rattle.constriction_inputs.specs.Weights.{by_weights};
 ghost use Rattle.constriction_calls.specs.RangeCalls.{IsEncoderKept, RangePuts, kept_in, run_kept};
 
+use crate::narrow::{are_known, widened};
 use crate::range::parts::{EncoderParts, encoder_for, parts_of};
 use constriction_inputs::buffers::append;
 use constriction_inputs::intervals::{row_of_one, rows_by_intervals};
-use constriction_inputs::models::{ModelList, Models, Rows};
+use constriction_inputs::models::{ModelList, Models, Rows, Weights};
 use constriction_inputs::refusal::Refusal;
 use constriction_inputs::rows::Row;
 use constriction_queue::RangeEncoder;
@@ -149,6 +151,53 @@ pub fn encode<
     } else {
         Err(Refusal::NoSpace(len.saturating_add(held)))
     }
+}
+
+/// Encodes symbols of a narrow type in order, with one table of weights for all symbols.
+///
+/// The call first makes a list of their numbers. It changes `encoder`, `buffer` and `len` as [`encode`] does.
+///
+/// # Errors
+///
+/// The errors of [`encode`] except `WrongInterval`.
+pub fn encode_narrow<
+    Word: WordOf<State>,
+    State: BitArray,
+    P: WordOf<Word>,
+    S: WordOf<usize>,
+    const PRECISION: usize,
+>(
+    alloc: Global,
+    encoder: &mut EncoderParts<Word, State>,
+    buffer: &mut [Word],
+    len: &mut usize,
+    weights: &[P],
+    symbols: &[S],
+) -> Result<(), Refusal>
+    requires sizes { IsSizes Word.BITS State.BITS }
+    requires precision { (1 ≤ PRECISION) × (PRECISION ≤ P.BITS) }
+    ensures call { RangePuts Word.number State.number Word.BITS State.BITS PRECISION
+        (by_weights (map P.number weights.now)) (map S.number symbols.now)
+        (kept_in encoder.old buffer.old len.old) (kept_in encoder.new buffer.new len.new) result }
+{
+    let table = Weights { weights };
+    if let Some(wide) = widened(alloc, symbols) {
+        return encode::<_, _, P, _, PRECISION>(alloc, encoder, buffer, len, &table, &wide);
+    }
+    if *len > buffer.len() {
+        return Err(Refusal::WrongLength);
+    }
+    Models::<P, PRECISION>::check(&table, &[])?;
+    if encoder_for(alloc, *encoder, symbols.len()).is_none() {
+        return Err(Refusal::InvalidData);
+    }
+    if !are_known::<P, S, PRECISION>(weights, symbols) {
+        return Err(Refusal::ImpossibleSymbol);
+    }
+    if encoder.held > buffer.len() - *len {
+        return Err(Refusal::NoSpace(len.saturating_add(encoder.held)));
+    }
+    Err(Refusal::NoMemory)
 }
 
 /// Encodes intervals in order. Interval `i` begins at `lefts[i]`, and its length is `ps[i]`.
