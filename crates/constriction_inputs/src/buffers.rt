@@ -43,7 +43,11 @@ pub fn append<Word: BitArray>(
     if end > buffer.len() {
         return Err(Refusal::NoSpace(end));
     }
-    buffer[*len..end].copy_from_slice(added);
+    if added.len() == 1 {
+        buffer[*len] = added[0];
+    } else {
+        buffer[*len..end].copy_from_slice(added);
+    }
     *len = end;
     Ok(())
 }

@@ -4,7 +4,7 @@
 //! quantiles above the interval.
 
 ghost use Rattle.std.specs.Prelude.{◌≡◌, ◌≢◌, ◌↔◌, ◌⊎◌, ◌*◌, ◌+◌, ◌^◌, ◌≤◌, length, map, IsTrue, IfOk, IfErr, OnOk};
-ghost use Rattle.std.specs.Prelude.{IfSome, IsErrOf, OnSome, [], ◌∷◌};
+ghost use Rattle.std.specs.Prelude.{IfSome, IsErrOf, IsSome, [], ◌∷◌};
 ghost use Rattle.constriction_base.specs.Models.{items_of};
 ghost use Rattle.constriction_inputs.specs.Coded.{AreFit};
 ghost use Rattle.constriction_inputs.specs.Intervals.{IsIntervalWithin, AreIntervals, interval_items, rows_between};
@@ -82,7 +82,8 @@ pub fn row_of_one<P: BitArray, const PRECISION: usize>(lefts: &[P], ps: &[P]) ->
     ensures items { IfSome result (λ row. items_of (weights_model PRECISION (map P.number row)) (1 ∷ [])
         ≡ interval_items PRECISION (map P.number lefts.now) (map P.number ps.now)) }
     ensures total { IfSome result (λ row. IsTotal PRECISION (map P.number row)) }
-    ensures fit { OnSome result (AreFit PRECISION (as_intervals (map P.number lefts.now) (map P.number ps.now))) }
+    ensures variant { IsSome result ↔ ((length lefts.now ≡ 1)
+        × AreFit PRECISION (as_intervals (map P.number lefts.now) (map P.number ps.now))) }
 {
     if lefts.len() != 1 || ps.len() != 1 {
         return None;

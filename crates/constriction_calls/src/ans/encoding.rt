@@ -186,8 +186,54 @@ fn intervals_by_rows<Word: WordOf<State>, State: BitArray, P: WordOf<Word>, cons
 /// Encodes symbols from the last to the first onto `head`, without words below it. Returns the new words and the head.
 ///
 /// Returns `None` if a model has no entry for its symbol, or if there is no memory.
-#[inline(never)]
+#[inline]
 fn coded<
+    Word: WordOf<State>,
+    State: BitArray,
+    P: WordOf<Word>,
+    L: ModelList<P, PRECISION>,
+    const PRECISION: usize,
+>(alloc: Global, head: State, models: &mut L, symbols: &[usize]) -> Option<(Vec<Word>, State)>
+    requires sizes { IsSizes Word.BITS State.BITS }
+    requires count { length symbols.now ≡ length (L.tables models.now) }
+    ensures models { IfSome result (λ made. AreModels Word.BITS
+        (pairs_of PRECISION (λ table. table) symbols.now (L.tables models.old))) }
+    ensures coded { IfSome result (λ made. EncodesAll Word.BITS State.BITS
+        (reverse (pairs_of PRECISION (λ table. table) symbols.now (L.tables models.old)))
+        record { head = State.number head; words = [] }
+        record { head = State.number made.1; words = map Word.number (reverse made.0.items) }) }
+{
+    if symbols.len() == 1 {
+        coded_in_line(alloc, head, models, symbols)
+    } else {
+        coded_list(alloc, head, models, symbols)
+    }
+}
+
+/// Encodes as [`coded`] does. The loop is out of line, so that it keeps the coder in registers.
+#[inline(never)]
+fn coded_list<
+    Word: WordOf<State>,
+    State: BitArray,
+    P: WordOf<Word>,
+    L: ModelList<P, PRECISION>,
+    const PRECISION: usize,
+>(alloc: Global, head: State, models: &mut L, symbols: &[usize]) -> Option<(Vec<Word>, State)>
+    requires sizes { IsSizes Word.BITS State.BITS }
+    requires count { length symbols.now ≡ length (L.tables models.now) }
+    ensures models { IfSome result (λ made. AreModels Word.BITS
+        (pairs_of PRECISION (λ table. table) symbols.now (L.tables models.old))) }
+    ensures coded { IfSome result (λ made. EncodesAll Word.BITS State.BITS
+        (reverse (pairs_of PRECISION (λ table. table) symbols.now (L.tables models.old)))
+        record { head = State.number head; words = [] }
+        record { head = State.number made.1; words = map Word.number (reverse made.0.items) }) }
+{
+    coded_in_line(alloc, head, models, symbols)
+}
+
+/// Encodes as [`coded`] does, in line.
+#[inline]
+fn coded_in_line<
     Word: WordOf<State>,
     State: BitArray,
     P: WordOf<Word>,

@@ -364,8 +364,64 @@ fn put_by<
 /// # Errors
 ///
 /// The errors of [`put_by`].
-#[inline(never)]
+#[inline]
 fn put_symbols<
+    'a,
+    Word: WordOf<State>,
+    State: BitArray,
+    P: WordOf<Word>,
+    L: ModelList<P, PRECISION>,
+    const PRECISION: usize,
+>(
+    coder: &mut Putting<'a, Word, State, PRECISION>,
+    models: &mut L,
+    symbols: &[usize],
+) -> Result<(), Refusal>
+    requires { length (L.tables models.now) ≡ length symbols.now }
+    ensures ok { OnOk result (PutsBackAll Word.BITS State.BITS
+        (reverse (pairs_of PRECISION (λ table. table) symbols.now (L.tables models.old)))
+        coder.old.state coder.new.state) }
+    ensures err { IfErr result (λ e. (e ≡ refusals.NoMemory) ⊎ ((e ≡ refusals.ImpossibleSymbol)
+        × (AreKnown (pairs_of PRECISION (λ table. table) symbols.now (L.tables models.old)) → ⊥))
+        ⊎ ((e ≡ refusals.OutOfData) × LacksRemainders Word.BITS State.BITS
+        (reverse (pairs_of PRECISION (λ table. table) symbols.now (L.tables models.old))) coder.old.state)) }
+{
+    if symbols.len() == 1 {
+        put_in_line(coder, models, symbols)
+    } else {
+        put_many(coder, models, symbols)
+    }
+}
+
+/// Encodes as [`put_symbols`] does. The loop is out of line, so that it keeps the coder's heads in registers.
+#[inline(never)]
+fn put_many<
+    'a,
+    Word: WordOf<State>,
+    State: BitArray,
+    P: WordOf<Word>,
+    L: ModelList<P, PRECISION>,
+    const PRECISION: usize,
+>(
+    coder: &mut Putting<'a, Word, State, PRECISION>,
+    models: &mut L,
+    symbols: &[usize],
+) -> Result<(), Refusal>
+    requires { length (L.tables models.now) ≡ length symbols.now }
+    ensures ok { OnOk result (PutsBackAll Word.BITS State.BITS
+        (reverse (pairs_of PRECISION (λ table. table) symbols.now (L.tables models.old)))
+        coder.old.state coder.new.state) }
+    ensures err { IfErr result (λ e. (e ≡ refusals.NoMemory) ⊎ ((e ≡ refusals.ImpossibleSymbol)
+        × (AreKnown (pairs_of PRECISION (λ table. table) symbols.now (L.tables models.old)) → ⊥))
+        ⊎ ((e ≡ refusals.OutOfData) × LacksRemainders Word.BITS State.BITS
+        (reverse (pairs_of PRECISION (λ table. table) symbols.now (L.tables models.old))) coder.old.state)) }
+{
+    put_in_line(coder, models, symbols)
+}
+
+/// Encodes as [`put_symbols`] does, in line.
+#[inline]
+fn put_in_line<
     'a,
     Word: WordOf<State>,
     State: BitArray,

@@ -25,8 +25,58 @@ use std::alloc::Global;
 /// Encodes symbols in order, each under its own model of a list.
 ///
 /// Returns `None` if a model has no entry for its symbol, or if there is no memory.
-#[inline(never)]
+#[inline]
 fn put_list<
+    Word: WordOf<State>,
+    State: BitArray,
+    P: WordOf<Word>,
+    L: ModelList<P, PRECISION>,
+    const PRECISION: usize,
+>(
+    encoder: RangeEncoder<Word, State, Vec<Word>>,
+    list: &mut L,
+    symbols: &[usize],
+) -> Option<(Vec<Word>, EncoderParts<Word, State>)>
+    requires counted { length symbols.now ≡ length (L.tables list.now) }
+    requires left { length symbols.now ≤ left_to_encode encoder }
+    ensures coder { IfSome result (λ made. IsEncoderKept Word.number State.number Word.BITS State.BITS made.1) }
+    ensures narrowed { IfSome result (λ made. NarrowsAll Word.BITS State.BITS
+        (pairs_of PRECISION (λ table. table) symbols.now (L.tables list.old)) (run_by Word.BITS State.BITS encoder)
+        (run_kept Word.number State.number Word.BITS State.BITS made.1 made.0.items)) }
+{
+    if symbols.len() == 1 {
+        put_in_line::<Word, State, P, L, PRECISION>(encoder, list, symbols)
+    } else {
+        put_many::<Word, State, P, L, PRECISION>(encoder, list, symbols)
+    }
+}
+
+/// Encodes as [`put_list`] does. The loop is out of line, so that it keeps the encoder in registers.
+#[inline(never)]
+fn put_many<
+    Word: WordOf<State>,
+    State: BitArray,
+    P: WordOf<Word>,
+    L: ModelList<P, PRECISION>,
+    const PRECISION: usize,
+>(
+    encoder: RangeEncoder<Word, State, Vec<Word>>,
+    list: &mut L,
+    symbols: &[usize],
+) -> Option<(Vec<Word>, EncoderParts<Word, State>)>
+    requires counted { length symbols.now ≡ length (L.tables list.now) }
+    requires left { length symbols.now ≤ left_to_encode encoder }
+    ensures coder { IfSome result (λ made. IsEncoderKept Word.number State.number Word.BITS State.BITS made.1) }
+    ensures narrowed { IfSome result (λ made. NarrowsAll Word.BITS State.BITS
+        (pairs_of PRECISION (λ table. table) symbols.now (L.tables list.old)) (run_by Word.BITS State.BITS encoder)
+        (run_kept Word.number State.number Word.BITS State.BITS made.1 made.0.items)) }
+{
+    put_in_line::<Word, State, P, L, PRECISION>(encoder, list, symbols)
+}
+
+/// Encodes as [`put_list`] does, in line.
+#[inline]
+fn put_in_line<
     Word: WordOf<State>,
     State: BitArray,
     P: WordOf<Word>,

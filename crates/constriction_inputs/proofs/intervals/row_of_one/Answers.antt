@@ -1,4 +1,4 @@
-use Rattle.std.proofs.Common.{◌≡◌, true, length, arith, rules}
+use Rattle.std.proofs.Common.{◌≡◌, true, length, arith, refl, rules}
 use Rattle.constriction_inputs.proofs.IntervalRows.{lone_fit, lone_item}
 use Rattle.constriction_inputs.proofs.intervals.row_of_one.Goals as goal
 
@@ -14,5 +14,5 @@ returns-then-is_interval g c =
     record {
       items = lone_item number g.row.PRECISION c.index-lefts-0.result c.index-ps-0.result c.above.result lefts ps one one' c.index-lefts-0.is c.index-ps-0.is c.above.ensures;
       total = omega (arith, c.above.ensures);
-      fit = lone_fit number g.row.PRECISION c.index-lefts-0.result c.index-ps-0.result lefts ps one one' c.index-lefts-0.is c.index-ps-0.is within;
+      variant = (λ some. (one, lone_fit number g.row.PRECISION c.index-lefts-0.result c.index-ps-0.result lefts ps one one' c.index-lefts-0.is c.index-ps-0.is within), λ fit. refl);
     }
