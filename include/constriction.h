@@ -35,8 +35,9 @@
    - .._mixture: the same with a row of components for each symbol, each with a weight.
    constriction_weights_of_counts makes weights from counts.
 
-   SYMBOLS are numbers 0, 1, .. of type size_t. The symbols of Exp-Golomb codewords are words. A decode writes
-   `symbols` in the order of decoding.
+   SYMBOLS are numbers 0, 1, .. of type size_t. With the same weights for all symbols, .._bytes takes them as uint8_t
+   and .._shorts as uint16_t. The symbols of Exp-Golomb codewords are words. A decode writes `symbols` in the order
+   of decoding.
 
    ROOM. CONSTRICTION_NO_SPACE doesn't come if a buffer has room for the words in use, one word for each symbol, and
    two words for an export. Words that a range encoder holds back count as words in use: without room for them an
@@ -155,6 +156,15 @@ uint32_t constriction_ans_encode_reverse_u32(uint64_t *head, uint32_t *words, si
                                              const uint32_t *weights, size_t weight_count,
                                              const size_t *symbols, size_t symbol_count, size_t *needed);
 
+/* Do the same with symbols of 8 and of 16 bits, and write the same words. They make a list of the symbols as size_t
+   first. */
+uint32_t constriction_ans_encode_bytes_reverse_u32(uint64_t *head, uint32_t *words, size_t capacity, size_t *len,
+                                                   const uint32_t *weights, size_t weight_count,
+                                                   const uint8_t *symbols, size_t symbol_count, size_t *needed);
+uint32_t constriction_ans_encode_shorts_reverse_u32(uint64_t *head, uint32_t *words, size_t capacity, size_t *len,
+                                                    const uint32_t *weights, size_t weight_count,
+                                                    const uint16_t *symbols, size_t symbol_count, size_t *needed);
+
 /* Does the same with a row of `width` weights for each symbol. Also WRONG_LENGTH if weight_count isn't width *
    symbol_count. */
 uint32_t constriction_ans_encode_each_reverse_u32(uint64_t *head, uint32_t *words, size_t capacity, size_t *len,
@@ -173,6 +183,15 @@ uint32_t constriction_ans_encode_intervals_reverse_u32(uint64_t *head, uint32_t 
 uint32_t constriction_ans_decode_u32(uint64_t *head, const uint32_t *words, size_t word_count, size_t *len,
                                      const uint32_t *weights, size_t weight_count,
                                      size_t *symbols, size_t symbol_count);
+
+/* Do the same with symbols of 8 and of 16 bits. They decode a list of symbols as size_t first. Also WRONG_LENGTH if
+   weight_count is above 256 or 65536: if an index of the weights is no such symbol. */
+uint32_t constriction_ans_decode_bytes_u32(uint64_t *head, const uint32_t *words, size_t word_count, size_t *len,
+                                           const uint32_t *weights, size_t weight_count,
+                                           uint8_t *symbols, size_t symbol_count);
+uint32_t constriction_ans_decode_shorts_u32(uint64_t *head, const uint32_t *words, size_t word_count, size_t *len,
+                                            const uint32_t *weights, size_t weight_count,
+                                            uint16_t *symbols, size_t symbol_count);
 
 /* Does the same with a row of `width` weights for each symbol. */
 uint32_t constriction_ans_decode_each_u32(uint64_t *head, const uint32_t *words, size_t word_count, size_t *len,
@@ -227,6 +246,17 @@ uint32_t constriction_range_encode_u32(struct constriction_range_encoder_state_u
                                        const uint32_t *weights, size_t weight_count,
                                        const size_t *symbols, size_t symbol_count, size_t *needed);
 
+/* Do the same with symbols of 8 and of 16 bits, and write the same words. They make a list of the symbols as size_t
+   first. */
+uint32_t constriction_range_encode_bytes_u32(struct constriction_range_encoder_state_u32 *encoder,
+                                             uint32_t *words, size_t capacity, size_t *len,
+                                             const uint32_t *weights, size_t weight_count,
+                                             const uint8_t *symbols, size_t symbol_count, size_t *needed);
+uint32_t constriction_range_encode_shorts_u32(struct constriction_range_encoder_state_u32 *encoder,
+                                              uint32_t *words, size_t capacity, size_t *len,
+                                              const uint32_t *weights, size_t weight_count,
+                                              const uint16_t *symbols, size_t symbol_count, size_t *needed);
+
 /* Does the same with a row of `width` weights for each symbol. Also WRONG_LENGTH if weight_count isn't width *
    symbol_count. */
 uint32_t constriction_range_encode_each_u32(struct constriction_range_encoder_state_u32 *encoder,
@@ -265,6 +295,17 @@ uint32_t constriction_range_decode_u32(struct constriction_range_decoder_state_u
                                        const uint32_t *words, size_t word_count,
                                        const uint32_t *weights, size_t weight_count,
                                        size_t *symbols, size_t symbol_count);
+
+/* Do the same with symbols of 8 and of 16 bits. They decode a list of symbols as size_t first. Also WRONG_LENGTH if
+   weight_count is above 256 or 65536: if an index of the weights is no such symbol. */
+uint32_t constriction_range_decode_bytes_u32(struct constriction_range_decoder_state_u32 *decoder,
+                                             const uint32_t *words, size_t word_count,
+                                             const uint32_t *weights, size_t weight_count,
+                                             uint8_t *symbols, size_t symbol_count);
+uint32_t constriction_range_decode_shorts_u32(struct constriction_range_decoder_state_u32 *decoder,
+                                              const uint32_t *words, size_t word_count,
+                                              const uint32_t *weights, size_t weight_count,
+                                              uint16_t *symbols, size_t symbol_count);
 
 /* Does the same with a row of `width` weights for each symbol. */
 uint32_t constriction_range_decode_each_u32(struct constriction_range_decoder_state_u32 *decoder,
@@ -350,6 +391,21 @@ uint32_t constriction_chain_decode_u32(struct constriction_chain_heads_u32 *head
                                        const uint32_t *weights, size_t weight_count,
                                        size_t *symbols, size_t symbol_count, size_t *needed);
 
+/* Do the same with symbols of 8 and of 16 bits. They decode a list of symbols as size_t first. Also WRONG_LENGTH if
+   weight_count is above 256 or 65536: if an index of the weights is no such symbol. */
+uint32_t constriction_chain_decode_bytes_u32(struct constriction_chain_heads_u32 *heads,
+                                             const uint32_t *compressed, size_t compressed_count,
+                                             size_t *compressed_len,
+                                             uint32_t *remainders, size_t capacity, size_t *remainders_len,
+                                             const uint32_t *weights, size_t weight_count,
+                                             uint8_t *symbols, size_t symbol_count, size_t *needed);
+uint32_t constriction_chain_decode_shorts_u32(struct constriction_chain_heads_u32 *heads,
+                                              const uint32_t *compressed, size_t compressed_count,
+                                              size_t *compressed_len,
+                                              uint32_t *remainders, size_t capacity, size_t *remainders_len,
+                                              const uint32_t *weights, size_t weight_count,
+                                              uint16_t *symbols, size_t symbol_count, size_t *needed);
+
 /* Does the same with a row of `width` weights for each symbol. Also WRONG_LENGTH if weight_count isn't width *
    symbol_count. */
 uint32_t constriction_chain_decode_each_u32(struct constriction_chain_heads_u32 *heads,
@@ -364,9 +420,25 @@ uint32_t constriction_chain_decode_each_u32(struct constriction_chain_heads_u32 
    compressed), NO_MEMORY. */
 uint32_t constriction_chain_encode_reverse_u32(struct constriction_chain_heads_u32 *heads,
                                                uint32_t *compressed, size_t capacity, size_t *compressed_len,
-                                               const uint32_t *remainders, size_t remainders_count, size_t *remainders_len,
+                                               const uint32_t *remainders, size_t remainders_count,
+                                               size_t *remainders_len,
                                                const uint32_t *weights, size_t weight_count,
                                                const size_t *symbols, size_t symbol_count, size_t *needed);
+
+/* Do the same with symbols of 8 and of 16 bits, and write the same words. They make a list of the symbols as size_t
+   first. */
+uint32_t constriction_chain_encode_bytes_reverse_u32(struct constriction_chain_heads_u32 *heads,
+                                                     uint32_t *compressed, size_t capacity, size_t *compressed_len,
+                                                     const uint32_t *remainders, size_t remainders_count,
+                                                     size_t *remainders_len,
+                                                     const uint32_t *weights, size_t weight_count,
+                                                     const uint8_t *symbols, size_t symbol_count, size_t *needed);
+uint32_t constriction_chain_encode_shorts_reverse_u32(struct constriction_chain_heads_u32 *heads,
+                                                      uint32_t *compressed, size_t capacity, size_t *compressed_len,
+                                                      const uint32_t *remainders, size_t remainders_count,
+                                                      size_t *remainders_len,
+                                                      const uint32_t *weights, size_t weight_count,
+                                                      const uint16_t *symbols, size_t symbol_count, size_t *needed);
 
 /* Does the same with a row of `width` weights for each symbol. Also WRONG_LENGTH if weight_count isn't width *
    symbol_count. */
@@ -481,6 +553,15 @@ uint32_t constriction_ans_encode_reverse_u16(uint32_t *head, uint16_t *words, si
                                              const uint16_t *weights, size_t weight_count,
                                              const size_t *symbols, size_t symbol_count, size_t *needed);
 
+/* Do the same with symbols of 8 and of 16 bits, and write the same words. They make a list of the symbols as size_t
+   first. */
+uint32_t constriction_ans_encode_bytes_reverse_u16(uint32_t *head, uint16_t *words, size_t capacity, size_t *len,
+                                                   const uint16_t *weights, size_t weight_count,
+                                                   const uint8_t *symbols, size_t symbol_count, size_t *needed);
+uint32_t constriction_ans_encode_shorts_reverse_u16(uint32_t *head, uint16_t *words, size_t capacity, size_t *len,
+                                                    const uint16_t *weights, size_t weight_count,
+                                                    const uint16_t *symbols, size_t symbol_count, size_t *needed);
+
 /* Does the same with a row of `width` weights for each symbol. Also WRONG_LENGTH if weight_count isn't width *
    symbol_count. */
 uint32_t constriction_ans_encode_each_reverse_u16(uint32_t *head, uint16_t *words, size_t capacity, size_t *len,
@@ -499,6 +580,15 @@ uint32_t constriction_ans_encode_intervals_reverse_u16(uint32_t *head, uint16_t 
 uint32_t constriction_ans_decode_u16(uint32_t *head, const uint16_t *words, size_t word_count, size_t *len,
                                      const uint16_t *weights, size_t weight_count,
                                      size_t *symbols, size_t symbol_count);
+
+/* Do the same with symbols of 8 and of 16 bits. They decode a list of symbols as size_t first. Also WRONG_LENGTH if
+   weight_count is above 256 or 65536: if an index of the weights is no such symbol. */
+uint32_t constriction_ans_decode_bytes_u16(uint32_t *head, const uint16_t *words, size_t word_count, size_t *len,
+                                           const uint16_t *weights, size_t weight_count,
+                                           uint8_t *symbols, size_t symbol_count);
+uint32_t constriction_ans_decode_shorts_u16(uint32_t *head, const uint16_t *words, size_t word_count, size_t *len,
+                                            const uint16_t *weights, size_t weight_count,
+                                            uint16_t *symbols, size_t symbol_count);
 
 /* Does the same with a row of `width` weights for each symbol. */
 uint32_t constriction_ans_decode_each_u16(uint32_t *head, const uint16_t *words, size_t word_count, size_t *len,
@@ -553,6 +643,17 @@ uint32_t constriction_range_encode_u16(struct constriction_range_encoder_state_u
                                        const uint16_t *weights, size_t weight_count,
                                        const size_t *symbols, size_t symbol_count, size_t *needed);
 
+/* Do the same with symbols of 8 and of 16 bits, and write the same words. They make a list of the symbols as size_t
+   first. */
+uint32_t constriction_range_encode_bytes_u16(struct constriction_range_encoder_state_u16 *encoder,
+                                             uint16_t *words, size_t capacity, size_t *len,
+                                             const uint16_t *weights, size_t weight_count,
+                                             const uint8_t *symbols, size_t symbol_count, size_t *needed);
+uint32_t constriction_range_encode_shorts_u16(struct constriction_range_encoder_state_u16 *encoder,
+                                              uint16_t *words, size_t capacity, size_t *len,
+                                              const uint16_t *weights, size_t weight_count,
+                                              const uint16_t *symbols, size_t symbol_count, size_t *needed);
+
 /* Does the same with a row of `width` weights for each symbol. Also WRONG_LENGTH if weight_count isn't width *
    symbol_count. */
 uint32_t constriction_range_encode_each_u16(struct constriction_range_encoder_state_u16 *encoder,
@@ -591,6 +692,17 @@ uint32_t constriction_range_decode_u16(struct constriction_range_decoder_state_u
                                        const uint16_t *words, size_t word_count,
                                        const uint16_t *weights, size_t weight_count,
                                        size_t *symbols, size_t symbol_count);
+
+/* Do the same with symbols of 8 and of 16 bits. They decode a list of symbols as size_t first. Also WRONG_LENGTH if
+   weight_count is above 256 or 65536: if an index of the weights is no such symbol. */
+uint32_t constriction_range_decode_bytes_u16(struct constriction_range_decoder_state_u16 *decoder,
+                                             const uint16_t *words, size_t word_count,
+                                             const uint16_t *weights, size_t weight_count,
+                                             uint8_t *symbols, size_t symbol_count);
+uint32_t constriction_range_decode_shorts_u16(struct constriction_range_decoder_state_u16 *decoder,
+                                              const uint16_t *words, size_t word_count,
+                                              const uint16_t *weights, size_t weight_count,
+                                              uint16_t *symbols, size_t symbol_count);
 
 /* Does the same with a row of `width` weights for each symbol. */
 uint32_t constriction_range_decode_each_u16(struct constriction_range_decoder_state_u16 *decoder,
@@ -676,6 +788,21 @@ uint32_t constriction_chain_decode_u16(struct constriction_chain_heads_u16 *head
                                        const uint16_t *weights, size_t weight_count,
                                        size_t *symbols, size_t symbol_count, size_t *needed);
 
+/* Do the same with symbols of 8 and of 16 bits. They decode a list of symbols as size_t first. Also WRONG_LENGTH if
+   weight_count is above 256 or 65536: if an index of the weights is no such symbol. */
+uint32_t constriction_chain_decode_bytes_u16(struct constriction_chain_heads_u16 *heads,
+                                             const uint16_t *compressed, size_t compressed_count,
+                                             size_t *compressed_len,
+                                             uint16_t *remainders, size_t capacity, size_t *remainders_len,
+                                             const uint16_t *weights, size_t weight_count,
+                                             uint8_t *symbols, size_t symbol_count, size_t *needed);
+uint32_t constriction_chain_decode_shorts_u16(struct constriction_chain_heads_u16 *heads,
+                                              const uint16_t *compressed, size_t compressed_count,
+                                              size_t *compressed_len,
+                                              uint16_t *remainders, size_t capacity, size_t *remainders_len,
+                                              const uint16_t *weights, size_t weight_count,
+                                              uint16_t *symbols, size_t symbol_count, size_t *needed);
+
 /* Does the same with a row of `width` weights for each symbol. Also WRONG_LENGTH if weight_count isn't width *
    symbol_count. */
 uint32_t constriction_chain_decode_each_u16(struct constriction_chain_heads_u16 *heads,
@@ -690,9 +817,25 @@ uint32_t constriction_chain_decode_each_u16(struct constriction_chain_heads_u16 
    compressed), NO_MEMORY. */
 uint32_t constriction_chain_encode_reverse_u16(struct constriction_chain_heads_u16 *heads,
                                                uint16_t *compressed, size_t capacity, size_t *compressed_len,
-                                               const uint16_t *remainders, size_t remainders_count, size_t *remainders_len,
+                                               const uint16_t *remainders, size_t remainders_count,
+                                               size_t *remainders_len,
                                                const uint16_t *weights, size_t weight_count,
                                                const size_t *symbols, size_t symbol_count, size_t *needed);
+
+/* Do the same with symbols of 8 and of 16 bits, and write the same words. They make a list of the symbols as size_t
+   first. */
+uint32_t constriction_chain_encode_bytes_reverse_u16(struct constriction_chain_heads_u16 *heads,
+                                                     uint16_t *compressed, size_t capacity, size_t *compressed_len,
+                                                     const uint16_t *remainders, size_t remainders_count,
+                                                     size_t *remainders_len,
+                                                     const uint16_t *weights, size_t weight_count,
+                                                     const uint8_t *symbols, size_t symbol_count, size_t *needed);
+uint32_t constriction_chain_encode_shorts_reverse_u16(struct constriction_chain_heads_u16 *heads,
+                                                      uint16_t *compressed, size_t capacity, size_t *compressed_len,
+                                                      const uint16_t *remainders, size_t remainders_count,
+                                                      size_t *remainders_len,
+                                                      const uint16_t *weights, size_t weight_count,
+                                                      const uint16_t *symbols, size_t symbol_count, size_t *needed);
 
 /* Does the same with a row of `width` weights for each symbol. Also WRONG_LENGTH if weight_count isn't width *
    symbol_count. */

@@ -2,12 +2,12 @@
    and random lists there and back. */
 #include "world.h"
 
-enum { KINDS = 7, MOST = 1048576 };
+enum { KINDS = 7, WEIGHTS = 257, MOST = 1048576 };
 
 /* What a call is given. */
 static struct {
     size_t count;
-    word weights[KINDS], rows[COUNT * KINDS], lefts[COUNT], ps[COUNT], row_lefts[COUNT], row_ps[COUNT], numbers[COUNT];
+    word weights[WEIGHTS], rows[COUNT * KINDS], lefts[COUNT], ps[COUNT], row_lefts[COUNT], row_ps[COUNT], numbers[COUNT];
     uint32_t tree[KINDS];
     size_t symbols[COUNT], kinds;
     size_t weight_count, row_count, p_count;
@@ -210,6 +210,107 @@ static void refuses_symbols(const char *about, call *fixed, call *each, call *pa
     in.p_count++;
     w.len = w.capacity + 1;
     refuses(about, pairs, &w, CONSTRICTION_WRONG_LENGTH);
+}
+
+/* ==== Symbols of 8 and of 16 bits: the calls on lists of them, which come from and go back to those of size_t ==== */
+
+#define NARROW(type, kind, put_ans, take_ans, put_range, take_range, put_chain, take_chain) \
+    static const type *kind##_given(void) { \
+        static type list[COUNT]; \
+        for (size_t i = 0; i < COUNT; i++) list[i] = (type)in.symbols[i]; \
+        return list; \
+    } \
+    static type kind##_taken[COUNT]; \
+    static type *kind##_places(void) { return memset(kind##_taken, 77, sizeof kind##_taken); } \
+    static uint32_t kind##_back(struct world *w, uint32_t result) { \
+        if (!result) for (size_t i = 0; i < in.count; i++) w->symbols[i] = kind##_taken[i]; \
+        for (size_t i = result ? 0 : in.count; i < COUNT; i++) CHECK("places stay", kind##_taken[i] == (type)0x4d4d); \
+        return result; \
+    } \
+    static uint32_t ans_encode_##kind(struct world *w) { \
+        return put_ans(&w->head, BUFFER, TABLE, kind##_given(), in.count, &w->needed); \
+    } \
+    static uint32_t ans_decode_##kind(struct world *w) { \
+        return kind##_back(w, take_ans(&w->head, BUFFER, TABLE, kind##_places(), in.count)); \
+    } \
+    static uint32_t range_encode_##kind(struct world *w) { \
+        return put_range(&w->encoder, BUFFER, TABLE, kind##_given(), in.count, &w->needed); \
+    } \
+    static uint32_t range_decode_##kind(struct world *w) { \
+        return kind##_back(w, take_range(&w->decoder, w->words, w->len, TABLE, kind##_places(), in.count)); \
+    } \
+    static uint32_t chain_encode_##kind(struct world *w) { \
+        return put_chain(&w->heads, BUFFER, OTHER, TABLE, kind##_given(), in.count, &w->needed); \
+    } \
+    static uint32_t chain_decode_##kind(struct world *w) { \
+        return kind##_back(w, take_chain(&w->heads, OTHER, BUFFER, TABLE, kind##_places(), in.count, &w->needed)); \
+    }
+
+NARROW(uint8_t, bytes, C(ans_encode_bytes_reverse), C(ans_decode_bytes), C(range_encode_bytes), C(range_decode_bytes),
+       C(chain_encode_bytes_reverse), C(chain_decode_bytes))
+NARROW(uint16_t, shorts, C(ans_encode_shorts_reverse), C(ans_decode_shorts), C(range_encode_shorts), C(range_decode_shorts),
+       C(chain_encode_shorts_reverse), C(chain_decode_shorts))
+
+/* What a call on narrow symbols shares with that on symbols of size_t, from the same world. */
+static void narrow_encode(const char *about, call *wide, call *narrow, const struct world *start, int keeps) {
+    struct world w = *start;
+    same(about, wide, narrow, start);
+    every_length(about, narrow, start, keeps);
+    refused_memory(about, narrow, start);
+    w.len = w.capacity + 1;
+    refuses_without_memory(about, narrow, &w, CONSTRICTION_WRONG_LENGTH);
+    w = *start;
+    in.weights[0]++;
+    refuses_without_memory(about, narrow, &w, CONSTRICTION_WRONG_WEIGHTS);
+    in.weights[0]--;
+    if (!in.count) return;
+    size_t kept = in.symbols[in.count / 2];
+    in.symbols[in.count / 2] = KINDS;
+    refuses_without_memory(about, narrow, &w, CONSTRICTION_IMPOSSIBLE_SYMBOL);
+    in.symbols[in.count / 2] = kept;
+}
+
+static void narrow_decode(const char *about, call *wide, call *narrow, int bits, const struct world *start) {
+    struct world w = *start;
+    same(about, wide, narrow, start);
+    refused_memory(about, narrow, start);
+    in.weights[0]++;
+    refuses_without_memory(about, narrow, &w, CONSTRICTION_WRONG_WEIGHTS);
+    in.weights[0]--;
+    /* As many weights as a byte has numbers, and one more. */
+    size_t kinds = in.weight_count;
+    in.weight_count = 256;
+    same(about, wide, narrow, start);
+    in.weight_count = 257;
+    if (bits == 8) refuses_without_memory(about, narrow, &w, CONSTRICTION_WRONG_LENGTH);
+    else same(about, wide, narrow, start);
+    in.weight_count = kinds;
+}
+
+static void narrow(size_t count) {
+    call *const wide[] = {ans_encode, range_encode, chain_encode, ans_decode, range_decode, chain_decode};
+    call *const narrow[2][6] = {
+        {ans_encode_bytes, range_encode_bytes, chain_encode_bytes, ans_decode_bytes, range_decode_bytes, chain_decode_bytes},
+        {ans_encode_shorts, range_encode_shorts, chain_encode_shorts, ans_decode_shorts, range_decode_shorts, chain_decode_shorts}};
+    struct world start = fresh(), coded[3];
+    draw(count);
+    for (size_t i = 0; i < 3; i++) coded[i] = start;
+    done("narrow: encode", ans_encode, &coded[0]), done("narrow: encode", range_encode, &coded[1]);
+    done("narrow: export", range_export, &coded[1]), done("narrow: import", range_import, &coded[1]);
+    coded[2].other_len = ROOM;
+    for (size_t i = 0; i < 2; i++) {
+        narrow_encode("narrow: ANS, encode", wide[0], narrow[i][0], &start, BEHIND);
+        narrow_encode("narrow: range, encode", wide[1], narrow[i][1], &start, BEHIND_HELD);
+        for (size_t j = 0; j < 3; j++) narrow_decode("narrow: decode", wide[3 + j], narrow[i][3 + j], i ? 16 : 8, &coded[j]);
+        /* The chain coder encodes what it decoded. */
+        struct world w = coded[2];
+        done("narrow: chain, decode", chain_decode, &w);
+        memcpy(in.symbols, w.symbols, sizeof in.symbols);
+        struct world back = w;
+        memcpy(back.other, w.words, sizeof back.other), back.other_len = w.len;
+        memcpy(back.words, w.other, sizeof back.words), back.len = w.other_len;
+        narrow_encode("narrow: chain, encode", wide[2], narrow[i][2], &back, BEHIND);
+    }
 }
 
 /* ==== The coders ==== */
@@ -723,7 +824,7 @@ static void codewords_at(size_t count) {
 int main(void) {
     for (int round = 0; round < 20; round++) {
         size_t count = round < 3 ? (size_t)round : 1 + random_below(COUNT);
-        ans(count), range(count), store(count), chain(count), codewords(count), codewords_at(count);
+        ans(count), range(count), store(count), chain(count), codewords(count), codewords_at(count), narrow(count);
     }
     great_held(), most_symbols(), nulls(), texts();
     for (size_t i = 1; i < RESULTS; i++) CHECK("each result was seen", seen[i] > 0);

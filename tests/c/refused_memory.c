@@ -97,6 +97,9 @@ static void refused_ans(const struct world *start) {
     struct world w = after("ans_encode_reverse", ANS_ENCODE, start);
     w = after("ans_decode", ans_decode, &w);
     CHECK("ANS: there and back", same_symbols(&w) && w.len == start->len && w.head == start->head);
+    w = after("ans_encode_bytes_reverse", ans_encode_bytes, start);
+    tries("ans_decode_bytes", ans_decode_bytes, &w), tries("ans_decode_shorts", ans_decode_shorts, &w);
+    tries("ans_encode_shorts_reverse", ans_encode_shorts, start);
     w = after("ans_encode_each_reverse", ans_encode_each, start);
     after("ans_decode_each", ans_decode_each, &w);
     tries("ans_encode_intervals_reverse", ans_encode_pairs, start);
@@ -110,6 +113,7 @@ static void refused_ans(const struct world *start) {
 static void refused_range(const struct world *start) {
     struct world first = after("range_encode", range_encode, start);
     struct world w = after("range_encode_each", range_encode_each, &first);
+    tries("range_encode_bytes", range_encode_bytes, start), tries("range_encode_shorts", range_encode_shorts, start);
     tries("range_encode_intervals", range_encode_pairs, start);
     tries("range_encode_intervals", range_encode_row_pairs, start);
     tries("range_into_self_delimited", range_followed, &w);
@@ -117,6 +121,7 @@ static void refused_range(const struct world *start) {
     w = after("range_from_compressed", range_import, &w);
     tries("range_seek", range_to, &w);
     tries("range_maybe_exhausted", range_maybe, &w);
+    tries("range_decode_bytes", range_decode_bytes, &w), tries("range_decode_shorts", range_decode_shorts, &w);
     w = after("range_decode", range_decode, &w);
     CHECK("range: there and back", same_symbols(&w));
     w = after("range_decode_each", range_decode_each, &w);
@@ -151,6 +156,9 @@ static void refused_chain(const struct world *start) {
     struct world w = after("chain_decode", chain_decode, start), back = turned(&w);
     take_over(&w);
     tries("chain_encode_reverse", chain_encode, &back);
+    tries("chain_encode_bytes_reverse", chain_encode_bytes, &back);
+    tries("chain_encode_shorts_reverse", chain_encode_shorts, &back);
+    tries("chain_decode_bytes", chain_decode_bytes, start), tries("chain_decode_shorts", chain_decode_shorts, start);
     tries("chain_encode_intervals_reverse", chain_encode_pairs, &back);
     tries("chain_into_remainders", chain_export_remainders, &w);
     w = after("chain_decode_each", chain_decode_each, start), back = turned(&w);

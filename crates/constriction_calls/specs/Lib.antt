@@ -2,6 +2,7 @@ pub mod AnsCalls
 pub mod ChainCalls
 pub mod ChainFits
 pub mod ChainWords
+pub mod NarrowSymbols
 pub mod RangeCalls
 pub mod StoreCalls
 pub mod SymbolBits

@@ -11,8 +11,8 @@
 //!
 //! A call that fails changes nothing. It returns the first of these errors that applies:
 //!
-//! - `WrongLength`: `len` is past the buffer's end, the arguments of the models don't match the number of symbols, or
-//!   the lengths of `lefts` and `ps` differ.
+//! - `WrongLength`: `len` is past the buffer's end, the arguments of the models don't match the number of symbols, the
+//!   lengths of `lefts` and `ps` differ, or an index of the weights doesn't fit the type of the decoded symbols.
 //! - `WrongInterval`: an interval is empty or ends past `2 ^ PRECISION`, or a family's range has fewer than two symbols
 //!   or more than `2 ^ PRECISION` symbols.
 //! - `WrongWeights`: the caller's weights or distributions make no models. The variant

@@ -10,8 +10,8 @@
 //! A call that fails changes nothing. It returns the first of these errors whose condition holds. No contract states
 //! when there is no memory.
 //!
-//! - `WrongLength`: a number of words in use is past its buffer's end, or the arguments of the models don't match the
-//!   number of symbols.
+//! - `WrongLength`: a number of words in use is past its buffer's end, the arguments of the models don't match the
+//!   number of symbols, or an index of the weights doesn't fit the type of the decoded symbols.
 //! - `WrongInterval`, `WrongWeights`: the arguments make no models. [`constriction_inputs::models`] describes these
 //!   cases.
 //! - `InvalidData`: no coder has these heads.
@@ -24,8 +24,8 @@ mod decoding;
 mod encoding;
 mod words;
 
-pub use decoding::{decode, decode_by_weights};
-pub use encoding::{encode_intervals_reverse, encode_reverse};
+pub use decoding::{decode, decode_by_weights, decode_narrow};
+pub use encoding::{encode_intervals_reverse, encode_narrow_reverse, encode_reverse};
 pub use words::{
     from_binary, from_compressed, from_remainders, into_binary, into_compressed, into_remainders,
 };

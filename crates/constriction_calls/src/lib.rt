@@ -13,6 +13,7 @@
 
 pub mod ans;
 pub mod chain;
+mod narrow;
 pub mod range;
 pub mod store;
 pub mod symbol;

@@ -13,7 +13,8 @@
 //!
 //! A call that fails changes nothing. Each call first checks for these errors, in this order:
 //!
-//! - `WrongLength` exactly if `len`, or the decoder's position, is past the buffer's end.
+//! - `WrongLength` exactly if `len`, or the decoder's position, is past the buffer's end, or if an index of
+//!   the weights doesn't fit the type of the decoded symbols.
 //! - `WrongLength`, `WrongInterval` or `WrongWeights` exactly if the call takes models, and
 //!   [`constriction_inputs::models::Models::check`] returns the error.
 //! - `InvalidData` exactly if no encoder or decoder has the numbers that the caller passes for it, or if the number of

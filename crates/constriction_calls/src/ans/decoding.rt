@@ -1,11 +1,13 @@
 //! Decoding symbols from a state that the caller keeps. The calls read words, and write none.
 
-ghost use Rattle.std.specs.Prelude.{◌≡◌, ◌≤◌, length, map};
+ghost use Rattle.std.specs.Prelude.{◌≡◌, ◌≤◌, ◌^◌, length, map};
 ghost use Rattle.constriction_base.specs.Models.{pairs_of};
 ghost use Rattle.constriction_base.specs.Steps.{IsSizes};
-ghost use Rattle.constriction_calls.specs.AnsCalls.{AnsTakesBy, AnsTakesByWeights, coder_of, state_kept};
+ghost use Rattle.constriction_calls.specs.AnsCalls.{AnsTakes, AnsTakesBy, AnsTakesByWeights, coder_of, state_kept};
+ghost use Rattle.constriction_calls.specs.NarrowSymbols.{narrow_by_weights};
 ghost use Rattle.constriction_stack.specs.Symbols.{Decodes, DecodesAll};
 
+use crate::narrow::{has_numbers, narrow_into};
 use constriction_base::cursor::Cursor;
 use constriction_base::errors::CoderError;
 use constriction_base::model::{DecoderModel, EntropyModel};
@@ -90,6 +92,51 @@ pub fn decode_by_weights<
     }
     let table = Weights { weights };
     decode::<Word, State, P, _, PRECISION>(alloc, head, words, len, &table, symbols)
+}
+
+/// Fills `symbols` with decoded symbols of a narrow type, with one table of weights for all symbols.
+///
+/// The call first decodes a list of their numbers. It changes `head` and `len` as [`decode`] does.
+///
+/// # Errors
+///
+/// The errors of [`decode_by_weights`]. The call also returns `WrongLength` if an index of `weights` doesn't fit `S`.
+pub fn decode_narrow<
+    Word: WordOf<State>,
+    State: BitArray,
+    P: WordOf<Word>,
+    S: WordOf<usize>,
+    const PRECISION: usize,
+>(
+    alloc: Global,
+    head: &mut State,
+    words: &[Word],
+    len: &mut usize,
+    weights: &[P],
+    symbols: &mut [S],
+) -> Result<(), Refusal>
+    requires sizes { IsSizes Word.BITS State.BITS }
+    requires precision { (1 ≤ PRECISION) × (PRECISION ≤ P.BITS) }
+    ensures call { AnsTakes Word.number State.number Word.BITS State.BITS PRECISION
+        (narrow_by_weights (2 ^ S.BITS) (map P.number weights.now))
+        (coder_of head.old words.now len.old) (coder_of head.new words.now len.new)
+        (map S.number symbols.old) (map S.number symbols.new) result }
+{
+    if *len > words.len() || !has_numbers::<S>(weights.len()) {
+        return Err(Refusal::WrongLength);
+    }
+    Models::<P, PRECISION>::check(&Weights { weights }, &[])?;
+    let Ok(mut numbers) = vec![in alloc; 0usize; symbols.len()] else {
+        return Err(Refusal::NoMemory);
+    };
+    let wide = numbers.as_mut_slice();
+    match decode_by_weights::<_, _, P, PRECISION>(alloc, head, words, len, weights, wide) {
+        Ok(()) => {
+            narrow_into(wide, symbols);
+            Ok(())
+        }
+        Err(refusal) => Err(refusal),
+    }
 }
 
 /// Fills `symbols` with symbols decoded under a list of models. Returns the new head and the number of words left.

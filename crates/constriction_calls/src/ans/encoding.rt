@@ -5,13 +5,15 @@
 ghost use Rattle.std.specs.Prelude.{◌≡◌, ◌≤◌, [], length, map, reverse, IfSome};
 ghost use Rattle.constriction_base.specs.Models.{AreModels, pairs_of};
 ghost use Rattle.constriction_base.specs.Steps.{IsSizes};
-ghost use Rattle.constriction_calls.specs.AnsCalls.{AnsPutsBy, AnsPutsIntervals};
+ghost use Rattle.constriction_calls.specs.AnsCalls.{AnsPuts, AnsPutsBy, AnsPutsIntervals, coder_of};
+ghost use Rattle.constriction_inputs.specs.Weights.{by_weights};
 ghost use Rattle.constriction_stack.specs.Symbols.{EncodesAll};
 
+use crate::narrow::{are_known, widened};
 use constriction_base::model::{EncoderModel, EntropyModel};
 use constriction_inputs::buffers::append;
 use constriction_inputs::intervals::{row_of_one, rows_by_intervals};
-use constriction_inputs::models::{ModelList, Models, Rows};
+use constriction_inputs::models::{ModelList, Models, Rows, Weights};
 use constriction_inputs::refusal::Refusal;
 use constriction_inputs::rows::Row;
 use constriction_stack::coder::AnsCoder;
@@ -62,6 +64,48 @@ pub fn encode_reverse<
         };
     }
     if models.know(symbols) {
+        Err(Refusal::NoMemory)
+    } else {
+        Err(Refusal::ImpossibleSymbol)
+    }
+}
+
+/// Encodes symbols of a narrow type from the last to the first, with one table of weights for all symbols.
+///
+/// The call first makes a list of their numbers. It changes `head`, `words` and `len` as [`encode_reverse`] does.
+///
+/// # Errors
+///
+/// The errors of [`encode_reverse`] except `WrongInterval`.
+pub fn encode_narrow_reverse<
+    Word: WordOf<State>,
+    State: BitArray,
+    P: WordOf<Word>,
+    S: WordOf<usize>,
+    const PRECISION: usize,
+>(
+    alloc: Global,
+    head: &mut State,
+    words: &mut [Word],
+    len: &mut usize,
+    weights: &[P],
+    symbols: &[S],
+) -> Result<(), Refusal>
+    requires sizes { IsSizes Word.BITS State.BITS }
+    requires precision { (1 ≤ PRECISION) × (PRECISION ≤ P.BITS) }
+    ensures call { AnsPuts Word.number State.number Word.BITS State.BITS PRECISION
+        (by_weights (map P.number weights.now) (map S.number symbols.now))
+        (coder_of head.old words.old len.old) (coder_of head.new words.new len.new) result }
+{
+    let table = Weights { weights };
+    if let Some(wide) = widened(alloc, symbols) {
+        return encode_reverse::<_, _, P, _, PRECISION>(alloc, head, words, len, &table, &wide);
+    }
+    if *len > words.len() {
+        return Err(Refusal::WrongLength);
+    }
+    Models::<P, PRECISION>::check(&table, &[])?;
+    if are_known::<P, S, PRECISION>(weights, symbols) {
         Err(Refusal::NoMemory)
     } else {
         Err(Refusal::ImpossibleSymbol)
@@ -139,8 +183,54 @@ fn intervals_by_rows<Word: WordOf<State>, State: BitArray, P: WordOf<Word>, cons
 /// Encodes symbols from the last to the first onto a state of `head` alone. Returns the new words and the new head.
 ///
 /// Returns `None` if a model has no entry for its symbol, or if there is no memory.
-#[inline(never)]
+#[inline]
 fn coded<
+    Word: WordOf<State>,
+    State: BitArray,
+    P: WordOf<Word>,
+    L: ModelList<P, PRECISION>,
+    const PRECISION: usize,
+>(alloc: Global, head: State, models: &mut L, symbols: &[usize]) -> Option<(Vec<Word>, State)>
+    requires sizes { IsSizes Word.BITS State.BITS }
+    requires count { length symbols.now ≡ length (L.tables models.now) }
+    ensures models { IfSome result (λ made. AreModels Word.BITS
+        (pairs_of PRECISION (λ table. table) symbols.now (L.tables models.old))) }
+    ensures coded { IfSome result (λ made. EncodesAll Word.BITS State.BITS
+        (reverse (pairs_of PRECISION (λ table. table) symbols.now (L.tables models.old)))
+        record { head = State.number head; words = [] }
+        record { head = State.number made.1; words = map Word.number (reverse made.0.items) }) }
+{
+    if symbols.len() == 1 {
+        coded_in_line(alloc, head, models, symbols)
+    } else {
+        coded_list(alloc, head, models, symbols)
+    }
+}
+
+/// Encodes as [`coded`] does. The loop is out of line, so that it keeps the coder in registers.
+#[inline(never)]
+fn coded_list<
+    Word: WordOf<State>,
+    State: BitArray,
+    P: WordOf<Word>,
+    L: ModelList<P, PRECISION>,
+    const PRECISION: usize,
+>(alloc: Global, head: State, models: &mut L, symbols: &[usize]) -> Option<(Vec<Word>, State)>
+    requires sizes { IsSizes Word.BITS State.BITS }
+    requires count { length symbols.now ≡ length (L.tables models.now) }
+    ensures models { IfSome result (λ made. AreModels Word.BITS
+        (pairs_of PRECISION (λ table. table) symbols.now (L.tables models.old))) }
+    ensures coded { IfSome result (λ made. EncodesAll Word.BITS State.BITS
+        (reverse (pairs_of PRECISION (λ table. table) symbols.now (L.tables models.old)))
+        record { head = State.number head; words = [] }
+        record { head = State.number made.1; words = map Word.number (reverse made.0.items) }) }
+{
+    coded_in_line(alloc, head, models, symbols)
+}
+
+/// Encodes as [`coded`] does, in line.
+#[inline]
+fn coded_in_line<
     Word: WordOf<State>,
     State: BitArray,
     P: WordOf<Word>,

@@ -1,16 +1,18 @@
 //! Decoding symbols from compressed words.
 
-ghost use Rattle.std.specs.Prelude.{◌≡◌, ◌⊎◌, ◌+◌, ◌<◌, ◌≤◌, List, length, map, reverse, IfErr, IfOk, OnErr, OnOk};
+ghost use Rattle.std.specs.Prelude.{◌≡◌, ◌⊎◌, ◌+◌, ◌<◌, ◌≤◌, ◌^◌, List, length, map, reverse, IfErr, IfOk, OnErr, OnOk};
 ghost use Rattle.constriction_base.specs.Models.{pairs_of};
 ghost use Rattle.constriction_chain.specs.Chain.{IsSized};
 ghost use Rattle.constriction_chain.specs.Symbols.{TakesOffAll};
 ghost use Rattle.constriction_inputs.specs.Buffers.{Appended};
 ghost use Rattle.constriction_calls.specs.ChainCalls.{AreHeadsOf, ChainTakesBy, ChainTakesByWeights, LacksCompressed, keeps};
 ghost use Rattle.constriction_calls.specs.ChainFits.{CoderFits};
+ghost use Rattle.constriction_calls.specs.NarrowSymbols.{narrow_by_weights};
 ghost use Rattle.constriction_inputs.specs.Coded.{AreFit, items};
 ghost use Rattle.constriction_inputs.specs.declared.refusal.Refusal.TheVariants as refusals;
 
 use crate::chain::ChainHeads;
+use crate::narrow::{has_numbers, narrow_into};
 use constriction_base::backends::{Holds, ReadWords, Stack, WriteWords};
 use constriction_base::cursor::Cursor;
 use constriction_base::errors::CoderError;
@@ -146,6 +148,74 @@ pub fn decode_by_weights<
         &table,
         symbols,
     )
+}
+
+/// Fills `symbols` with decoded symbols of a narrow type, with one table of weights for all symbols.
+///
+/// The call first decodes a list of their numbers. It changes the coder as [`decode`] does.
+///
+/// # Errors
+///
+/// The errors of [`decode_by_weights`]. The call also returns `WrongLength` if an index of `weights` doesn't fit `S`.
+pub fn decode_narrow<
+    Word: WordOf<State>,
+    State: BitArray,
+    P: WordOf<Word>,
+    S: WordOf<usize>,
+    const PRECISION: usize,
+>(
+    alloc: Global,
+    heads: &mut ChainHeads<Word, State>,
+    compressed: &[Word],
+    compressed_len: &mut usize,
+    remainders: &mut [Word],
+    remainders_len: &mut usize,
+    weights: &[P],
+    symbols: &mut [S],
+) -> Result<(), Refusal>
+    requires sized { IsSized Word.BITS State.BITS PRECISION }
+    requires within { PRECISION ≤ P.BITS }
+    requires fits { CoderFits Word.row State.row }
+    ensures call { ChainTakes Word.number State.number Word.BITS State.BITS PRECISION
+        (narrow_by_weights (2 ^ S.BITS) (map P.number weights.now))
+        (keeps heads.old compressed.now compressed_len.old remainders.old remainders_len.old)
+        (keeps heads.new compressed.now compressed_len.new remainders.new remainders_len.new)
+        (map S.number symbols.old) (map S.number symbols.new) result }
+{
+    if *compressed_len > compressed.len() || *remainders_len > remainders.len() {
+        return Err(Refusal::WrongLength);
+    }
+    if !has_numbers::<S>(weights.len()) {
+        return Err(Refusal::WrongLength);
+    }
+    Models::<P, PRECISION>::check(&Weights { weights }, &[])?;
+    if ChainCoderHeads::<Word, State, PRECISION>::new(
+        heads.compressed,
+        heads.remainders,
+    ).is_none()
+    {
+        return Err(Refusal::InvalidData);
+    }
+    let Ok(mut numbers) = vec![in alloc; 0usize; symbols.len()] else {
+        return Err(Refusal::NoMemory);
+    };
+    let wide = numbers.as_mut_slice();
+    match decode_by_weights::<Word, State, P, PRECISION>(
+        alloc,
+        heads,
+        compressed,
+        compressed_len,
+        remainders,
+        remainders_len,
+        weights,
+        wide,
+    ) {
+        Ok(()) => {
+            narrow_into(wide, symbols);
+            Ok(())
+        }
+        Err(refusal) => Err(refusal),
+    }
 }
 
 /// Decodes `places.len()` symbols, each under its own model.

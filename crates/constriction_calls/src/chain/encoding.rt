@@ -8,17 +8,19 @@ ghost use Rattle.constriction_inputs.specs.Buffers.{Appended};
 ghost use Rattle.constriction_calls.specs.ChainCalls.{AreHeadsOf, ChainPutsBy, ChainPutsIntervals, LacksRemainders, keeps};
 ghost use Rattle.constriction_calls.specs.ChainFits.{CoderFits};
 ghost use Rattle.constriction_inputs.specs.Coded.{AreFit, items};
+ghost use Rattle.constriction_inputs.specs.Weights.{by_weights};
 ghost use Rattle.constriction_inputs.specs.Refusals.{Asks, Else};
 ghost use Rattle.constriction_inputs.specs.declared.refusal.Refusal.TheVariants as refusals;
 
 use crate::chain::ChainHeads;
+use crate::narrow::{are_known, widened};
 use constriction_base::cursor::Cursor;
 use constriction_base::errors::CoderError;
 use constriction_base::model::{EncoderModel, EntropyModel};
 use constriction_chain::{ChainCoder, ChainCoderHeads, EncoderFrontendError};
 use constriction_inputs::buffers::append;
 use constriction_inputs::intervals::{row_of_one, rows_by_intervals};
-use constriction_inputs::models::{ModelList, Models, Rows};
+use constriction_inputs::models::{ModelList, Models, Rows, Weights};
 use constriction_inputs::refusal::Refusal;
 use constriction_inputs::rows::Row;
 use constriction_stream::encoding::Encode;
@@ -135,6 +137,61 @@ fn encode_within<
     match end_putting(coder, heads, compressed, compressed_len, remainders_len) {
         Ok(()) => Ok(()),
         Err(error) => Err(error),
+    }
+}
+
+/// Encodes symbols of a narrow type from the last to the first, with one table of weights for all symbols.
+///
+/// The call first makes a list of their numbers. It changes the coder as [`encode_reverse`] does.
+///
+/// # Errors
+///
+/// The errors of [`crate::chain`] except `WrongInterval`.
+pub fn encode_narrow_reverse<
+    Word: WordOf<State>,
+    State: BitArray,
+    P: WordOf<Word>,
+    S: WordOf<usize>,
+    const PRECISION: usize,
+>(
+    alloc: Global,
+    heads: &mut ChainHeads<Word, State>,
+    compressed: &mut [Word],
+    compressed_len: &mut usize,
+    remainders: &[Word],
+    remainders_len: &mut usize,
+    weights: &[P],
+    symbols: &[S],
+) -> Result<(), Refusal>
+    requires sized { IsSized Word.BITS State.BITS PRECISION }
+    requires within { PRECISION ≤ P.BITS }
+    requires fits { CoderFits Word.row State.row }
+    ensures call { ChainPuts Word.number State.number Word.BITS State.BITS PRECISION
+        (by_weights (map P.number weights.now) (map S.number symbols.now))
+        (keeps heads.old compressed.old compressed_len.old remainders.now remainders_len.old)
+        (keeps heads.new compressed.new compressed_len.new remainders.now remainders_len.new) result }
+{
+    let table = Weights { weights };
+    if let Some(wide) = widened(alloc, symbols) {
+        return encode_reverse::<Word, State, P, _, PRECISION>(
+            alloc,
+            heads,
+            compressed,
+            compressed_len,
+            remainders,
+            remainders_len,
+            &table,
+            &wide,
+        );
+    }
+    if *compressed_len > compressed.len() || *remainders_len > remainders.len() {
+        return Err(Refusal::WrongLength);
+    }
+    Models::<P, PRECISION>::check(&table, &[])?;
+    match ChainCoderHeads::<Word, State, PRECISION>::new(heads.compressed, heads.remainders) {
+        None => Err(Refusal::InvalidData),
+        Some(_) if are_known::<P, S, PRECISION>(weights, symbols) => Err(Refusal::NoMemory),
+        Some(_) => Err(Refusal::ImpossibleSymbol),
     }
 }
 
@@ -308,8 +365,64 @@ fn put_by<
 /// # Errors
 ///
 /// The errors of [`put_by`].
-#[inline(never)]
+#[inline]
 fn put_symbols<
+    'a,
+    Word: WordOf<State>,
+    State: BitArray,
+    P: WordOf<Word>,
+    L: ModelList<P, PRECISION>,
+    const PRECISION: usize,
+>(
+    coder: &mut Putting<'a, Word, State, PRECISION>,
+    models: &mut L,
+    symbols: &[usize],
+) -> Result<(), Refusal>
+    requires { length (L.tables models.now) ≡ length symbols.now }
+    ensures ok { OnOk result (PutsBackAll Word.BITS State.BITS
+        (reverse (pairs_of PRECISION (λ table. table) symbols.now (L.tables models.old)))
+        coder.old.state coder.new.state) }
+    ensures err { IfErr result (λ e. (e ≡ refusals.NoMemory) ⊎ ((e ≡ refusals.ImpossibleSymbol)
+        × (AreKnown (pairs_of PRECISION (λ table. table) symbols.now (L.tables models.old)) → ⊥))
+        ⊎ ((e ≡ refusals.OutOfData) × LacksRemainders Word.BITS State.BITS
+        (reverse (pairs_of PRECISION (λ table. table) symbols.now (L.tables models.old))) coder.old.state)) }
+{
+    if symbols.len() == 1 {
+        put_in_line(coder, models, symbols)
+    } else {
+        put_many(coder, models, symbols)
+    }
+}
+
+/// Encodes as [`put_symbols`] does. The loop is out of line, so that it keeps the coder's heads in registers.
+#[inline(never)]
+fn put_many<
+    'a,
+    Word: WordOf<State>,
+    State: BitArray,
+    P: WordOf<Word>,
+    L: ModelList<P, PRECISION>,
+    const PRECISION: usize,
+>(
+    coder: &mut Putting<'a, Word, State, PRECISION>,
+    models: &mut L,
+    symbols: &[usize],
+) -> Result<(), Refusal>
+    requires { length (L.tables models.now) ≡ length symbols.now }
+    ensures ok { OnOk result (PutsBackAll Word.BITS State.BITS
+        (reverse (pairs_of PRECISION (λ table. table) symbols.now (L.tables models.old)))
+        coder.old.state coder.new.state) }
+    ensures err { IfErr result (λ e. (e ≡ refusals.NoMemory) ⊎ ((e ≡ refusals.ImpossibleSymbol)
+        × (AreKnown (pairs_of PRECISION (λ table. table) symbols.now (L.tables models.old)) → ⊥))
+        ⊎ ((e ≡ refusals.OutOfData) × LacksRemainders Word.BITS State.BITS
+        (reverse (pairs_of PRECISION (λ table. table) symbols.now (L.tables models.old))) coder.old.state)) }
+{
+    put_in_line(coder, models, symbols)
+}
+
+/// Encodes as [`put_symbols`] does, in line.
+#[inline]
+fn put_in_line<
     'a,
     Word: WordOf<State>,
     State: BitArray,

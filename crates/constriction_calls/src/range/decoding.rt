@@ -1,14 +1,16 @@
 //! Decoding symbols from the words of a caller's buffer.
 
-ghost use Rattle.std.specs.Prelude.{◌≡◌, ◌≤◌, ℕ, List, length, map, IfErr, IfOk};
+ghost use Rattle.std.specs.Prelude.{◌≡◌, ◌≤◌, ◌^◌, ℕ, List, length, map, IfErr, IfOk};
 ghost use Rattle.constriction_base.specs.Models.{pairs_of};
 ghost use Rattle.constriction_base.specs.Steps.{IsSizes};
 ghost use Rattle.constriction_queue.specs.Decoder.{StandsAt};
 ghost use Rattle.constriction_queue.specs.Range.{Run};
 ghost use Rattle.constriction_queue.specs.Symbols.{FindsAll};
 ghost use Rattle.constriction_calls.specs.RangeCalls.{RangeTakes, RangeTakesByWeights};
+ghost use Rattle.constriction_calls.specs.NarrowSymbols.{narrow_by_weights};
 ghost use Rattle.constriction_inputs.specs.Refusals.{Words};
 
+use crate::narrow::{has_numbers, narrow_into};
 use crate::range::parts::{DecoderParts, Reading, decoder_of, decoder_parts};
 use constriction_inputs::models::{ModelList, Models, Weights};
 use constriction_inputs::refusal::Refusal;
@@ -149,4 +151,50 @@ pub fn decode_by_weights<
     }
     let table = Weights { weights };
     decode::<Word, State, P, _, PRECISION>(alloc, decoder, words, &table, symbols)
+}
+
+/// Fills `symbols` with decoded symbols of a narrow type, with one table of weights for all symbols.
+///
+/// The call first decodes a list of their numbers. It changes `decoder` as [`decode`] does.
+///
+/// # Errors
+///
+/// The errors of [`decode_by_weights`]. The call also returns `WrongLength` if an index of `weights` doesn't fit `S`.
+pub fn decode_narrow<
+    Word: WordOf<State>,
+    State: BitArray,
+    P: WordOf<Word>,
+    S: WordOf<usize>,
+    const PRECISION: usize,
+>(
+    alloc: Global,
+    decoder: &mut DecoderParts<State>,
+    words: &[Word],
+    weights: &[P],
+    symbols: &mut [S],
+) -> Result<(), Refusal>
+    requires sizes { IsSizes Word.BITS State.BITS }
+    requires precision { (1 ≤ PRECISION) × (PRECISION ≤ P.BITS) }
+    ensures call { RangeTakes State.number Word.BITS State.BITS PRECISION
+        (narrow_by_weights (2 ^ S.BITS) (map P.number weights.now)) (map Word.number words.now) decoder.old decoder.new
+        (map S.number symbols.old) (map S.number symbols.new) result }
+{
+    if decoder.pos > words.len() || !has_numbers::<S>(weights.len()) {
+        return Err(Refusal::WrongLength);
+    }
+    Models::<P, PRECISION>::check(&Weights { weights }, &[])?;
+    if decoder_of(words, *decoder).is_none() {
+        return Err(Refusal::InvalidData);
+    }
+    let Ok(mut numbers) = vec![in alloc; 0usize; symbols.len()] else {
+        return Err(Refusal::NoMemory);
+    };
+    let wide = numbers.as_mut_slice();
+    match decode_by_weights::<_, _, P, PRECISION>(alloc, decoder, words, weights, wide) {
+        Ok(()) => {
+            narrow_into(wide, symbols);
+            Ok(())
+        }
+        Err(refusal) => Err(refusal),
+    }
 }

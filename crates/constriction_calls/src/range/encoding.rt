@@ -6,12 +6,14 @@ ghost use Rattle.constriction_base.specs.Steps.{IsSizes};
 ghost use Rattle.constriction_queue.specs.Encoder.{left_to_encode, run_by};
 ghost use Rattle.constriction_queue.specs.Symbols.{NarrowsAll};
 ghost use Rattle.constriction_inputs.specs.Coded.{AreFit, items};
-ghost use Rattle.constriction_calls.specs.RangeCalls.{IsEncoderKept, RangePutsBy, RangePutsIntervals, run_kept};
+ghost use Rattle.constriction_calls.specs.RangeCalls.{IsEncoderKept, RangePuts, RangePutsBy, RangePutsIntervals, kept_in, run_kept};
+ghost use Rattle.constriction_inputs.specs.Weights.{by_weights};
 
+use crate::narrow::{are_known, widened};
 use crate::range::parts::{EncoderParts, encoder_for, parts_of};
 use constriction_inputs::buffers::append;
 use constriction_inputs::intervals::{row_of_one, rows_by_intervals};
-use constriction_inputs::models::{ModelList, Models, Rows};
+use constriction_inputs::models::{ModelList, Models, Rows, Weights};
 use constriction_inputs::refusal::Refusal;
 use constriction_inputs::rows::Row;
 use constriction_queue::RangeEncoder;
@@ -22,8 +24,58 @@ use std::alloc::Global;
 /// Encodes symbols in order, each under its own model of `list`. Returns the words written and the encoder's numbers.
 ///
 /// Returns `None` if a model has no entry for its symbol, or if there is no memory.
-#[inline(never)]
+#[inline]
 fn put_list<
+    Word: WordOf<State>,
+    State: BitArray,
+    P: WordOf<Word>,
+    L: ModelList<P, PRECISION>,
+    const PRECISION: usize,
+>(
+    encoder: RangeEncoder<Word, State, Vec<Word>>,
+    list: &mut L,
+    symbols: &[usize],
+) -> Option<(Vec<Word>, EncoderParts<Word, State>)>
+    requires counted { length symbols.now ≡ length (L.tables list.now) }
+    requires left { length symbols.now ≤ left_to_encode encoder }
+    ensures coder { IfSome result (λ made. IsEncoderKept Word.number State.number Word.BITS State.BITS made.1) }
+    ensures narrowed { IfSome result (λ made. NarrowsAll Word.BITS State.BITS
+        (pairs_of PRECISION (λ table. table) symbols.now (L.tables list.old)) (run_by Word.BITS State.BITS encoder)
+        (run_kept Word.number State.number Word.BITS State.BITS made.1 made.0.items)) }
+{
+    if symbols.len() == 1 {
+        put_in_line::<Word, State, P, L, PRECISION>(encoder, list, symbols)
+    } else {
+        put_many::<Word, State, P, L, PRECISION>(encoder, list, symbols)
+    }
+}
+
+/// Encodes as [`put_list`] does. The loop is out of line, so that it keeps the encoder in registers.
+#[inline(never)]
+fn put_many<
+    Word: WordOf<State>,
+    State: BitArray,
+    P: WordOf<Word>,
+    L: ModelList<P, PRECISION>,
+    const PRECISION: usize,
+>(
+    encoder: RangeEncoder<Word, State, Vec<Word>>,
+    list: &mut L,
+    symbols: &[usize],
+) -> Option<(Vec<Word>, EncoderParts<Word, State>)>
+    requires counted { length symbols.now ≡ length (L.tables list.now) }
+    requires left { length symbols.now ≤ left_to_encode encoder }
+    ensures coder { IfSome result (λ made. IsEncoderKept Word.number State.number Word.BITS State.BITS made.1) }
+    ensures narrowed { IfSome result (λ made. NarrowsAll Word.BITS State.BITS
+        (pairs_of PRECISION (λ table. table) symbols.now (L.tables list.old)) (run_by Word.BITS State.BITS encoder)
+        (run_kept Word.number State.number Word.BITS State.BITS made.1 made.0.items)) }
+{
+    put_in_line::<Word, State, P, L, PRECISION>(encoder, list, symbols)
+}
+
+/// Encodes as [`put_list`] does, in line.
+#[inline]
+fn put_in_line<
     Word: WordOf<State>,
     State: BitArray,
     P: WordOf<Word>,
@@ -148,6 +200,53 @@ pub fn encode<
     } else {
         Err(Refusal::NoSpace(len.saturating_add(held)))
     }
+}
+
+/// Encodes symbols of a narrow type in order, with one table of weights for all symbols.
+///
+/// The call first makes a list of their numbers. It changes `encoder`, `buffer` and `len` as [`encode`] does.
+///
+/// # Errors
+///
+/// The errors of [`encode`] except `WrongInterval`.
+pub fn encode_narrow<
+    Word: WordOf<State>,
+    State: BitArray,
+    P: WordOf<Word>,
+    S: WordOf<usize>,
+    const PRECISION: usize,
+>(
+    alloc: Global,
+    encoder: &mut EncoderParts<Word, State>,
+    buffer: &mut [Word],
+    len: &mut usize,
+    weights: &[P],
+    symbols: &[S],
+) -> Result<(), Refusal>
+    requires sizes { IsSizes Word.BITS State.BITS }
+    requires precision { (1 ≤ PRECISION) × (PRECISION ≤ P.BITS) }
+    ensures call { RangePuts Word.number State.number Word.BITS State.BITS PRECISION
+        (by_weights (map P.number weights.now)) (map S.number symbols.now)
+        (kept_in encoder.old buffer.old len.old) (kept_in encoder.new buffer.new len.new) result }
+{
+    let table = Weights { weights };
+    if let Some(wide) = widened(alloc, symbols) {
+        return encode::<_, _, P, _, PRECISION>(alloc, encoder, buffer, len, &table, &wide);
+    }
+    if *len > buffer.len() {
+        return Err(Refusal::WrongLength);
+    }
+    Models::<P, PRECISION>::check(&table, &[])?;
+    if encoder_for(alloc, *encoder, symbols.len()).is_none() {
+        return Err(Refusal::InvalidData);
+    }
+    if !are_known::<P, S, PRECISION>(weights, symbols) {
+        return Err(Refusal::ImpossibleSymbol);
+    }
+    if encoder.held > buffer.len() - *len {
+        return Err(Refusal::NoSpace(len.saturating_add(encoder.held)));
+    }
+    Err(Refusal::NoMemory)
 }
 
 /// Encodes intervals in order. Interval `i` begins at `lefts[i]`, and its length is `ps[i]`.

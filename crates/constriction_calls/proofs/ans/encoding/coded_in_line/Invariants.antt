@@ -3,7 +3,7 @@ use Rattle.std.specs.Prelude.{reverse}
 use Rattle.constriction_base.specs.Models.{AreModels, pairs_of}
 use Rattle.constriction_stack.specs.Ans.{IsValid}
 use Rattle.constriction_stack.specs.Symbols.{EncodesAll}
-use Rattle.constriction_calls.proofs.ans.encoding.coded.Given as goal
+use Rattle.constriction_calls.proofs.ans.encoding.coded_in_line.Given as goal
 
 abbrev pub invariant-symbols : goal.invariant-symbols
 invariant-symbols g l = record {

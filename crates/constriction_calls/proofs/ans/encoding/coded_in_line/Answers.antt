@@ -5,7 +5,7 @@ use Rattle.constriction_stack.specs.Ans.{AnsState}
 use Rattle.constriction_stack.specs.Symbols.{Encodes}
 use Rattle.constriction_stack.proofs.StepCalls.{encode_of}
 use Rattle.constriction_inputs.proofs.Pairs.{drop_last, pairs_end, turned_last}
-use Rattle.constriction_calls.proofs.ans.encoding.coded.Goals as goal
+use Rattle.constriction_calls.proofs.ans.encoding.coded_in_line.Goals as goal
 
 pub symbols-init : goal.symbols-init
 symbols-init g c =

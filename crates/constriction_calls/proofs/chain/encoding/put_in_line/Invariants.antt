@@ -2,7 +2,7 @@ use Rattle.std.proofs.Common.{◌≡◌, ◌≤◌, ℕ, List, length, drop}
 use Rattle.std.specs.Prelude.{reverse}
 use Rattle.constriction_base.specs.Models.{pairs_of}
 use Rattle.constriction_chain.specs.Symbols.{PutsBackAll}
-use Rattle.constriction_calls.proofs.chain.encoding.put_symbols.Given as goal
+use Rattle.constriction_calls.proofs.chain.encoding.put_in_line.Given as goal
 
 abbrev pub invariant-symbols : goal.invariant-symbols
 invariant-symbols g l =

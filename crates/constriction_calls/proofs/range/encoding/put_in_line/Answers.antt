@@ -6,7 +6,7 @@ use Rattle.constriction_queue.specs.Encoder.{run_by}
 use Rattle.constriction_queue.specs.Symbols.{Narrows}
 use Rattle.constriction_queue.proofs.StepCalls.{encode_of}
 use Rattle.constriction_inputs.proofs.Pairs.{pairs_next}
-use Rattle.constriction_calls.proofs.range.encoding.put_list.Goals as goal
+use Rattle.constriction_calls.proofs.range.encoding.put_in_line.Goals as goal
 
 pub loop-i-preserved : goal.loop-i-preserved
 loop-i-preserved g c =

@@ -2,7 +2,7 @@ use Rattle.std.proofs.Common.{◌≡◌, ◌+◌, ◌≤◌, ℕ, List, length, 
 use Rattle.constriction_base.specs.Models.{pairs_of}
 use Rattle.constriction_queue.specs.Encoder.{left_to_encode, run_by}
 use Rattle.constriction_queue.specs.Symbols.{NarrowsAll}
-use Rattle.constriction_calls.proofs.range.encoding.put_list.Given as goal
+use Rattle.constriction_calls.proofs.range.encoding.put_in_line.Given as goal
 
 abbrev pub invariant-loop-i : goal.invariant-loop-i
 invariant-loop-i g l =

@@ -6,7 +6,7 @@ use Rattle.constriction_chain.specs.Symbols.{PutsBack}
 use Rattle.constriction_chain.proofs.StepCalls.{encode_of}
 use Rattle.constriction_inputs.proofs.Pairs.{pairs_end, parted_last, turned_last, unknown_last}
 use Rattle.constriction_calls.proofs.ChainSteps.{impossible_at, lacks_at}
-use Rattle.constriction_calls.proofs.chain.encoding.put_symbols.Goals as goal
+use Rattle.constriction_calls.proofs.chain.encoding.put_in_line.Goals as goal
 
 pub symbols-init : goal.symbols-init
 symbols-init g c =
