@@ -1,6 +1,7 @@
-"""The functions of constriction_c that differ from those of a file large.rt in a few texts, and the impls of its structs.
+"""What tools/sizes writes beside a file large.rt of constriction_c: functions that differ from the file's in a few texts
+(large_kinds.rt), and the impls of its structs (large_parts.rt).
 
-tools/sizes writes them beside large.rt, into large_kinds.rt and large_parts.rt. A change is a dictionary: each regex with its text.
+A change says how one function becomes another: regexes, in order, each with the text that replaces what it finds.
 """
 
 import re
@@ -13,7 +14,7 @@ def of_models(name, says, parameters, models, lets, kind, variable):
         r"_(encode|decode)_": rf"_\1_{name}_",
         r"(,?) with one table of weights for all symbols": says,
         r"    weights: &\[u32\],\n": "".join(f"    {it},\n" for it in parameters.split(", ")),
-        r"by_weights \(map \(word 32\) weights\.now\)": models,
+        r"by_weights \(map \(lowest 32\) weights\.now\)": models,
         r"    let models = .*\n": "",
         r"\n\{\n": "\n{\n" + "".join(f"    {it};\n" for it in lets.split("; ")),
         r"_by_weights(.*) 24>\(\n": rf"\1 {kind}, 24>(\n",
@@ -26,7 +27,7 @@ def of_models(name, says, parameters, models, lets, kind, variable):
 
 EACH = of_models(
     "each", r"\1 with a row of `width` weights for each symbol", "weights: &[u32], width: usize",
-    "by_rows width (map (word 32) weights.now)", "let rows = Rows { weights, width }", "Rows<'_, u32>", "rows",
+    "by_rows width (map (lowest 32) weights.now)", "let rows = Rows { weights, width }", "Rows<'_, u32>", "rows",
 )
 QUANTIZED = of_models(
     "quantized", ", each under the model of its own location and scale ([`Families`])",
@@ -44,8 +45,8 @@ INTERVALS = {
     r"_encode_": "_encode_intervals_",
     r"symbols (.*), with .*": r"intervals \1. Interval `i` begins at `lefts[i]`, and its length is `ps[i]`.",
     r"weights: &\[u32\],\n    symbols: &\[usize\],": "lefts: &[u32],\n    ps: &[u32],",
-    r"by_weights \(map \(word 32\) weights\.now\)": "intervals_from_u32 lefts.now",
-    r"symbols\.now": "(map (word 32) ps.now)",
+    r"by_weights \(map \(lowest 32\) weights\.now\)": "intervals_from_u32 lefts.now",
+    r"symbols\.now": "(map (lowest 32) ps.now)",
     r"    let models = .*\n": "",
     r"\bencode(_reverse)?\b": r"encode_intervals\1",
     r"[^ ]*( u32>)?, 24>(\(\n?.*)&models, symbols": r"24>\2lefts, ps",
@@ -73,11 +74,12 @@ HUFFMAN = {
     r"exp_golomb": "huffman", r"numbers": "symbols", r"alloc: Global,": "alloc: Global,\n    weights: &[u32],",
     r"with Exp-Golomb codewords, from": "with the Huffman tree of the weights, from",
     r"with Exp-Golomb codewords": "with the Huffman tree of `weights`", r"symbols: &(mut )?\[u32\]": r"symbols: &\1[usize]",
-    r"\(word 32\)": "(λ s. s)", r"OfNumbers 32": "OfWeights 32 (map (word 32) weights.now)",
+    r"\(lowest 32\)": "(λ s. s)", r"OfNumbers 32": "OfWeights 32 (map (lowest 32) weights.now)",
     r"ExpGolomb::<u32>::new\(\)": "Tree { weights }",
 }
 
-# For the source of each coder the changes, each of the functions whose names have this end, and that are the source's or were written before.
+# What is written for each module: the change of each function whose name has this end. The function is one of large.rt,
+# or written by a change before.
 CODED = [("(encode|decode)(_reverse)?_u32", EACH), ("encode(_reverse)?_u32", INTERVALS),
          ("(encode|decode)(_reverse)?_u32", QUANTIZED), ("(encode|decode)(_reverse)?_u32", MIXTURE)]
 KINDS = {
@@ -86,7 +88,7 @@ KINDS = {
     "range": [*CODED, ("into_compressed_u32", SELF_DELIMITED)],
     "symbol": [("queue_u32", STACK), ("exp_golomb.*", HUFFMAN)],
 }
-# What these need beyond the imports of the source.
+# What the written files may need beyond the imports of large.rt.
 IMPORTS = """
 ghost use Rattle.constriction_c.specs.Large.{intervals_from_u32, large_decoder, large_encoder, large_heads};
 ghost use Rattle.constriction_calls.specs.AnsCalls.{AreBinary, HasBinary};

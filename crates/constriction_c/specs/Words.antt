@@ -1,6 +1,6 @@
--- Words and states of a given number of bits.
+-- Numbers of words and states.
 use Rattle.std.specs.Prelude.{ℕ, ◌%◌, ◌^◌}
 
--- The number of a word of `w` bits, or of a state.
-abbrev pub word : ℕ → ℕ → ℕ
-word w x = x % 2 ^ w
+-- The lowest `w` bits of a number: the number of a word or state that has `w` bits.
+abbrev pub lowest : ℕ → ℕ → ℕ
+lowest w x = x % 2 ^ w

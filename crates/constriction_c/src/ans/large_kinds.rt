@@ -2,7 +2,7 @@
 //! The same calls with other kinds of models, codewords and words.
 
 ghost use Rattle.constriction_c.specs.Large.{AnsExportsU32, AnsPutsU32, AnsTakesU32, intervals_from_u32};
-ghost use Rattle.constriction_c.specs.Words.{word};
+ghost use Rattle.constriction_c.specs.Words.{lowest};
 ghost use Rattle.constriction_calls.specs.AnsCalls.{AreBinary, HasBinary};
 ghost use Rattle.constriction_inputs.specs.Mixtures.{in_mixture};
 ghost use Rattle.constriction_inputs.specs.Quantized.{in_family};
@@ -30,7 +30,7 @@ pub extern "C" fn constriction_ans_encode_each_reverse_u32(
     symbols: &[usize],
     needed: &mut usize,
 ) -> u32
-    ensures { AnsPutsU32 result needed.old needed.new (by_rows width (map (word 32) weights.now) symbols.now) head.old
+    ensures { AnsPutsU32 result needed.old needed.new (by_rows width (map (lowest 32) weights.now) symbols.now) head.old
         words.old len.old head.new words.new len.new }
 {
     let rows = Rows { weights, width };
@@ -51,8 +51,8 @@ pub extern "C" fn constriction_ans_decode_each_u32(
     width: usize,
     symbols: &mut [usize],
 ) -> u32
-    ensures { AnsTakesU32 result (by_rows width (map (word 32) weights.now)) words.now head.old len.old head.new len.new
-        symbols.old symbols.new }
+    ensures { AnsTakesU32 result (by_rows width (map (lowest 32) weights.now)) words.now head.old len.old head.new
+        len.new symbols.old symbols.new }
 {
     let rows = Rows { weights, width };
     let answer = decode::<_, _, u32, _, 24>(alloc, head, words, len, &rows, symbols);
@@ -72,7 +72,7 @@ pub extern "C" fn constriction_ans_encode_intervals_reverse_u32(
     ps: &[u32],
     needed: &mut usize,
 ) -> u32
-    ensures { AnsPutsU32 result needed.old needed.new (intervals_from_u32 lefts.now (map (word 32) ps.now)) head.old
+    ensures { AnsPutsU32 result needed.old needed.new (intervals_from_u32 lefts.now (map (lowest 32) ps.now)) head.old
         words.old len.old head.new words.new len.new }
 {
     let answer = encode_intervals_reverse::<_, _, u32, 24>(alloc, head, words, len, lefts, ps);

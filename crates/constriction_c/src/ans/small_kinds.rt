@@ -2,7 +2,7 @@
 //! The same calls with other kinds of models, codewords and words.
 
 ghost use Rattle.constriction_c.specs.Small.{AnsExportsU16, AnsPutsU16, AnsTakesU16, intervals_from_u16};
-ghost use Rattle.constriction_c.specs.Words.{word};
+ghost use Rattle.constriction_c.specs.Words.{lowest};
 ghost use Rattle.constriction_calls.specs.AnsCalls.{AreBinary, HasBinary};
 ghost use Rattle.constriction_inputs.specs.Mixtures.{in_mixture};
 ghost use Rattle.constriction_inputs.specs.Quantized.{in_family};
@@ -30,7 +30,7 @@ pub extern "C" fn constriction_ans_encode_each_reverse_u16(
     symbols: &[usize],
     needed: &mut usize,
 ) -> u32
-    ensures { AnsPutsU16 result needed.old needed.new (by_rows width (map (word 16) weights.now) symbols.now) head.old
+    ensures { AnsPutsU16 result needed.old needed.new (by_rows width (map (lowest 16) weights.now) symbols.now) head.old
         words.old len.old head.new words.new len.new }
 {
     let rows = Rows { weights, width };
@@ -51,8 +51,8 @@ pub extern "C" fn constriction_ans_decode_each_u16(
     width: usize,
     symbols: &mut [usize],
 ) -> u32
-    ensures { AnsTakesU16 result (by_rows width (map (word 16) weights.now)) words.now head.old len.old head.new len.new
-        symbols.old symbols.new }
+    ensures { AnsTakesU16 result (by_rows width (map (lowest 16) weights.now)) words.now head.old len.old head.new
+        len.new symbols.old symbols.new }
 {
     let rows = Rows { weights, width };
     let answer = decode::<_, _, u16, _, 12>(alloc, head, words, len, &rows, symbols);
@@ -72,7 +72,7 @@ pub extern "C" fn constriction_ans_encode_intervals_reverse_u16(
     ps: &[u16],
     needed: &mut usize,
 ) -> u32
-    ensures { AnsPutsU16 result needed.old needed.new (intervals_from_u16 lefts.now (map (word 16) ps.now)) head.old
+    ensures { AnsPutsU16 result needed.old needed.new (intervals_from_u16 lefts.now (map (lowest 16) ps.now)) head.old
         words.old len.old head.new words.new len.new }
 {
     let answer = encode_intervals_reverse::<_, _, u16, 12>(alloc, head, words, len, lefts, ps);

@@ -2,7 +2,7 @@
 //! The same calls with other kinds of models, codewords and words.
 
 ghost use Rattle.constriction_c.specs.Large.{ChainBeginsU32, ChainEndsU32, ChainPutsU32, ChainTakesU32, intervals_from_u32, large_chain};
-ghost use Rattle.constriction_c.specs.Words.{word};
+ghost use Rattle.constriction_c.specs.Words.{lowest};
 ghost use Rattle.constriction_calls.specs.ChainWords.{InBinary, InRemainders};
 ghost use Rattle.constriction_inputs.specs.Mixtures.{in_mixture};
 ghost use Rattle.constriction_inputs.specs.Quantized.{in_family};
@@ -34,7 +34,7 @@ pub extern "C" fn constriction_chain_decode_each_u32(
     symbols: &mut [usize],
     needed: &mut usize,
 ) -> u32
-    ensures { ChainTakesU32 result needed.old needed.new (by_rows width (map (word 32) weights.now))
+    ensures { ChainTakesU32 result needed.old needed.new (by_rows width (map (lowest 32) weights.now))
         (large_chain heads.old compressed.now count.old remainders.old rest.old)
         (large_chain heads.new compressed.now count.new remainders.new rest.new) symbols.old symbols.new }
 {
@@ -63,7 +63,7 @@ pub extern "C" fn constriction_chain_encode_each_reverse_u32(
     symbols: &[usize],
     needed: &mut usize,
 ) -> u32
-    ensures { ChainPutsU32 result needed.old needed.new (by_rows width (map (word 32) weights.now) symbols.now)
+    ensures { ChainPutsU32 result needed.old needed.new (by_rows width (map (lowest 32) weights.now) symbols.now)
         (large_chain heads.old compressed.old count.old remainders.now rest.old)
         (large_chain heads.new compressed.new count.new remainders.now rest.new) }
 {
@@ -91,7 +91,7 @@ pub extern "C" fn constriction_chain_encode_intervals_reverse_u32(
     ps: &[u32],
     needed: &mut usize,
 ) -> u32
-    ensures { ChainPutsU32 result needed.old needed.new (intervals_from_u32 lefts.now (map (word 32) ps.now))
+    ensures { ChainPutsU32 result needed.old needed.new (intervals_from_u32 lefts.now (map (lowest 32) ps.now))
         (large_chain heads.old compressed.old count.old remainders.now rest.old)
         (large_chain heads.new compressed.new count.new remainders.now rest.new) }
 {

@@ -3,7 +3,7 @@
 
 ghost use Rattle.std.specs.Prelude.{map};
 ghost use Rattle.constriction_c.specs.Small.{ChainBeginsU16, ChainEndsU16, ChainPutsU16, ChainTakesU16, small_chain};
-ghost use Rattle.constriction_c.specs.Words.{word};
+ghost use Rattle.constriction_c.specs.Words.{lowest};
 ghost use Rattle.constriction_calls.specs.ChainWords.{InCompressed};
 ghost use Rattle.constriction_inputs.specs.Weights.{by_weights};
 
@@ -37,7 +37,7 @@ pub extern "C" fn constriction_chain_decode_u16(
     symbols: &mut [usize],
     needed: &mut usize,
 ) -> u32
-    ensures { ChainTakesU16 result needed.old needed.new (by_weights (map (word 16) weights.now))
+    ensures { ChainTakesU16 result needed.old needed.new (by_weights (map (lowest 16) weights.now))
         (small_chain heads.old compressed.now count.old remainders.old rest.old)
         (small_chain heads.new compressed.now count.new remainders.new rest.new) symbols.old symbols.new }
 {
@@ -64,7 +64,7 @@ pub extern "C" fn constriction_chain_encode_reverse_u16(
     symbols: &[usize],
     needed: &mut usize,
 ) -> u32
-    ensures { ChainPutsU16 result needed.old needed.new (by_weights (map (word 16) weights.now) symbols.now)
+    ensures { ChainPutsU16 result needed.old needed.new (by_weights (map (lowest 16) weights.now) symbols.now)
         (small_chain heads.old compressed.old count.old remainders.now rest.old)
         (small_chain heads.new compressed.new count.new remainders.now rest.new) }
 {

@@ -2,7 +2,7 @@
 //! The same calls with other kinds of models, codewords and words.
 
 ghost use Rattle.constriction_c.specs.Small.{ChainBeginsU16, ChainEndsU16, ChainPutsU16, ChainTakesU16, intervals_from_u16, small_chain};
-ghost use Rattle.constriction_c.specs.Words.{word};
+ghost use Rattle.constriction_c.specs.Words.{lowest};
 ghost use Rattle.constriction_calls.specs.ChainWords.{InBinary, InRemainders};
 ghost use Rattle.constriction_inputs.specs.Mixtures.{in_mixture};
 ghost use Rattle.constriction_inputs.specs.Quantized.{in_family};
@@ -34,7 +34,7 @@ pub extern "C" fn constriction_chain_decode_each_u16(
     symbols: &mut [usize],
     needed: &mut usize,
 ) -> u32
-    ensures { ChainTakesU16 result needed.old needed.new (by_rows width (map (word 16) weights.now))
+    ensures { ChainTakesU16 result needed.old needed.new (by_rows width (map (lowest 16) weights.now))
         (small_chain heads.old compressed.now count.old remainders.old rest.old)
         (small_chain heads.new compressed.now count.new remainders.new rest.new) symbols.old symbols.new }
 {
@@ -63,7 +63,7 @@ pub extern "C" fn constriction_chain_encode_each_reverse_u16(
     symbols: &[usize],
     needed: &mut usize,
 ) -> u32
-    ensures { ChainPutsU16 result needed.old needed.new (by_rows width (map (word 16) weights.now) symbols.now)
+    ensures { ChainPutsU16 result needed.old needed.new (by_rows width (map (lowest 16) weights.now) symbols.now)
         (small_chain heads.old compressed.old count.old remainders.now rest.old)
         (small_chain heads.new compressed.new count.new remainders.now rest.new) }
 {
@@ -91,7 +91,7 @@ pub extern "C" fn constriction_chain_encode_intervals_reverse_u16(
     ps: &[u16],
     needed: &mut usize,
 ) -> u32
-    ensures { ChainPutsU16 result needed.old needed.new (intervals_from_u16 lefts.now (map (word 16) ps.now))
+    ensures { ChainPutsU16 result needed.old needed.new (intervals_from_u16 lefts.now (map (lowest 16) ps.now))
         (small_chain heads.old compressed.old count.old remainders.now rest.old)
         (small_chain heads.new compressed.new count.new remainders.now rest.new) }
 {

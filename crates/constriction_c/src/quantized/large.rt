@@ -3,7 +3,7 @@
 ghost use Rattle.std.specs.Prelude.{map};
 ghost use Rattle.constriction_c.specs.Codes.{answer_by_code};
 ghost use Rattle.constriction_c.specs.Large.{GivesIntervalsU32};
-ghost use Rattle.constriction_c.specs.Words.{word};
+ghost use Rattle.constriction_c.specs.Words.{lowest};
 ghost use Rattle.constriction_inputs.specs.QuantizedCalls.{GivesWeightsOfCounts};
 
 use crate::codes::code_without_space;
@@ -42,7 +42,7 @@ pub extern "C" fn constriction_weights_of_counts_u32(
     counts: &[u64],
     weights: &mut [u32],
 ) -> u32
-    ensures { GivesWeightsOfCounts 24 counts.now (map (word 32) weights.old) (map (word 32) weights.new)
+    ensures { GivesWeightsOfCounts 24 counts.now (map (lowest 32) weights.old) (map (lowest 32) weights.new)
         (answer_by_code result 0) }
 {
     code_without_space(put_weights_of_counts::<u32, 24>(alloc, counts, weights))

@@ -4,7 +4,7 @@
 ghost use Rattle.std.specs.Prelude.{map};
 ghost use Rattle.constriction_c.specs.Codes.{answer_by_code};
 ghost use Rattle.constriction_c.specs.Small.{GivesIntervalsU16};
-ghost use Rattle.constriction_c.specs.Words.{word};
+ghost use Rattle.constriction_c.specs.Words.{lowest};
 ghost use Rattle.constriction_inputs.specs.QuantizedCalls.{GivesWeightsOfCounts};
 
 use crate::codes::code_without_space;
@@ -43,7 +43,7 @@ pub extern "C" fn constriction_weights_of_counts_u16(
     counts: &[u64],
     weights: &mut [u16],
 ) -> u32
-    ensures { GivesWeightsOfCounts 12 counts.now (map (word 16) weights.old) (map (word 16) weights.new)
+    ensures { GivesWeightsOfCounts 12 counts.now (map (lowest 16) weights.old) (map (lowest 16) weights.new)
         (answer_by_code result 0) }
 {
     code_without_space(put_weights_of_counts::<u16, 12>(alloc, counts, weights))

@@ -3,7 +3,7 @@
 ghost use Rattle.std.specs.Prelude.{◌≡◌, map};
 ghost use Rattle.constriction_c.specs.Codes.{answer_by_code};
 ghost use Rattle.constriction_c.specs.Large.{RangeEndsU32, RangePutsU32, RangeTakesU32, large_decoder, large_encoder};
-ghost use Rattle.constriction_c.specs.Words.{word};
+ghost use Rattle.constriction_c.specs.Words.{lowest};
 ghost use Rattle.constriction_calls.specs.RangeCalls.{IsNew, IsSealed, RangeBegins, RangeMayEnd, RangeSeals, RangeSeeks};
 ghost use Rattle.constriction_inputs.specs.Weights.{by_weights};
 
@@ -41,7 +41,7 @@ pub struct RangeDecoderU32 {
 #[unsafe(no_mangle)]
 pub extern "C" fn constriction_range_encoder_u32(encoder: &mut RangeEncoderU32) -> u32
     ensures done { result ≡ 0 }
-    ensures call { IsNew (word 32) (word 64) 32 64 (large_encoder encoder.new) }
+    ensures call { IsNew (lowest 32) (lowest 64) 32 64 (large_encoder encoder.new) }
 {
     *encoder = RangeEncoderU32 {
         lower: 0,
@@ -65,8 +65,8 @@ pub extern "C" fn constriction_range_encode_u32(
     symbols: &[usize],
     needed: &mut usize,
 ) -> u32
-    ensures { RangePutsU32 result needed.old needed.new (by_weights (map (word 32) weights.now)) symbols.now encoder.old
-        words.old len.old encoder.new words.new len.new }
+    ensures { RangePutsU32 result needed.old needed.new (by_weights (map (lowest 32) weights.now)) symbols.now
+        encoder.old words.old len.old encoder.new words.new len.new }
 {
     let models = Weights { weights };
     let mut parts = encoder.parts();
@@ -86,7 +86,7 @@ pub extern "C" fn constriction_range_into_compressed_u32(
     len: &mut usize,
     needed: &mut usize,
 ) -> u32
-    ensures { RangeEndsU32 result needed.old needed.new (RangeSeals (word 32) (word 64) 32 64 (IsSealed 32 64))
+    ensures { RangeEndsU32 result needed.old needed.new (RangeSeals (lowest 32) (lowest 64) 32 64 (IsSealed 32 64))
         encoder.now words.old len.old words.new len.new }
 {
     let answer = into_compressed(alloc, &encoder.parts(), words, len);
@@ -102,7 +102,7 @@ pub extern "C" fn constriction_range_from_compressed_u32(
     decoder: &mut RangeDecoderU32,
 ) -> u32
     ensures done { result ≡ 0 }
-    ensures call { RangeBegins (word 32) (word 64) 32 64 words.now (large_decoder decoder.new) }
+    ensures call { RangeBegins (lowest 32) (lowest 64) 32 64 words.now (large_decoder decoder.new) }
 {
     *decoder = RangeDecoderU32::of(from_compressed(words));
     0
@@ -119,7 +119,7 @@ pub extern "C" fn constriction_range_decode_u32(
     weights: &[u32],
     symbols: &mut [usize],
 ) -> u32
-    ensures { RangeTakesU32 result (by_weights (map (word 32) weights.now)) words.now decoder.old decoder.new
+    ensures { RangeTakesU32 result (by_weights (map (lowest 32) weights.now)) words.now decoder.old decoder.new
         symbols.old symbols.new }
 {
     let mut parts = decoder.parts();
@@ -139,7 +139,7 @@ pub extern "C" fn constriction_range_seek_u32(
     lower: u64,
     range: u64,
 ) -> u32
-    ensures { RangeSeeks (word 32) (word 64) 32 64 words.now pos lower range (large_decoder decoder.old)
+    ensures { RangeSeeks (lowest 32) (lowest 64) 32 64 words.now pos lower range (large_decoder decoder.old)
         (large_decoder decoder.new) (answer_by_code result 0) }
 {
     let mut parts = decoder.parts();
@@ -157,7 +157,7 @@ pub extern "C" fn constriction_range_maybe_exhausted_u32(
     words: &[u32],
     maybe: &mut u32,
 ) -> u32
-    ensures { RangeMayEnd (word 64) 32 64 (map (word 32) words.now) (large_decoder decoder.now) maybe.old maybe.new
+    ensures { RangeMayEnd (lowest 64) 32 64 (map (lowest 32) words.now) (large_decoder decoder.now) maybe.old maybe.new
         (answer_by_code result 0) }
 {
     code_without_space(maybe_exhausted(&decoder.parts(), words, maybe))

@@ -4,7 +4,7 @@
 ghost use Rattle.std.specs.Prelude.{◌≡◌, map};
 ghost use Rattle.constriction_c.specs.Codes.{answer_by_code};
 ghost use Rattle.constriction_c.specs.Small.{RangeEndsU16, RangePutsU16, RangeTakesU16, small_decoder, small_encoder};
-ghost use Rattle.constriction_c.specs.Words.{word};
+ghost use Rattle.constriction_c.specs.Words.{lowest};
 ghost use Rattle.constriction_calls.specs.RangeCalls.{IsNew, IsSealed, RangeBegins, RangeMayEnd, RangeSeals, RangeSeeks};
 ghost use Rattle.constriction_inputs.specs.Weights.{by_weights};
 
@@ -42,7 +42,7 @@ pub struct RangeDecoderU16 {
 #[unsafe(no_mangle)]
 pub extern "C" fn constriction_range_encoder_u16(encoder: &mut RangeEncoderU16) -> u32
     ensures done { result ≡ 0 }
-    ensures call { IsNew (word 16) (word 32) 16 32 (small_encoder encoder.new) }
+    ensures call { IsNew (lowest 16) (lowest 32) 16 32 (small_encoder encoder.new) }
 {
     *encoder = RangeEncoderU16 {
         lower: 0,
@@ -66,8 +66,8 @@ pub extern "C" fn constriction_range_encode_u16(
     symbols: &[usize],
     needed: &mut usize,
 ) -> u32
-    ensures { RangePutsU16 result needed.old needed.new (by_weights (map (word 16) weights.now)) symbols.now encoder.old
-        words.old len.old encoder.new words.new len.new }
+    ensures { RangePutsU16 result needed.old needed.new (by_weights (map (lowest 16) weights.now)) symbols.now
+        encoder.old words.old len.old encoder.new words.new len.new }
 {
     let models = Weights { weights };
     let mut parts = encoder.parts();
@@ -87,7 +87,7 @@ pub extern "C" fn constriction_range_into_compressed_u16(
     len: &mut usize,
     needed: &mut usize,
 ) -> u32
-    ensures { RangeEndsU16 result needed.old needed.new (RangeSeals (word 16) (word 32) 16 32 (IsSealed 16 32))
+    ensures { RangeEndsU16 result needed.old needed.new (RangeSeals (lowest 16) (lowest 32) 16 32 (IsSealed 16 32))
         encoder.now words.old len.old words.new len.new }
 {
     let answer = into_compressed(alloc, &encoder.parts(), words, len);
@@ -103,7 +103,7 @@ pub extern "C" fn constriction_range_from_compressed_u16(
     decoder: &mut RangeDecoderU16,
 ) -> u32
     ensures done { result ≡ 0 }
-    ensures call { RangeBegins (word 16) (word 32) 16 32 words.now (small_decoder decoder.new) }
+    ensures call { RangeBegins (lowest 16) (lowest 32) 16 32 words.now (small_decoder decoder.new) }
 {
     *decoder = RangeDecoderU16::of(from_compressed(words));
     0
@@ -120,7 +120,7 @@ pub extern "C" fn constriction_range_decode_u16(
     weights: &[u16],
     symbols: &mut [usize],
 ) -> u32
-    ensures { RangeTakesU16 result (by_weights (map (word 16) weights.now)) words.now decoder.old decoder.new
+    ensures { RangeTakesU16 result (by_weights (map (lowest 16) weights.now)) words.now decoder.old decoder.new
         symbols.old symbols.new }
 {
     let mut parts = decoder.parts();
@@ -140,7 +140,7 @@ pub extern "C" fn constriction_range_seek_u16(
     lower: u32,
     range: u32,
 ) -> u32
-    ensures { RangeSeeks (word 16) (word 32) 16 32 words.now pos lower range (small_decoder decoder.old)
+    ensures { RangeSeeks (lowest 16) (lowest 32) 16 32 words.now pos lower range (small_decoder decoder.old)
         (small_decoder decoder.new) (answer_by_code result 0) }
 {
     let mut parts = decoder.parts();
@@ -158,7 +158,7 @@ pub extern "C" fn constriction_range_maybe_exhausted_u16(
     words: &[u16],
     maybe: &mut u32,
 ) -> u32
-    ensures { RangeMayEnd (word 32) 16 32 (map (word 16) words.now) (small_decoder decoder.now) maybe.old maybe.new
+    ensures { RangeMayEnd (lowest 32) 16 32 (map (lowest 16) words.now) (small_decoder decoder.now) maybe.old maybe.new
         (answer_by_code result 0) }
 {
     code_without_space(maybe_exhausted(&decoder.parts(), words, maybe))

@@ -2,7 +2,7 @@
 //! The same calls with other kinds of models, codewords and words.
 
 ghost use Rattle.constriction_c.specs.Small.{RangeEndsU16, RangePutsU16, RangeTakesU16, intervals_from_u16};
-ghost use Rattle.constriction_c.specs.Words.{word};
+ghost use Rattle.constriction_c.specs.Words.{lowest};
 ghost use Rattle.constriction_calls.specs.RangeCalls.{IsSelfSealed, RangeSeals};
 ghost use Rattle.constriction_inputs.specs.Mixtures.{in_mixture};
 ghost use Rattle.constriction_inputs.specs.Quantized.{in_family};
@@ -31,7 +31,7 @@ pub extern "C" fn constriction_range_encode_each_u16(
     symbols: &[usize],
     needed: &mut usize,
 ) -> u32
-    ensures { RangePutsU16 result needed.old needed.new (by_rows width (map (word 16) weights.now)) symbols.now
+    ensures { RangePutsU16 result needed.old needed.new (by_rows width (map (lowest 16) weights.now)) symbols.now
         encoder.old words.old len.old encoder.new words.new len.new }
 {
     let rows = Rows { weights, width };
@@ -53,7 +53,7 @@ pub extern "C" fn constriction_range_decode_each_u16(
     width: usize,
     symbols: &mut [usize],
 ) -> u32
-    ensures { RangeTakesU16 result (by_rows width (map (word 16) weights.now)) words.now decoder.old decoder.new
+    ensures { RangeTakesU16 result (by_rows width (map (lowest 16) weights.now)) words.now decoder.old decoder.new
         symbols.old symbols.new }
 {
     let rows = Rows { weights, width };
@@ -76,7 +76,7 @@ pub extern "C" fn constriction_range_encode_intervals_u16(
     ps: &[u16],
     needed: &mut usize,
 ) -> u32
-    ensures { RangePutsU16 result needed.old needed.new (intervals_from_u16 lefts.now) (map (word 16) ps.now)
+    ensures { RangePutsU16 result needed.old needed.new (intervals_from_u16 lefts.now) (map (lowest 16) ps.now)
         encoder.old words.old len.old encoder.new words.new len.new }
 {
     let mut parts = encoder.parts();
@@ -209,7 +209,7 @@ pub extern "C" fn constriction_range_into_self_delimited_u16(
     len: &mut usize,
     needed: &mut usize,
 ) -> u32
-    ensures { RangeEndsU16 result needed.old needed.new (RangeSeals (word 16) (word 32) 16 32 (IsSelfSealed 16 32))
+    ensures { RangeEndsU16 result needed.old needed.new (RangeSeals (lowest 16) (lowest 32) 16 32 (IsSelfSealed 16 32))
         encoder.now words.old len.old words.new len.new }
 {
     let answer = into_self_delimited(alloc, &encoder.parts(), words, len);
