@@ -1,3 +1,4 @@
 pub mod Codes
 pub mod Large
 pub mod Small
+pub mod Words

@@ -2,9 +2,10 @@
 //!
 //! The caller keeps an encoder or a decoder as a struct, and a buffer whose first words are in use. `len` is the number
 //! of these words. The module [`constriction_calls::range`] has the calls, and explains their arguments and errors.
-//!
-//! - [`large`]: with 32-bit words.
-//! - [`small`]: with 16-bit words.
 
 pub mod large;
+mod large_kinds;
+mod large_parts;
 pub mod small;
+mod small_kinds;
+mod small_parts;

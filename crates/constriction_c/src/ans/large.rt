@@ -2,23 +2,18 @@
 
 ghost use Rattle.std.specs.Prelude.{map};
 ghost use Rattle.constriction_base.specs.Readings.{BeginsHigh};
-ghost use Rattle.constriction_c.specs.Large.{large_word, large_state, LargeAnsTakes, LargeAnsPuts};
-ghost use Rattle.constriction_c.specs.Codes.{Told, answer_by_code};
-ghost use Rattle.constriction_calls.specs.AnsCalls.{AnsExports, AnsImports, coder_of};
-ghost use Rattle.constriction_calls.specs.AnsCalls.{AreBinary, AreCompressed, HasBinary};
-ghost use Rattle.constriction_inputs.specs.Intervals.{as_intervals};
-ghost use Rattle.constriction_inputs.specs.Mixtures.{in_mixture};
-ghost use Rattle.constriction_inputs.specs.Quantized.{in_family};
-ghost use Rattle.constriction_inputs.specs.Rows.{by_rows};
+ghost use Rattle.constriction_c.specs.Large.{AnsExportsU32, AnsImportsU32, AnsPutsU32, AnsTakesU32};
+ghost use Rattle.constriction_c.specs.Words.{lowest};
+ghost use Rattle.constriction_calls.specs.AnsCalls.{AreCompressed};
 ghost use Rattle.constriction_inputs.specs.Weights.{by_weights};
 ghost use Rattle.constriction_stack.specs.Ans.{filled};
 ghost use Rattle.constriction_stack.specs.Binary.{binary_state};
 
 use crate::codes::{code_of, code_without_space};
-use constriction_calls::ans::decoding::{decode, decode_by_weights};
-use constriction_calls::ans::encoding::{encode_intervals_reverse, encode_reverse};
-use constriction_calls::ans::words::{from_binary, from_compressed, into_binary, into_compressed};
-use constriction_inputs::models::{Families, Mixtures, Rows, Weights};
+use constriction_calls::ans::decoding::decode_by_weights;
+use constriction_calls::ans::encoding::encode_reverse;
+use constriction_calls::ans::words::{from_binary, from_compressed, into_compressed};
+use constriction_inputs::models::Weights;
 use std::alloc::Global;
 
 /// Encodes symbols from the last to the first, with one table of weights for all symbols.
@@ -34,107 +29,11 @@ pub extern "C" fn constriction_ans_encode_reverse_u32(
     symbols: &[usize],
     needed: &mut usize,
 ) -> u32
-    ensures { Told result needed.old needed.new (LargeAnsPuts (by_weights (map large_word weights.now) symbols.now)
-        (coder_of head.old words.old len.old) (coder_of head.new words.new len.new)) }
+    ensures { AnsPutsU32 result needed.old needed.new (by_weights (map (lowest 32) weights.now) symbols.now) head.old
+        words.old len.old head.new words.new len.new }
 {
-    let table = Weights { weights };
-    let answer = encode_reverse::<_, _, u32, _, 24>(alloc, head, words, len, &table, symbols);
-    code_of(answer, needed)
-}
-
-/// Encodes symbols from the last to the first, with a row of `width` weights for each symbol.
-///
-/// Calls [`encode_reverse`] and returns the code of its result ([`code_of`]).
-#[unsafe(no_mangle)]
-pub extern "C" fn constriction_ans_encode_each_reverse_u32(
-    alloc: Global,
-    head: &mut u64,
-    words: &mut [u32],
-    len: &mut usize,
-    weights: &[u32],
-    width: usize,
-    symbols: &[usize],
-    needed: &mut usize,
-) -> u32
-    ensures { Told result needed.old needed.new (LargeAnsPuts (by_rows width (map large_word weights.now) symbols.now)
-        (coder_of head.old words.old len.old) (coder_of head.new words.new len.new)) }
-{
-    let rows = Rows { weights, width };
-    let answer = encode_reverse::<_, _, u32, _, 24>(alloc, head, words, len, &rows, symbols);
-    code_of(answer, needed)
-}
-
-/// Encodes intervals from the last to the first. Interval `i` begins at `lefts[i]`, and its length is `ps[i]`.
-///
-/// Calls [`encode_intervals_reverse`] and returns the code of its result ([`code_of`]).
-#[unsafe(no_mangle)]
-pub extern "C" fn constriction_ans_encode_intervals_reverse_u32(
-    alloc: Global,
-    head: &mut u64,
-    words: &mut [u32],
-    len: &mut usize,
-    lefts: &[u32],
-    ps: &[u32],
-    needed: &mut usize,
-) -> u32
-    ensures { Told result needed.old needed.new (LargeAnsPuts (as_intervals (map large_word lefts.now)
-        (map large_word ps.now)) (coder_of head.old words.old len.old) (coder_of head.new words.new len.new)) }
-{
-    let answer = encode_intervals_reverse::<_, _, u32, 24>(alloc, head, words, len, lefts, ps);
-    code_of(answer, needed)
-}
-
-/// Encodes symbols from the last to the first, each under the model of its own location and scale ([`Families`]).
-///
-/// Calls [`encode_reverse`] and returns the code of its result ([`code_of`]).
-#[unsafe(no_mangle)]
-pub extern "C" fn constriction_ans_encode_quantized_reverse_u32(
-    alloc: Global,
-    head: &mut u64,
-    words: &mut [u32],
-    len: &mut usize,
-    family: u32,
-    min: i32,
-    max: i32,
-    locations: &[i64],
-    scales: &[u32],
-    symbols: &[usize],
-    needed: &mut usize,
-) -> u32
-    ensures { Told result needed.old needed.new (LargeAnsPuts (in_family family min max locations.now scales.now
-        symbols.now) (coder_of head.old words.old len.old) (coder_of head.new words.new len.new)) }
-{
-    let models = Families::new(family, min, max, locations, scales);
+    let models = Weights { weights };
     let answer = encode_reverse::<_, _, u32, _, 24>(alloc, head, words, len, &models, symbols);
-    code_of(answer, needed)
-}
-
-/// Encodes symbols from the last to the first, each under its own mixture of a family's distributions ([`Mixtures`]).
-///
-/// Calls [`encode_reverse`] and returns the code of its result ([`code_of`]).
-#[unsafe(no_mangle)]
-pub extern "C" fn constriction_ans_encode_mixture_reverse_u32(
-    alloc: Global,
-    head: &mut u64,
-    words: &mut [u32],
-    len: &mut usize,
-    family: u32,
-    min: i32,
-    max: i32,
-    width: usize,
-    component_weights: &[u32],
-    locations: &[i64],
-    scales: &[u32],
-    symbols: &[usize],
-    needed: &mut usize,
-) -> u32
-    ensures { Told result needed.old needed.new (LargeAnsPuts
-        (in_mixture family min max width component_weights.now locations.now scales.now symbols.now)
-        (coder_of head.old words.old len.old) (coder_of head.new words.new len.new)) }
-{
-    let components = Families::new(family, min, max, locations, scales);
-    let mixtures = Mixtures::new(components, component_weights, width);
-    let answer = encode_reverse::<_, _, u32, _, 24>(alloc, head, words, len, &mixtures, symbols);
     code_of(answer, needed)
 }
 
@@ -150,83 +49,11 @@ pub extern "C" fn constriction_ans_decode_u32(
     weights: &[u32],
     symbols: &mut [usize],
 ) -> u32
-    ensures { LargeAnsTakes (by_weights (map large_word weights.now)) (coder_of head.old words.now len.old)
-        (coder_of head.new words.now len.new) symbols.old symbols.new (answer_by_code result 0) }
+    ensures { AnsTakesU32 result (by_weights (map (lowest 32) weights.now)) words.now head.old len.old head.new len.new
+        symbols.old symbols.new }
 {
-    code_without_space(decode_by_weights::<_, _, u32, 24>(
-        alloc, head, words, len, weights, symbols,
-    ))
-}
-
-/// Decodes symbols with a row of `width` weights for each symbol.
-///
-/// Calls [`decode`] and returns the code of its result ([`code_of`]).
-#[unsafe(no_mangle)]
-pub extern "C" fn constriction_ans_decode_each_u32(
-    alloc: Global,
-    head: &mut u64,
-    words: &[u32],
-    len: &mut usize,
-    weights: &[u32],
-    width: usize,
-    symbols: &mut [usize],
-) -> u32
-    ensures { LargeAnsTakes (by_rows width (map large_word weights.now)) (coder_of head.old words.now len.old)
-        (coder_of head.new words.now len.new) symbols.old symbols.new (answer_by_code result 0) }
-{
-    let rows = Rows { weights, width };
-    code_without_space(decode::<_, _, u32, _, 24>(alloc, head, words, len, &rows, symbols))
-}
-
-/// Decodes symbols, each under the model of its own location and scale ([`Families`]).
-///
-/// Calls [`decode`] and returns the code of its result ([`code_of`]).
-#[unsafe(no_mangle)]
-pub extern "C" fn constriction_ans_decode_quantized_u32(
-    alloc: Global,
-    head: &mut u64,
-    words: &[u32],
-    len: &mut usize,
-    family: u32,
-    min: i32,
-    max: i32,
-    locations: &[i64],
-    scales: &[u32],
-    symbols: &mut [usize],
-) -> u32
-    ensures { LargeAnsTakes (in_family family min max locations.now scales.now) (coder_of head.old words.now len.old)
-        (coder_of head.new words.now len.new) symbols.old symbols.new (answer_by_code result 0) }
-{
-    let models = Families::new(family, min, max, locations, scales);
-    code_without_space(decode::<_, _, u32, _, 24>(alloc, head, words, len, &models, symbols))
-}
-
-/// Decodes symbols, each under its own mixture of a family's distributions ([`Mixtures`]).
-///
-/// Calls [`decode`] and returns the code of its result ([`code_of`]).
-#[unsafe(no_mangle)]
-pub extern "C" fn constriction_ans_decode_mixture_u32(
-    alloc: Global,
-    head: &mut u64,
-    words: &[u32],
-    len: &mut usize,
-    family: u32,
-    min: i32,
-    max: i32,
-    width: usize,
-    component_weights: &[u32],
-    locations: &[i64],
-    scales: &[u32],
-    symbols: &mut [usize],
-) -> u32
-    ensures { LargeAnsTakes
-        (in_mixture family min max width component_weights.now locations.now scales.now)
-        (coder_of head.old words.now len.old)
-        (coder_of head.new words.now len.new) symbols.old symbols.new (answer_by_code result 0) }
-{
-    let components = Families::new(family, min, max, locations, scales);
-    let mixtures = Mixtures::new(components, component_weights, width);
-    code_without_space(decode::<_, _, u32, _, 24>(alloc, head, words, len, &mixtures, symbols))
+    let answer = decode_by_weights::<_, _, u32, 24>(alloc, head, words, len, weights, symbols);
+    code_without_space(answer)
 }
 
 /// Imports the state that `constriction_ans_into_compressed_u32` exports as `words`.
@@ -238,8 +65,7 @@ pub extern "C" fn constriction_ans_from_compressed_u32(
     len: &mut usize,
     head: &mut u64,
 ) -> u32
-    ensures { AnsImports large_word large_state (filled 32 64 0) BeginsHigh (coder_of head.old words.now len.old)
-        (coder_of head.new words.now len.new) (answer_by_code result 0) }
+    ensures { AnsImportsU32 result (filled 32 64 0) BeginsHigh words.now head.old len.old head.new len.new }
 {
     code_without_space(from_compressed(words, len, head))
 }
@@ -253,8 +79,7 @@ pub extern "C" fn constriction_ans_from_binary_u32(
     len: &mut usize,
     head: &mut u64,
 ) -> u32
-    ensures { AnsImports large_word large_state (binary_state 32 64) (λ all. Unit {0})
-        (coder_of head.old words.now len.old) (coder_of head.new words.now len.new) (answer_by_code result 0) }
+    ensures { AnsImportsU32 result (binary_state 32 64) (λ all. Unit {0}) words.now head.old len.old head.new len.new }
 {
     from_binary(words, len, head);
     code_without_space(Ok(()))
@@ -271,25 +96,8 @@ pub extern "C" fn constriction_ans_into_compressed_u32(
     len: &mut usize,
     needed: &mut usize,
 ) -> u32
-    ensures { Told result needed.old needed.new (AnsExports large_word large_state (AreCompressed 32)
-        (λ state. Unit {0}) (coder_of head words.old len.old) (coder_of head words.new len.new)) }
+    ensures { AnsExportsU32 result needed.old needed.new (AreCompressed 32) (λ state. Unit {0}) head words.old len.old
+        words.new len.new }
 {
     code_of(into_compressed(alloc, head, words, len), needed)
-}
-
-/// Exports the binary form: writes the bits of the head below its leading 1 after the first `len` words of `words`.
-///
-/// Calls [`into_binary`] and returns the code of its result ([`code_of`]).
-#[unsafe(no_mangle)]
-pub extern "C" fn constriction_ans_into_binary_u32(
-    alloc: Global,
-    head: u64,
-    words: &mut [u32],
-    len: &mut usize,
-    needed: &mut usize,
-) -> u32
-    ensures { Told result needed.old needed.new (AnsExports large_word large_state (AreBinary 32) (HasBinary 32)
-        (coder_of head words.old len.old) (coder_of head words.new len.new)) }
-{
-    code_of(into_binary(alloc, head, words, len), needed)
 }

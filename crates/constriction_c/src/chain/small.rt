@@ -1,23 +1,17 @@
 // Written by tools/sizes from large.rt.
 //! The chain coder with 16-bit words, a 32-bit remainders head, a 16-bit compressed head and a precision of 12 bits.
 
-ghost use Rattle.std.specs.Prelude.{◌≡◌, map};
-ghost use Rattle.constriction_c.specs.Small.{SmallChainBegins, SmallChainEnds, SmallChainPuts, SmallChainTakes};
-ghost use Rattle.constriction_c.specs.Small.{small_chain, small_heads, small_word};
-ghost use Rattle.constriction_c.specs.Codes.{Told, answer_by_code};
-ghost use Rattle.constriction_calls.specs.ChainWords.{InBinary, InCompressed, InRemainders};
-ghost use Rattle.constriction_inputs.specs.Intervals.{as_intervals};
-ghost use Rattle.constriction_inputs.specs.Mixtures.{in_mixture};
-ghost use Rattle.constriction_inputs.specs.Quantized.{in_family};
-ghost use Rattle.constriction_inputs.specs.Rows.{by_rows};
+ghost use Rattle.std.specs.Prelude.{map};
+ghost use Rattle.constriction_c.specs.Small.{ChainBeginsU16, ChainEndsU16, ChainPutsU16, ChainTakesU16, small_chain};
+ghost use Rattle.constriction_c.specs.Words.{lowest};
+ghost use Rattle.constriction_calls.specs.ChainWords.{InCompressed};
 ghost use Rattle.constriction_inputs.specs.Weights.{by_weights};
 
 use crate::codes::{code_of, code_without_space};
 use constriction_calls::chain::{
-    ChainHeads, decode, decode_by_weights, encode_intervals_reverse, encode_reverse, from_binary,
-    from_compressed, from_remainders, into_binary, into_compressed, into_remainders,
+    decode_by_weights, encode_reverse, from_compressed, into_compressed,
 };
-use constriction_inputs::models::{Families, Mixtures, Rows, Weights};
+use constriction_inputs::models::Weights;
 use std::alloc::Global;
 
 /// The two heads of a chain coder with 16-bit words, with the fields of [`ChainHeads`].
@@ -26,30 +20,6 @@ use std::alloc::Global;
 pub struct ChainHeadsU16 {
     pub remainders: u32,
     pub compressed: u16,
-}
-
-impl ChainHeadsU16 {
-    /// Returns the heads as the type that the calls of `constriction_calls` take.
-    #[inline]
-    pub fn parts(&self) -> ChainHeads<u16, u32>
-        ensures { result ≡ small_heads self.now }
-    {
-        ChainHeads {
-            remainders: self.remainders,
-            compressed: self.compressed,
-        }
-    }
-
-    /// Makes the struct from `heads`, which a call of `constriction_calls` has set.
-    #[inline]
-    pub fn of(heads: ChainHeads<u16, u32>) -> Self
-        ensures { result ≡ record { remainders = heads.remainders; compressed = heads.compressed } }
-    {
-        ChainHeadsU16 {
-            remainders: heads.remainders,
-            compressed: heads.compressed,
-        }
-    }
 }
 
 /// Decodes symbols with one table of weights for all symbols.
@@ -67,110 +37,13 @@ pub extern "C" fn constriction_chain_decode_u16(
     symbols: &mut [usize],
     needed: &mut usize,
 ) -> u32
-    ensures { Told result needed.old needed.new (SmallChainTakes (by_weights (map small_word weights.now))
+    ensures { ChainTakesU16 result needed.old needed.new (by_weights (map (lowest 16) weights.now))
         (small_chain heads.old compressed.now count.old remainders.old rest.old)
-        (small_chain heads.new compressed.now count.new remainders.new rest.new) symbols.old symbols.new) }
+        (small_chain heads.new compressed.now count.new remainders.new rest.new) symbols.old symbols.new }
 {
     let mut both = heads.parts();
     let answer = decode_by_weights::<_, _, u16, 12>(
         alloc, &mut both, compressed, count, remainders, rest, weights, symbols,
-    );
-    *heads = ChainHeadsU16::of(both);
-    code_of(answer, needed)
-}
-
-/// Decodes symbols with a row of `width` weights for each symbol.
-///
-/// Calls [`decode`] and returns the code of its result ([`code_of`]).
-#[unsafe(no_mangle)]
-pub extern "C" fn constriction_chain_decode_each_u16(
-    alloc: Global,
-    heads: &mut ChainHeadsU16,
-    compressed: &[u16],
-    count: &mut usize,
-    remainders: &mut [u16],
-    rest: &mut usize,
-    weights: &[u16],
-    width: usize,
-    symbols: &mut [usize],
-    needed: &mut usize,
-) -> u32
-    ensures { Told result needed.old needed.new (SmallChainTakes (by_rows width (map small_word weights.now))
-        (small_chain heads.old compressed.now count.old remainders.old rest.old)
-        (small_chain heads.new compressed.now count.new remainders.new rest.new) symbols.old symbols.new) }
-{
-    let models = Rows { weights, width };
-    let mut both = heads.parts();
-    let answer = decode::<_, _, u16, Rows<'_, u16>, 12>(
-        alloc, &mut both, compressed, count, remainders, rest, &models, symbols,
-    );
-    *heads = ChainHeadsU16::of(both);
-    code_of(answer, needed)
-}
-
-/// Decodes symbols, each under the model of its own location and scale ([`Families`]).
-///
-/// Calls [`decode`] and returns the code of its result ([`code_of`]).
-#[unsafe(no_mangle)]
-pub extern "C" fn constriction_chain_decode_quantized_u16(
-    alloc: Global,
-    heads: &mut ChainHeadsU16,
-    compressed: &[u16],
-    count: &mut usize,
-    remainders: &mut [u16],
-    rest: &mut usize,
-    family: u32,
-    min: i32,
-    max: i32,
-    locations: &[i64],
-    scales: &[u32],
-    symbols: &mut [usize],
-    needed: &mut usize,
-) -> u32
-    ensures { Told result needed.old needed.new (SmallChainTakes (in_family family min max locations.now scales.now)
-        (small_chain heads.old compressed.now count.old remainders.old rest.old)
-        (small_chain heads.new compressed.now count.new remainders.new rest.new) symbols.old symbols.new) }
-{
-    let models = Families::new(family, min, max, locations, scales);
-    let mut both = heads.parts();
-    let answer = decode::<_, _, u16, Families<'_>, 12>(
-        alloc, &mut both, compressed, count, remainders, rest, &models, symbols,
-    );
-    *heads = ChainHeadsU16::of(both);
-    code_of(answer, needed)
-}
-
-/// Decodes symbols, each under its own mixture of a family's distributions ([`Mixtures`]).
-///
-/// Calls [`decode`] and returns the code of its result ([`code_of`]).
-#[unsafe(no_mangle)]
-pub extern "C" fn constriction_chain_decode_mixture_u16(
-    alloc: Global,
-    heads: &mut ChainHeadsU16,
-    compressed: &[u16],
-    count: &mut usize,
-    remainders: &mut [u16],
-    rest: &mut usize,
-    family: u32,
-    min: i32,
-    max: i32,
-    width: usize,
-    component_weights: &[u32],
-    locations: &[i64],
-    scales: &[u32],
-    symbols: &mut [usize],
-    needed: &mut usize,
-) -> u32
-    ensures { Told result needed.old needed.new (SmallChainTakes
-        (in_mixture family min max width component_weights.now locations.now scales.now)
-        (small_chain heads.old compressed.now count.old remainders.old rest.old)
-        (small_chain heads.new compressed.now count.new remainders.new rest.new) symbols.old symbols.new) }
-{
-    let components = Families::new(family, min, max, locations, scales);
-    let mixtures = Mixtures::new(components, component_weights, width);
-    let mut both = heads.parts();
-    let answer = decode::<_, _, u16, Mixtures<'_>, 12>(
-        alloc, &mut both, compressed, count, remainders, rest, &mixtures, symbols,
     );
     *heads = ChainHeadsU16::of(both);
     code_of(answer, needed)
@@ -191,138 +64,14 @@ pub extern "C" fn constriction_chain_encode_reverse_u16(
     symbols: &[usize],
     needed: &mut usize,
 ) -> u32
-    ensures { Told result needed.old needed.new (SmallChainPuts (by_weights (map small_word weights.now) symbols.now)
+    ensures { ChainPutsU16 result needed.old needed.new (by_weights (map (lowest 16) weights.now) symbols.now)
         (small_chain heads.old compressed.old count.old remainders.now rest.old)
-        (small_chain heads.new compressed.new count.new remainders.now rest.new)) }
+        (small_chain heads.new compressed.new count.new remainders.now rest.new) }
 {
     let models = Weights { weights };
     let mut both = heads.parts();
     let answer = encode_reverse::<_, _, u16, Weights<'_, u16>, 12>(
         alloc, &mut both, compressed, count, remainders, rest, &models, symbols,
-    );
-    *heads = ChainHeadsU16::of(both);
-    code_of(answer, needed)
-}
-
-/// Encodes symbols from the last to the first, with a row of `width` weights for each symbol.
-///
-/// Calls [`encode_reverse`] and returns the code of its result ([`code_of`]).
-#[unsafe(no_mangle)]
-pub extern "C" fn constriction_chain_encode_each_reverse_u16(
-    alloc: Global,
-    heads: &mut ChainHeadsU16,
-    compressed: &mut [u16],
-    count: &mut usize,
-    remainders: &[u16],
-    rest: &mut usize,
-    weights: &[u16],
-    width: usize,
-    symbols: &[usize],
-    needed: &mut usize,
-) -> u32
-    ensures { Told result needed.old needed.new (SmallChainPuts (by_rows width (map small_word weights.now) symbols.now)
-        (small_chain heads.old compressed.old count.old remainders.now rest.old)
-        (small_chain heads.new compressed.new count.new remainders.now rest.new)) }
-{
-    let models = Rows { weights, width };
-    let mut both = heads.parts();
-    let answer = encode_reverse::<_, _, u16, Rows<'_, u16>, 12>(
-        alloc, &mut both, compressed, count, remainders, rest, &models, symbols,
-    );
-    *heads = ChainHeadsU16::of(both);
-    code_of(answer, needed)
-}
-
-/// Encodes symbols from the last to the first, each under the model of its own location and scale ([`Families`]).
-///
-/// Calls [`encode_reverse`] and returns the code of its result ([`code_of`]).
-#[unsafe(no_mangle)]
-pub extern "C" fn constriction_chain_encode_quantized_reverse_u16(
-    alloc: Global,
-    heads: &mut ChainHeadsU16,
-    compressed: &mut [u16],
-    count: &mut usize,
-    remainders: &[u16],
-    rest: &mut usize,
-    family: u32,
-    min: i32,
-    max: i32,
-    locations: &[i64],
-    scales: &[u32],
-    symbols: &[usize],
-    needed: &mut usize,
-) -> u32
-    ensures { Told result needed.old needed.new (SmallChainPuts (in_family family min max locations.now scales.now
-        symbols.now) (small_chain heads.old compressed.old count.old remainders.now rest.old)
-        (small_chain heads.new compressed.new count.new remainders.now rest.new)) }
-{
-    let models = Families::new(family, min, max, locations, scales);
-    let mut both = heads.parts();
-    let answer = encode_reverse::<_, _, u16, Families<'_>, 12>(
-        alloc, &mut both, compressed, count, remainders, rest, &models, symbols,
-    );
-    *heads = ChainHeadsU16::of(both);
-    code_of(answer, needed)
-}
-
-/// Encodes symbols from the last to the first, each under its own mixture of a family's distributions ([`Mixtures`]).
-///
-/// Calls [`encode_reverse`] and returns the code of its result ([`code_of`]).
-#[unsafe(no_mangle)]
-pub extern "C" fn constriction_chain_encode_mixture_reverse_u16(
-    alloc: Global,
-    heads: &mut ChainHeadsU16,
-    compressed: &mut [u16],
-    count: &mut usize,
-    remainders: &[u16],
-    rest: &mut usize,
-    family: u32,
-    min: i32,
-    max: i32,
-    width: usize,
-    component_weights: &[u32],
-    locations: &[i64],
-    scales: &[u32],
-    symbols: &[usize],
-    needed: &mut usize,
-) -> u32
-    ensures { Told result needed.old needed.new (SmallChainPuts
-        (in_mixture family min max width component_weights.now locations.now scales.now symbols.now)
-        (small_chain heads.old compressed.old count.old remainders.now rest.old)
-        (small_chain heads.new compressed.new count.new remainders.now rest.new)) }
-{
-    let components = Families::new(family, min, max, locations, scales);
-    let mixtures = Mixtures::new(components, component_weights, width);
-    let mut both = heads.parts();
-    let answer = encode_reverse::<_, _, u16, Mixtures<'_>, 12>(
-        alloc, &mut both, compressed, count, remainders, rest, &mixtures, symbols,
-    );
-    *heads = ChainHeadsU16::of(both);
-    code_of(answer, needed)
-}
-
-/// Encodes intervals from the last to the first. Interval `i` begins at `lefts[i]`, and its length is `ps[i]`.
-///
-/// Calls [`encode_intervals_reverse`] and returns the code of its result ([`code_of`]).
-#[unsafe(no_mangle)]
-pub extern "C" fn constriction_chain_encode_intervals_reverse_u16(
-    alloc: Global,
-    heads: &mut ChainHeadsU16,
-    compressed: &mut [u16],
-    count: &mut usize,
-    remainders: &[u16],
-    rest: &mut usize,
-    lefts: &[u16],
-    ps: &[u16],
-    needed: &mut usize,
-) -> u32
-    ensures { Told result needed.old needed.new (SmallChainPuts (as_intervals (map small_word lefts.now)
-        (map small_word ps.now)) (small_chain heads.old compressed.old count.old remainders.now rest.old)
-        (small_chain heads.new compressed.new count.new remainders.now rest.new)) }
-{
-    let mut both = heads.parts();
-    let answer = encode_intervals_reverse::<_, _, u16, 12>(
-        alloc, &mut both, compressed, count, remainders, rest, lefts, ps,
     );
     *heads = ChainHeadsU16::of(both);
     code_of(answer, needed)
@@ -338,47 +87,10 @@ pub extern "C" fn constriction_chain_from_compressed_u16(
     count: &mut usize,
     heads: &mut ChainHeadsU16,
 ) -> u32
-    ensures { SmallChainBegins InCompressed words.now heads.old count.old heads.new count.new
-        (answer_by_code result 0) }
+    ensures { ChainBeginsU16 result InCompressed words.now heads.old count.old heads.new count.new }
 {
     let mut both = heads.parts();
     let answer = from_compressed::<_, _, 12>(alloc, words, &mut both, count);
-    *heads = ChainHeadsU16::of(both);
-    code_without_space(answer)
-}
-
-/// Imports a coder from compressed words in binary form. The coder has no words of remainders below its heads.
-///
-/// Calls [`from_binary`] and returns the code of its result ([`code_of`]).
-#[unsafe(no_mangle)]
-pub extern "C" fn constriction_chain_from_binary_u16(
-    alloc: Global,
-    words: &[u16],
-    count: &mut usize,
-    heads: &mut ChainHeadsU16,
-) -> u32
-    ensures { SmallChainBegins InBinary words.now heads.old count.old heads.new count.new (answer_by_code result 0) }
-{
-    let mut both = heads.parts();
-    let answer = from_binary::<_, _, 12>(alloc, words, &mut both, count);
-    *heads = ChainHeadsU16::of(both);
-    code_without_space(answer)
-}
-
-/// Imports a coder from the words of remainders. The coder has no compressed words below its heads.
-///
-/// Calls [`from_remainders`] and returns the code of its result ([`code_of`]).
-#[unsafe(no_mangle)]
-pub extern "C" fn constriction_chain_from_remainders_u16(
-    alloc: Global,
-    words: &[u16],
-    rest: &mut usize,
-    heads: &mut ChainHeadsU16,
-) -> u32
-    ensures { SmallChainBegins InRemainders words.now heads.old rest.old heads.new rest.new (answer_by_code result 0) }
-{
-    let mut both = heads.parts();
-    let answer = from_remainders::<_, _, 12>(alloc, words, &mut both, rest);
     *heads = ChainHeadsU16::of(both);
     code_without_space(answer)
 }
@@ -394,45 +106,9 @@ pub extern "C" fn constriction_chain_into_compressed_u16(
     count: &mut usize,
     needed: &mut usize,
 ) -> u32
-    ensures { Told result needed.old needed.new (SmallChainEnds InCompressed heads.now
-        compressed.old count.old compressed.new count.new) }
+    ensures { ChainEndsU16 result needed.old needed.new InCompressed heads.now compressed.old count.old compressed.new
+        count.new }
 {
     let answer = into_compressed::<_, _, 12>(alloc, &heads.parts(), compressed, count);
-    code_of(answer, needed)
-}
-
-/// Exports the binary form: appends the remainders head's bits below its leading 1 to the compressed words.
-///
-/// Calls [`into_binary`] and returns the code of its result ([`code_of`]).
-#[unsafe(no_mangle)]
-pub extern "C" fn constriction_chain_into_binary_u16(
-    alloc: Global,
-    heads: &ChainHeadsU16,
-    compressed: &mut [u16],
-    count: &mut usize,
-    needed: &mut usize,
-) -> u32
-    ensures { Told result needed.old needed.new (SmallChainEnds InBinary heads.now
-        compressed.old count.old compressed.new count.new) }
-{
-    let answer = into_binary::<_, _, 12>(alloc, &heads.parts(), compressed, count);
-    code_of(answer, needed)
-}
-
-/// Exports remainders: writes the words of both heads after the first `rest` words of `remainders`.
-///
-/// Calls [`into_remainders`] and returns the code of its result ([`code_of`]).
-#[unsafe(no_mangle)]
-pub extern "C" fn constriction_chain_into_remainders_u16(
-    alloc: Global,
-    heads: &ChainHeadsU16,
-    remainders: &mut [u16],
-    rest: &mut usize,
-    needed: &mut usize,
-) -> u32
-    ensures { Told result needed.old needed.new (SmallChainEnds InRemainders heads.now
-        remainders.old rest.old remainders.new rest.new) }
-{
-    let answer = into_remainders::<_, _, 12>(alloc, &heads.parts(), remainders, rest);
     code_of(answer, needed)
 }

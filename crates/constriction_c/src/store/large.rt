@@ -1,9 +1,6 @@
 //! Stores with 32-bit words, 64-bit states and a precision of 24 bits.
 
-ghost use Rattle.std.specs.Prelude.{map};
-ghost use Rattle.constriction_c.specs.Large.{large_word, large_state};
-ghost use Rattle.constriction_c.specs.Codes.{Told, answer_by_code};
-ghost use Rattle.constriction_calls.specs.StoreCalls.{StoreBuilds, StoreGives};
+ghost use Rattle.constriction_c.specs.Large.{StoreBuildsU32, StoreGivesU32};
 
 use crate::codes::{code_of, code_without_space};
 use constriction_calls::store::{build, chunk};
@@ -25,10 +22,8 @@ pub extern "C" fn constriction_store_build_u32(
     lengths: &[usize],
     needed: &mut usize,
 ) -> u32
-    ensures { Told result needed.old needed.new
-        (StoreBuilds large_word large_state 32 64 24 (map large_word weights.now) symbols.now lengths.now record
-        { positions = positions.old; lowers = lowers.old; ranges = ranges.old; words = words.old; len = len.old } record
-        { positions = positions.new; lowers = lowers.new; ranges = ranges.new; words = words.new; len = len.new }) }
+    ensures { StoreBuildsU32 result needed.old needed.new weights.now symbols.now lengths.now words.old len.old
+        positions.old lowers.old ranges.old words.new len.new positions.new lowers.new ranges.new }
 {
     code_of(
         build::<_, _, _, 24>(
@@ -54,8 +49,7 @@ pub extern "C" fn constriction_store_chunk_u32(
     weights: &[u32],
     symbols: &mut [usize],
 ) -> u32
-    ensures { StoreGives large_state 32 64 24 (map large_word weights.now)
-        (map large_word words.now) pos lower range symbols.old symbols.new (answer_by_code result 0) }
+    ensures { StoreGivesU32 result weights.now words.now pos lower range symbols.old symbols.new }
 {
     code_without_space(chunk::<u32, _, _, 24>(alloc, words, pos, lower, range, weights, symbols))
 }

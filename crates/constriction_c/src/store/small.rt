@@ -1,10 +1,7 @@
 // Written by tools/sizes from large.rt.
 //! Stores with 16-bit words, 32-bit states and a precision of 12 bits.
 
-ghost use Rattle.std.specs.Prelude.{map};
-ghost use Rattle.constriction_c.specs.Small.{small_word, small_state};
-ghost use Rattle.constriction_c.specs.Codes.{Told, answer_by_code};
-ghost use Rattle.constriction_calls.specs.StoreCalls.{StoreBuilds, StoreGives};
+ghost use Rattle.constriction_c.specs.Small.{StoreBuildsU16, StoreGivesU16};
 
 use crate::codes::{code_of, code_without_space};
 use constriction_calls::store::{build, chunk};
@@ -26,10 +23,8 @@ pub extern "C" fn constriction_store_build_u16(
     lengths: &[usize],
     needed: &mut usize,
 ) -> u32
-    ensures { Told result needed.old needed.new
-        (StoreBuilds small_word small_state 16 32 12 (map small_word weights.now) symbols.now lengths.now record
-        { positions = positions.old; lowers = lowers.old; ranges = ranges.old; words = words.old; len = len.old } record
-        { positions = positions.new; lowers = lowers.new; ranges = ranges.new; words = words.new; len = len.new }) }
+    ensures { StoreBuildsU16 result needed.old needed.new weights.now symbols.now lengths.now words.old len.old
+        positions.old lowers.old ranges.old words.new len.new positions.new lowers.new ranges.new }
 {
     code_of(
         build::<_, _, _, 12>(
@@ -55,8 +50,7 @@ pub extern "C" fn constriction_store_chunk_u16(
     weights: &[u16],
     symbols: &mut [usize],
 ) -> u32
-    ensures { StoreGives small_state 16 32 12 (map small_word weights.now)
-        (map small_word words.now) pos lower range symbols.old symbols.new (answer_by_code result 0) }
+    ensures { StoreGivesU16 result weights.now words.now pos lower range symbols.old symbols.new }
 {
     code_without_space(chunk::<u16, _, _, 12>(alloc, words, pos, lower, range, weights, symbols))
 }

@@ -1,0 +1,9 @@
+use Rattle.std.proofs.Common.{w32}
+use Rattle.std.proofs.lemmas.Int.{to_z-of_z}
+use Rattle.constriction_c.proofs.Told.{mixture_is, puts_told}
+use Rattle.constriction_c.proofs.range.large_kinds.constriction_range_encode_mixture_u32.Goals as goal
+
+pub returns : goal.returns
+returns c =
+    puts_told c.code_of.result c.args.needed.now c.code_of.new.needed (mixture_is c.new-components.ensures.numbers c.new-components.ensures.lists c.new-mixtures.ensures (to_z-of_z w32 c.args.min c.ranges.min) (to_z-of_z w32 c.args.max c.ranges.max)) c.parts-parts.ensures c.of.ensures
+    c.code_of.ensures.code c.code_of.ensures.needed c.encode-answer.ensures.call

@@ -1,0 +1,32 @@
+// Written by tools/sizes from large_parts.rt.
+//! The structs as the types that the calls of `constriction_calls` take.
+
+ghost use Rattle.constriction_c.specs.Small.{small_heads};
+ghost use Rattle.std.specs.Prelude.{◌≡◌};
+
+use crate::chain::small::ChainHeadsU16;
+use constriction_calls::chain::ChainHeads;
+
+impl ChainHeadsU16 {
+    /// Returns the numbers as the type that the calls of `constriction_calls` take.
+    #[inline]
+    pub fn parts(&self) -> ChainHeads<u16, u32>
+        ensures { result ≡ small_heads self.now }
+    {
+        ChainHeads {
+            remainders: self.remainders,
+            compressed: self.compressed,
+        }
+    }
+
+    /// Makes the struct from `parts`, which a call of `constriction_calls` has set or returned.
+    #[inline]
+    pub fn of(parts: ChainHeads<u16, u32>) -> Self
+        ensures { small_heads result ≡ parts }
+    {
+        ChainHeadsU16 {
+            remainders: parts.remainders,
+            compressed: parts.compressed,
+        }
+    }
+}

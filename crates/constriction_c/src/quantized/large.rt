@@ -1,0 +1,49 @@
+//! Intervals under the models of families, and weights from counts, with 32-bit words and a precision of 24 bits.
+
+ghost use Rattle.std.specs.Prelude.{map};
+ghost use Rattle.constriction_c.specs.Codes.{answer_by_code};
+ghost use Rattle.constriction_c.specs.Large.{GivesIntervalsU32};
+ghost use Rattle.constriction_c.specs.Words.{lowest};
+ghost use Rattle.constriction_inputs.specs.QuantizedCalls.{GivesWeightsOfCounts};
+
+use crate::codes::code_without_space;
+use constriction_inputs::models::Families;
+use constriction_inputs::quantized::counts::put_weights_of_counts;
+use constriction_inputs::quantized::intervals::intervals_of_quantized;
+use std::alloc::Global;
+
+/// Writes the interval of each symbol under the symbol's own location and scale, at a precision of 24 bits.
+///
+/// Calls [`intervals_of_quantized`] and returns the code of its result ([`code_of`](crate::codes::code_of)).
+#[unsafe(no_mangle)]
+pub extern "C" fn constriction_quantized_intervals_u32(
+    family: u32,
+    min: i32,
+    max: i32,
+    locations: &[i64],
+    scales: &[u32],
+    symbols: &[usize],
+    lefts: &mut [u32],
+    ps: &mut [u32],
+) -> u32
+    ensures { GivesIntervalsU32 result family min max locations.now scales.now symbols.now lefts.old ps.old lefts.new
+        ps.new }
+{
+    let models = Families::new(family, min, max, locations, scales);
+    code_without_space(intervals_of_quantized::<u32, 24>(&models, symbols, lefts, ps))
+}
+
+/// Writes a weight for each count, in proportion to the count apart from rounding. The weights add up to `2^24`.
+///
+/// Calls [`put_weights_of_counts`] and returns the code of its result ([`code_of`](crate::codes::code_of)).
+#[unsafe(no_mangle)]
+pub extern "C" fn constriction_weights_of_counts_u32(
+    alloc: Global,
+    counts: &[u64],
+    weights: &mut [u32],
+) -> u32
+    ensures { GivesWeightsOfCounts 24 counts.now (map (lowest 32) weights.old) (map (lowest 32) weights.new)
+        (answer_by_code result 0) }
+{
+    code_without_space(put_weights_of_counts::<u32, 24>(alloc, counts, weights))
+}

@@ -1,0 +1,217 @@
+// Written by tools/sizes from large.rt.
+//! The same calls with other kinds of models, codewords and words.
+
+ghost use Rattle.constriction_c.specs.Large.{RangeEndsU32, RangePutsU32, RangeTakesU32, intervals_from_u32};
+ghost use Rattle.constriction_c.specs.Words.{lowest};
+ghost use Rattle.constriction_calls.specs.RangeCalls.{IsSelfSealed, RangeSeals};
+ghost use Rattle.constriction_inputs.specs.Mixtures.{in_mixture};
+ghost use Rattle.constriction_inputs.specs.Quantized.{in_family};
+ghost use Rattle.constriction_inputs.specs.Rows.{by_rows};
+ghost use Rattle.std.specs.Prelude.{map};
+
+use crate::codes::{code_of, code_without_space};
+use crate::range::large::{RangeDecoderU32, RangeEncoderU32};
+use constriction_calls::range::decoding::decode;
+use constriction_calls::range::encoding::{encode, encode_intervals};
+use constriction_calls::range::words::into_self_delimited;
+use constriction_inputs::models::{Families, Mixtures, Rows};
+use std::alloc::Global;
+
+/// Encodes symbols in order, with a row of `width` weights for each symbol.
+///
+/// Calls [`encode`] and returns the code of its result ([`code_of`]).
+#[unsafe(no_mangle)]
+pub extern "C" fn constriction_range_encode_each_u32(
+    alloc: Global,
+    encoder: &mut RangeEncoderU32,
+    words: &mut [u32],
+    len: &mut usize,
+    weights: &[u32],
+    width: usize,
+    symbols: &[usize],
+    needed: &mut usize,
+) -> u32
+    ensures { RangePutsU32 result needed.old needed.new (by_rows width (map (lowest 32) weights.now)) symbols.now
+        encoder.old words.old len.old encoder.new words.new len.new }
+{
+    let rows = Rows { weights, width };
+    let mut parts = encoder.parts();
+    let answer = encode::<_, _, u32, _, 24>(alloc, &mut parts, words, len, &rows, symbols);
+    *encoder = RangeEncoderU32::of(parts);
+    code_of(answer, needed)
+}
+
+/// Decodes symbols in order, with a row of `width` weights for each symbol.
+///
+/// Calls [`decode`] and returns the code of its result ([`code_of`]).
+#[unsafe(no_mangle)]
+pub extern "C" fn constriction_range_decode_each_u32(
+    alloc: Global,
+    decoder: &mut RangeDecoderU32,
+    words: &[u32],
+    weights: &[u32],
+    width: usize,
+    symbols: &mut [usize],
+) -> u32
+    ensures { RangeTakesU32 result (by_rows width (map (lowest 32) weights.now)) words.now decoder.old decoder.new
+        symbols.old symbols.new }
+{
+    let rows = Rows { weights, width };
+    let mut parts = decoder.parts();
+    let answer = decode::<_, _, u32, _, 24>(alloc, &mut parts, words, &rows, symbols);
+    *decoder = RangeDecoderU32::of(parts);
+    code_without_space(answer)
+}
+
+/// Encodes intervals in order. Interval `i` begins at `lefts[i]`, and its length is `ps[i]`.
+///
+/// Calls [`encode_intervals`] and returns the code of its result ([`code_of`]).
+#[unsafe(no_mangle)]
+pub extern "C" fn constriction_range_encode_intervals_u32(
+    alloc: Global,
+    encoder: &mut RangeEncoderU32,
+    words: &mut [u32],
+    len: &mut usize,
+    lefts: &[u32],
+    ps: &[u32],
+    needed: &mut usize,
+) -> u32
+    ensures { RangePutsU32 result needed.old needed.new (intervals_from_u32 lefts.now) (map (lowest 32) ps.now)
+        encoder.old words.old len.old encoder.new words.new len.new }
+{
+    let mut parts = encoder.parts();
+    let answer = encode_intervals::<_, _, u32, 24>(alloc, &mut parts, words, len, lefts, ps);
+    *encoder = RangeEncoderU32::of(parts);
+    code_of(answer, needed)
+}
+
+/// Encodes symbols in order, each under the model of its own location and scale ([`Families`]).
+///
+/// Calls [`encode`] and returns the code of its result ([`code_of`]).
+#[unsafe(no_mangle)]
+pub extern "C" fn constriction_range_encode_quantized_u32(
+    alloc: Global,
+    encoder: &mut RangeEncoderU32,
+    words: &mut [u32],
+    len: &mut usize,
+    family: u32,
+    min: i32,
+    max: i32,
+    locations: &[i64],
+    scales: &[u32],
+    symbols: &[usize],
+    needed: &mut usize,
+) -> u32
+    ensures { RangePutsU32 result needed.old needed.new (in_family family min max locations.now scales.now) symbols.now
+        encoder.old words.old len.old encoder.new words.new len.new }
+{
+    let models = Families::new(family, min, max, locations, scales);
+    let mut parts = encoder.parts();
+    let answer = encode::<_, _, u32, _, 24>(alloc, &mut parts, words, len, &models, symbols);
+    *encoder = RangeEncoderU32::of(parts);
+    code_of(answer, needed)
+}
+
+/// Decodes symbols in order, each under the model of its own location and scale ([`Families`]).
+///
+/// Calls [`decode`] and returns the code of its result ([`code_of`]).
+#[unsafe(no_mangle)]
+pub extern "C" fn constriction_range_decode_quantized_u32(
+    alloc: Global,
+    decoder: &mut RangeDecoderU32,
+    words: &[u32],
+    family: u32,
+    min: i32,
+    max: i32,
+    locations: &[i64],
+    scales: &[u32],
+    symbols: &mut [usize],
+) -> u32
+    ensures { RangeTakesU32 result (in_family family min max locations.now scales.now) words.now decoder.old decoder.new
+        symbols.old symbols.new }
+{
+    let models = Families::new(family, min, max, locations, scales);
+    let mut parts = decoder.parts();
+    let answer = decode::<_, _, u32, _, 24>(alloc, &mut parts, words, &models, symbols);
+    *decoder = RangeDecoderU32::of(parts);
+    code_without_space(answer)
+}
+
+/// Encodes symbols in order, each under its own mixture of a family's distributions ([`Mixtures`]).
+///
+/// Calls [`encode`] and returns the code of its result ([`code_of`]).
+#[unsafe(no_mangle)]
+pub extern "C" fn constriction_range_encode_mixture_u32(
+    alloc: Global,
+    encoder: &mut RangeEncoderU32,
+    words: &mut [u32],
+    len: &mut usize,
+    family: u32,
+    min: i32,
+    max: i32,
+    width: usize,
+    component_weights: &[u32],
+    locations: &[i64],
+    scales: &[u32],
+    symbols: &[usize],
+    needed: &mut usize,
+) -> u32
+    ensures { RangePutsU32 result needed.old needed.new
+        (in_mixture family min max width component_weights.now locations.now scales.now) symbols.now encoder.old
+        words.old len.old encoder.new words.new len.new }
+{
+    let components = Families::new(family, min, max, locations, scales);
+    let mixtures = Mixtures::new(components, component_weights, width);
+    let mut parts = encoder.parts();
+    let answer = encode::<_, _, u32, _, 24>(alloc, &mut parts, words, len, &mixtures, symbols);
+    *encoder = RangeEncoderU32::of(parts);
+    code_of(answer, needed)
+}
+
+/// Decodes symbols in order, each under its own mixture of a family's distributions ([`Mixtures`]).
+///
+/// Calls [`decode`] and returns the code of its result ([`code_of`]).
+#[unsafe(no_mangle)]
+pub extern "C" fn constriction_range_decode_mixture_u32(
+    alloc: Global,
+    decoder: &mut RangeDecoderU32,
+    words: &[u32],
+    family: u32,
+    min: i32,
+    max: i32,
+    width: usize,
+    component_weights: &[u32],
+    locations: &[i64],
+    scales: &[u32],
+    symbols: &mut [usize],
+) -> u32
+    ensures { RangeTakesU32 result (in_mixture family min max width component_weights.now locations.now scales.now)
+        words.now decoder.old decoder.new symbols.old symbols.new }
+{
+    let components = Families::new(family, min, max, locations, scales);
+    let mixtures = Mixtures::new(components, component_weights, width);
+    let mut parts = decoder.parts();
+    let answer = decode::<_, _, u32, _, 24>(alloc, &mut parts, words, &mixtures, symbols);
+    *decoder = RangeDecoderU32::of(parts);
+    code_without_space(answer)
+}
+
+/// Writes the words that the encoder holds back, and a self-delimiting seal, after the first `len` words of `words`.
+///
+/// A state is two words wide, so this function writes the same words as `constriction_range_into_compressed_u32`.
+///
+/// Calls [`into_self_delimited`] and returns the code of its result ([`code_of`]).
+#[unsafe(no_mangle)]
+pub extern "C" fn constriction_range_into_self_delimited_u32(
+    alloc: Global,
+    encoder: &RangeEncoderU32,
+    words: &mut [u32],
+    len: &mut usize,
+    needed: &mut usize,
+) -> u32
+    ensures { RangeEndsU32 result needed.old needed.new (RangeSeals (lowest 32) (lowest 64) 32 64 (IsSelfSealed 32 64))
+        encoder.now words.old len.old words.new len.new }
+{
+    let answer = into_self_delimited(alloc, &encoder.parts(), words, len);
+    code_of(answer, needed)
+}

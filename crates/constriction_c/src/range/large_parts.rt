@@ -1,0 +1,64 @@
+// Written by tools/sizes from large.rt.
+//! The structs as the types that the calls of `constriction_calls` take.
+
+ghost use Rattle.constriction_c.specs.Large.{large_decoder, large_encoder};
+ghost use Rattle.std.specs.Prelude.{◌≡◌};
+
+use crate::range::large::{RangeDecoderU32, RangeEncoderU32};
+use constriction_calls::range::parts::{DecoderParts, EncoderParts};
+
+impl RangeEncoderU32 {
+    /// Returns the numbers as the type that the calls of `constriction_calls` take.
+    #[inline]
+    pub fn parts(&self) -> EncoderParts<u32, u64>
+        ensures { result ≡ large_encoder self.now }
+    {
+        EncoderParts {
+            lower: self.lower,
+            range: self.range,
+            held: self.held,
+            first: self.first,
+        }
+    }
+
+    /// Makes the struct from `parts`, which a call of `constriction_calls` has set or returned.
+    #[inline]
+    pub fn of(parts: EncoderParts<u32, u64>) -> Self
+        ensures { large_encoder result ≡ parts }
+    {
+        RangeEncoderU32 {
+            lower: parts.lower,
+            range: parts.range,
+            held: parts.held,
+            first: parts.first,
+        }
+    }
+}
+
+impl RangeDecoderU32 {
+    /// Returns the numbers as the type that the calls of `constriction_calls` take.
+    #[inline]
+    pub fn parts(&self) -> DecoderParts<u64>
+        ensures { result ≡ large_decoder self.now }
+    {
+        DecoderParts {
+            lower: self.lower,
+            range: self.range,
+            point: self.point,
+            pos: self.pos,
+        }
+    }
+
+    /// Makes the struct from `parts`, which a call of `constriction_calls` has set or returned.
+    #[inline]
+    pub fn of(parts: DecoderParts<u64>) -> Self
+        ensures { large_decoder result ≡ parts }
+    {
+        RangeDecoderU32 {
+            lower: parts.lower,
+            range: parts.range,
+            point: parts.point,
+            pos: parts.pos,
+        }
+    }
+}

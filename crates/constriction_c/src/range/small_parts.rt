@@ -1,0 +1,64 @@
+// Written by tools/sizes from large_parts.rt.
+//! The structs as the types that the calls of `constriction_calls` take.
+
+ghost use Rattle.constriction_c.specs.Small.{small_decoder, small_encoder};
+ghost use Rattle.std.specs.Prelude.{◌≡◌};
+
+use crate::range::small::{RangeDecoderU16, RangeEncoderU16};
+use constriction_calls::range::parts::{DecoderParts, EncoderParts};
+
+impl RangeEncoderU16 {
+    /// Returns the numbers as the type that the calls of `constriction_calls` take.
+    #[inline]
+    pub fn parts(&self) -> EncoderParts<u16, u32>
+        ensures { result ≡ small_encoder self.now }
+    {
+        EncoderParts {
+            lower: self.lower,
+            range: self.range,
+            held: self.held,
+            first: self.first,
+        }
+    }
+
+    /// Makes the struct from `parts`, which a call of `constriction_calls` has set or returned.
+    #[inline]
+    pub fn of(parts: EncoderParts<u16, u32>) -> Self
+        ensures { small_encoder result ≡ parts }
+    {
+        RangeEncoderU16 {
+            lower: parts.lower,
+            range: parts.range,
+            held: parts.held,
+            first: parts.first,
+        }
+    }
+}
+
+impl RangeDecoderU16 {
+    /// Returns the numbers as the type that the calls of `constriction_calls` take.
+    #[inline]
+    pub fn parts(&self) -> DecoderParts<u32>
+        ensures { result ≡ small_decoder self.now }
+    {
+        DecoderParts {
+            lower: self.lower,
+            range: self.range,
+            point: self.point,
+            pos: self.pos,
+        }
+    }
+
+    /// Makes the struct from `parts`, which a call of `constriction_calls` has set or returned.
+    #[inline]
+    pub fn of(parts: DecoderParts<u32>) -> Self
+        ensures { small_decoder result ≡ parts }
+    {
+        RangeDecoderU16 {
+            lower: parts.lower,
+            range: parts.range,
+            point: parts.point,
+            pos: parts.pos,
+        }
+    }
+}

@@ -1,0 +1,197 @@
+"""What tools/sizes writes beside a file large.rt of constriction_c: functions that differ from the file's in a few texts
+(large_kinds.rt), and the impls of its structs (large_parts.rt).
+
+A change says how one function becomes another: regexes, in order, each with the text that replaces what it finds.
+"""
+
+import re
+import textwrap
+
+
+def of_models(name, says, parameters, models, lets, kind, variable):
+    """The change from a call with one table of weights to the call with another kind of models."""
+    return {
+        r"_(encode|decode)_": rf"_\1_{name}_",
+        r"(,?) with one table of weights for all symbols": says,
+        r"    weights: &\[u32\],\n": "".join(f"    {it},\n" for it in parameters.split(", ")),
+        r"by_weights \(map \(lowest 32\) weights\.now\)": models,
+        r"    let models = .*\n": "",
+        r"\n\{\n": "\n{\n" + "".join(f"    {it};\n" for it in lets.split("; ")),
+        r"_by_weights(.*) 24>\(\n": rf"\1 {kind}, 24>(\n",
+        r"_by_weights(.*) 24>": r"\1 _, 24>",
+        r"_by_weights": "",
+        r"Weights<'_, u32>": kind,
+        r"(weights|&models), symbols(?=[,)])": f"&{variable}, symbols",
+    }
+
+
+EACH = of_models(
+    "each", r"\1 with a row of `width` weights for each symbol", "weights: &[u32], width: usize",
+    "by_rows width (map (lowest 32) weights.now)", "let rows = Rows { weights, width }", "Rows<'_, u32>", "rows",
+)
+QUANTIZED = of_models(
+    "quantized", ", each under the model of its own location and scale ([`Families`])",
+    "family: u32, min: i32, max: i32, locations: &[i64], scales: &[u32]", "in_family family min max locations.now scales.now",
+    "let models = Families::new(family, min, max, locations, scales)", "Families<'_>", "models",
+)
+MIXTURE = of_models(
+    "mixture", ", each under its own mixture of a family's distributions ([`Mixtures`])",
+    "family: u32, min: i32, max: i32, width: usize, component_weights: &[u32], locations: &[i64], scales: &[u32]",
+    "in_mixture family min max width component_weights.now locations.now scales.now",
+    "let components = Families::new(family, min, max, locations, scales); "
+    "let mixtures = Mixtures::new(components, component_weights, width)", "Mixtures<'_>", "mixtures",
+)
+INTERVALS = {
+    r"_encode_": "_encode_intervals_",
+    r"symbols (.*), with .*": r"intervals \1. Interval `i` begins at `lefts[i]`, and its length is `ps[i]`.",
+    r"weights: &\[u32\],\n    symbols: &\[usize\],": "lefts: &[u32],\n    ps: &[u32],",
+    r"by_weights \(map \(lowest 32\) weights\.now\)": "intervals_from_u32 lefts.now",
+    r"symbols\.now": "(map (lowest 32) ps.now)",
+    r"    let models = .*\n": "",
+    r"\bencode(_reverse)?\b": r"encode_intervals\1",
+    r"[^ ]*( u32>)?, 24>(\(\n?.*)&models, symbols": r"24>\2lefts, ps",
+}
+ANS_BINARY = {
+    r"Exports .*": "Exports the binary form: writes the bits of the head below its leading 1 after the first `len` words of `words`.",
+    r"into_compressed": "into_binary", r"\(AreCompressed 32\) \(.*?\)": "(AreBinary 32) (HasBinary 32)",
+}
+BINARY = {
+    r"from compressed words": "from compressed words in binary form",
+    r"Exports .*": "Exports the binary form: appends the remainders head's bits below its leading 1 to the compressed words.",
+    r"_compressed": "_binary", r"InCompressed": "InBinary",
+}
+REMAINDERS = {
+    r"from compressed words\. .*": "from the words of remainders. The coder has no compressed words below its heads.",
+    r"Exports .*": "Exports remainders: writes the words of both heads after the first `rest` words of `remainders`.",
+    r"_compressed": "_remainders", r"InCompressed": "InRemainders", r"\bcompressed(?=[:.,)])": "remainders", r"\bcount\b": "rest",
+}
+SELF_DELIMITED = {
+    r"into_compressed": "into_self_delimited", r"IsSealed": "IsSelfSealed", r"and a seal(.*\n.*\n)": r"and a self-delimiting seal\1"
+    "/// A state is two words wide, so this function writes the same words as `constriction_range_into_compressed_u32`.\n///\n",
+}
+STACK = {r"_queue": "_stack", r"AsQueue": "AsStack", r"a queue": "a stack", r"in order": "from the last to the first"}
+HUFFMAN = {
+    r"exp_golomb": "huffman", r"numbers": "symbols", r"alloc: Global,": "alloc: Global,\n    weights: &[u32],",
+    r"with Exp-Golomb codewords, from": "with the Huffman tree of the weights, from",
+    r"with Exp-Golomb codewords": "with the Huffman tree of `weights`", r"symbols: &(mut )?\[u32\]": r"symbols: &\1[usize]",
+    r"\(lowest 32\)": "(λ s. s)", r"OfNumbers 32": "OfWeights 32 (map (lowest 32) weights.now)",
+    r"ExpGolomb::<u32>::new\(\)": "Tree { weights }",
+}
+
+# What is written for each module: the change of each function whose name has this end. The function is one of large.rt,
+# or written by a change before.
+CODED = [("(encode|decode)(_reverse)?_u32", EACH), ("encode(_reverse)?_u32", INTERVALS),
+         ("(encode|decode)(_reverse)?_u32", QUANTIZED), ("(encode|decode)(_reverse)?_u32", MIXTURE)]
+KINDS = {
+    "ans": [*CODED, ("into_compressed_u32", ANS_BINARY)],
+    "chain": [*CODED, ("_compressed_u32", BINARY), ("_compressed_u32", REMAINDERS)],
+    "range": [*CODED, ("into_compressed_u32", SELF_DELIMITED)],
+    "symbol": [("queue_u32", STACK), ("exp_golomb.*", HUFFMAN)],
+}
+# What the written files may need beyond the imports of large.rt.
+IMPORTS = """
+ghost use Rattle.constriction_c.specs.Large.{intervals_from_u32, large_decoder, large_encoder, large_heads};
+ghost use Rattle.constriction_calls.specs.AnsCalls.{AreBinary, HasBinary};
+ghost use Rattle.constriction_calls.specs.ChainWords.{InBinary, InRemainders};
+ghost use Rattle.constriction_calls.specs.RangeCalls.{IsSelfSealed};
+ghost use Rattle.constriction_calls.specs.SymbolCalls.{AsStack, OfWeights};
+ghost use Rattle.constriction_inputs.specs.Mixtures.{in_mixture};
+ghost use Rattle.constriction_inputs.specs.Quantized.{in_family};
+ghost use Rattle.constriction_inputs.specs.Rows.{by_rows};
+ghost use Rattle.std.specs.Prelude.{◌≡◌, map};
+use constriction_calls::ans::decoding::decode;
+use constriction_calls::ans::encoding::encode_intervals_reverse;
+use constriction_calls::ans::words::into_binary;
+use constriction_calls::chain::{ChainHeads, decode, encode_intervals_reverse};
+use constriction_calls::chain::{from_binary, from_remainders, into_binary, into_remainders};
+use constriction_calls::range::decoding::decode;
+use constriction_calls::range::encoding::encode_intervals;
+use constriction_calls::range::parts::{DecoderParts, EncoderParts};
+use constriction_calls::range::words::into_self_delimited;
+use constriction_calls::symbol::{Tree, decode_stack, encode_stack};
+use constriction_inputs::models::{Families, Mixtures, Rows};
+"""
+
+# The structs: the type of constriction_calls with the same fields, and the definition that makes it of the struct.
+STRUCTS = {
+    "ChainHeadsU32": ("ChainHeads<u32, u64>", "large_heads"),
+    "RangeEncoderU32": ("EncoderParts<u32, u64>", "large_encoder"),
+    "RangeDecoderU32": ("DecoderParts<u64>", "large_decoder"),
+}
+PARTS = """impl {name} {{
+    /// Returns the numbers as the type that the calls of `constriction_calls` take.
+    #[inline]
+    pub fn parts(&self) -> {type}
+        ensures {{ result ≡ {value} self.now }}
+    {{
+        {made} {{
+{taken}
+        }}
+    }}
+
+    /// Makes the struct from `parts`, which a call of `constriction_calls` has set or returned.
+    #[inline]
+    pub fn of(parts: {type}) -> Self
+        ensures {{ {value} result ≡ parts }}
+    {{
+        {name} {{
+{put}
+        }}
+    }}
+}}"""
+
+
+def changed(function, change):
+    """A function after a change, with its clause in lines of at most 120 characters that break no brackets."""
+    for regex, text in change.items():
+        function = re.sub(regex, text, function)
+    head, clause, body = re.split(r"\n    ensures |(?<=\})\n(?=\{)", function)
+    brackets = r"\((?:[^()]|\((?:[^()]|\([^()]*\))*\))*\)"
+    clause = re.sub(brackets, lambda it: it[0].replace(" ", "\0"), " ".join(clause.split())).replace(" }", "\0}")
+    lines = textwrap.fill(f"    ensures {clause}", 120, subsequent_indent=" " * 8, break_long_words=False, break_on_hyphens=False)
+    return "\n".join([head, lines.replace("\0", " "), body])
+
+
+def parts(name, fields):
+    """The impl of a struct with these fields."""
+    kind, value = STRUCTS[name]
+    taken, put = ("\n".join(f"            {it}: {of}.{it}," for it in re.findall(r"pub (\w+):", fields)) for of in ("self", "parts"))
+    return PARTS.format(name=name, type=kind, made=kind.split("<")[0], value=value, taken=taken, put=put)
+
+
+def imports(text, body):
+    """Those of some imports whose names a source has."""
+    found = {}
+    for path, names in re.findall(r"^((?:ghost )?use [\w:.]+(?:::|\.))\{?([^:{};]+)\}?;$", text, re.M):
+        used = {it for it in re.findall(r"[^\s,]+", names) if re.search(rf"(?<![\w`]){it.strip('◌')}(?![\w`])", body)}
+        found[path] = sorted(used | set(found.get(path, ())))
+    lines = [path + listed(names, path.startswith("ghost")) + ";" for path, names in found.items() if names]
+    ghost = sorted(it for it in lines if it.startswith("ghost"))
+    return "\n".join([*ghost, "", *sorted(set(lines) - set(ghost), key=lambda it: ("crate" not in it, it))])
+
+
+def listed(names, is_ghost):
+    """Names of one module as `rt fmt` writes them: one by itself, and many in lines of at most 100 characters."""
+    text = ", ".join(names)
+    if is_ghost or len(names) > 1 and len(text) < 60:
+        return f"{{{text}}}"
+    return text if len(names) == 1 else "{\n" + textwrap.indent(textwrap.fill(f"{text},", 96), " " * 4) + "\n}"
+
+
+def beside(module, text):
+    """The names of the files that are written beside a module's source with this text, each with its text."""
+    functions = [it for it in text.rstrip("\n").split("\n\n") if 'extern "C"' in it]
+    count = len(functions)
+    for end, change in KINDS.get(module, ()):
+        functions += [changed(it, change) for it in functions if re.search(rf"fn \w*{end}\(", it)]
+    structs = dict(re.findall(r"pub struct (\w+) \{\n(.*?)\n\}", text, re.S))
+    given = [it for it in IMPORTS.split("\n") if "constriction_calls::" not in it or f"::{module}::" in it]
+    given += [f"use crate::{module}::large::{{{', '.join(structs)}}};"] if structs else []
+    written = {
+        "kinds": ("The same calls with other kinds of models, codewords and words.", functions[count:]),
+        "parts": ("The structs as the types that the calls of `constriction_calls` take.", [parts(*it) for it in structs.items()]),
+    }
+    for name, (says, items) in written.items():
+        body = "\n\n".join(items)
+        if items:
+            yield f"large_{name}.rt", f"//! {says}\n\n{imports(text + chr(10).join(given), body)}\n\n{body}\n"
