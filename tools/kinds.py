@@ -25,6 +25,23 @@ def of_models(name, says, parameters, models, lets, kind, variable):
     }
 
 
+def of_symbols(name, bits):
+    """The change from a call with symbols of the type `usize` to the call with symbols of so many bits."""
+    return {
+        r"_(encode|decode)_": rf"_\1_{name}_",
+        r"(Encodes|Decodes) symbols": rf"\1 symbols of type `u{bits}`",
+        r"symbols: &(mut )?\[usize\]": rf"symbols: &\1[u{bits}]",
+        r"symbols\.(now|old|new)": rf"(map (lowest {bits}) symbols.\1)",
+        r"(TakesU32 .*?\()by_weights": rf"\1narrow_by_weights (2 ^ {bits})",
+        r"    let models = .*\n": "",
+        r"\bdecode_by_weights(.*) 24>": rf"decode_narrow\1 u{bits}, 24>",
+        r"\bencode(_reverse)?(::<.*) (?:_|Weights<'_, u32>), 24>": rf"encode_narrow\1\2 u{bits}, 24>",
+        r"\[`decode_by_weights`\]": "[`decode_narrow`]",
+        r"\[`encode(_reverse)?`\]": r"[`encode_narrow\1`]",
+        r"&models, symbols": "weights, symbols",
+    }
+
+
 EACH = of_models(
     "each", r"\1 with a row of `width` weights for each symbol", "weights: &[u32], width: usize",
     "by_rows width (map (lowest 32) weights.now)", "let rows = Rows { weights, width }", "Rows<'_, u32>", "rows",
@@ -41,6 +58,8 @@ MIXTURE = of_models(
     "let components = Families::new(family, min, max, locations, scales); "
     "let mixtures = Mixtures::new(components, component_weights, width)", "Mixtures<'_>", "mixtures",
 )
+BYTES = of_symbols("bytes", 8)
+SHORTS = of_symbols("shorts", 16)
 INTERVALS = {
     r"_encode_": "_encode_intervals_",
     r"symbols (.*), with .*": r"intervals \1. Interval `i` begins at `lefts[i]`, and its length is `ps[i]`.",
@@ -81,7 +100,8 @@ HUFFMAN = {
 # What is written for each module: the change of each function whose name has this end. The function is one of large.rt,
 # or written by a change before.
 CODED = [("(encode|decode)(_reverse)?_u32", EACH), ("encode(_reverse)?_u32", INTERVALS),
-         ("(encode|decode)(_reverse)?_u32", QUANTIZED), ("(encode|decode)(_reverse)?_u32", MIXTURE)]
+         ("(encode|decode)(_reverse)?_u32", QUANTIZED), ("(encode|decode)(_reverse)?_u32", MIXTURE),
+         ("(encode|decode)(_reverse)?_u32", BYTES), ("(encode|decode)(_reverse)?_u32", SHORTS)]
 KINDS = {
     "ans": [*CODED, ("into_compressed_u32", ANS_BINARY)],
     "chain": [*CODED, ("_compressed_u32", BINARY), ("_compressed_u32", REMAINDERS)],
@@ -98,14 +118,15 @@ ghost use Rattle.constriction_calls.specs.SymbolCalls.{AsStack, OfWeights};
 ghost use Rattle.constriction_inputs.specs.Mixtures.{in_mixture};
 ghost use Rattle.constriction_inputs.specs.Quantized.{in_family};
 ghost use Rattle.constriction_inputs.specs.Rows.{by_rows};
-ghost use Rattle.std.specs.Prelude.{◌≡◌, map};
-use constriction_calls::ans::decoding::decode;
-use constriction_calls::ans::encoding::encode_intervals_reverse;
+ghost use Rattle.constriction_calls.specs.NarrowSymbols.{narrow_by_weights};
+ghost use Rattle.std.specs.Prelude.{◌≡◌, ◌^◌, map};
+use constriction_calls::ans::decoding::{decode, decode_narrow};
+use constriction_calls::ans::encoding::{encode_intervals_reverse, encode_narrow_reverse};
 use constriction_calls::ans::words::into_binary;
-use constriction_calls::chain::{ChainHeads, decode, encode_intervals_reverse};
+use constriction_calls::chain::{ChainHeads, decode, decode_narrow, encode_intervals_reverse, encode_narrow_reverse};
 use constriction_calls::chain::{from_binary, from_remainders, into_binary, into_remainders};
-use constriction_calls::range::decoding::decode;
-use constriction_calls::range::encoding::encode_intervals;
+use constriction_calls::range::decoding::{decode, decode_narrow};
+use constriction_calls::range::encoding::{encode_intervals, encode_narrow};
 use constriction_calls::range::parts::{DecoderParts, EncoderParts};
 use constriction_calls::range::words::into_self_delimited;
 use constriction_calls::symbol::{Tree, decode_stack, encode_stack};
@@ -149,7 +170,13 @@ def changed(function, change):
     brackets = r"\((?:[^()]|\((?:[^()]|\([^()]*\))*\))*\)"
     clause = re.sub(brackets, lambda it: it[0].replace(" ", "\0"), " ".join(clause.split())).replace(" }", "\0}")
     lines = textwrap.fill(f"    ensures {clause}", 120, subsequent_indent=" " * 8, break_long_words=False, break_on_hyphens=False)
+    body = re.sub(r"^    (let answer = [^(]*\()(.*)\);$", wrapped, body, flags=re.M)
     return "\n".join([head, lines.replace("\0", " "), body])
+
+
+def wrapped(call):
+    """A call as `rt fmt` writes it: with its arguments in a line of their own where it has more than 100 characters."""
+    return call[0] if len(call[0]) <= 100 else f"    {call[1]}\n        {call[2]},\n    );"
 
 
 def parts(name, fields):
@@ -164,7 +191,7 @@ def imports(text, body):
     found = {}
     for path, names in re.findall(r"^((?:ghost )?use [\w:.]+(?:::|\.))\{?([^:{};]+)\}?;$", text, re.M):
         used = {it for it in re.findall(r"[^\s,]+", names) if re.search(rf"(?<![\w`]){it.strip('◌')}(?![\w`])", body)}
-        found[path] = sorted(used | set(found.get(path, ())))
+        found[path] = sorted(used | set(found.get(path, ())), key=lambda it: (it[0] != "◌", it))
     lines = [path + listed(names, path.startswith("ghost")) + ";" for path, names in found.items() if names]
     ghost = sorted(it for it in lines if it.startswith("ghost"))
     return "\n".join([*ghost, "", *sorted(set(lines) - set(ghost), key=lambda it: ("crate" not in it, it))])

@@ -4,14 +4,18 @@
 ghost use Rattle.constriction_c.specs.Small.{AnsExportsU16, AnsPutsU16, AnsTakesU16, intervals_from_u16};
 ghost use Rattle.constriction_c.specs.Words.{lowest};
 ghost use Rattle.constriction_calls.specs.AnsCalls.{AreBinary, HasBinary};
+ghost use Rattle.constriction_calls.specs.NarrowSymbols.{narrow_by_weights};
 ghost use Rattle.constriction_inputs.specs.Mixtures.{in_mixture};
 ghost use Rattle.constriction_inputs.specs.Quantized.{in_family};
 ghost use Rattle.constriction_inputs.specs.Rows.{by_rows};
-ghost use Rattle.std.specs.Prelude.{map};
+ghost use Rattle.constriction_inputs.specs.Weights.{by_weights};
+ghost use Rattle.std.specs.Prelude.{◌^◌, map};
 
 use crate::codes::{code_of, code_without_space};
-use constriction_calls::ans::decoding::decode;
-use constriction_calls::ans::encoding::{encode_intervals_reverse, encode_reverse};
+use constriction_calls::ans::decoding::{decode, decode_narrow};
+use constriction_calls::ans::encoding::{
+    encode_intervals_reverse, encode_narrow_reverse, encode_reverse,
+};
 use constriction_calls::ans::words::into_binary;
 use constriction_inputs::models::{Families, Mixtures, Rows};
 use std::alloc::Global;
@@ -181,6 +185,90 @@ pub extern "C" fn constriction_ans_decode_mixture_u16(
     let components = Families::new(family, min, max, locations, scales);
     let mixtures = Mixtures::new(components, component_weights, width);
     let answer = decode::<_, _, u16, _, 12>(alloc, head, words, len, &mixtures, symbols);
+    code_without_space(answer)
+}
+
+/// Encodes symbols of type `u8` from the last to the first, with one table of weights for all symbols.
+///
+/// Calls [`encode_narrow_reverse`] and returns the code of its result ([`code_of`]).
+#[unsafe(no_mangle)]
+pub extern "C" fn constriction_ans_encode_bytes_reverse_u16(
+    alloc: Global,
+    head: &mut u32,
+    words: &mut [u16],
+    len: &mut usize,
+    weights: &[u16],
+    symbols: &[u8],
+    needed: &mut usize,
+) -> u32
+    ensures { AnsPutsU16 result needed.old needed.new
+        (by_weights (map (lowest 16) weights.now) (map (lowest 8) symbols.now)) head.old words.old len.old head.new
+        words.new len.new }
+{
+    let answer = encode_narrow_reverse::<_, _, u16, u8, 12>(
+        alloc, head, words, len, weights, symbols,
+    );
+    code_of(answer, needed)
+}
+
+/// Decodes symbols of type `u8` with one table of weights for all symbols.
+///
+/// Calls [`decode_narrow`] and returns the code of its result ([`code_of`]).
+#[unsafe(no_mangle)]
+pub extern "C" fn constriction_ans_decode_bytes_u16(
+    alloc: Global,
+    head: &mut u32,
+    words: &[u16],
+    len: &mut usize,
+    weights: &[u16],
+    symbols: &mut [u8],
+) -> u32
+    ensures { AnsTakesU16 result (narrow_by_weights (2 ^ 8) (map (lowest 16) weights.now)) words.now head.old len.old
+        head.new len.new (map (lowest 8) symbols.old) (map (lowest 8) symbols.new) }
+{
+    let answer = decode_narrow::<_, _, u16, u8, 12>(alloc, head, words, len, weights, symbols);
+    code_without_space(answer)
+}
+
+/// Encodes symbols of type `u16` from the last to the first, with one table of weights for all symbols.
+///
+/// Calls [`encode_narrow_reverse`] and returns the code of its result ([`code_of`]).
+#[unsafe(no_mangle)]
+pub extern "C" fn constriction_ans_encode_shorts_reverse_u16(
+    alloc: Global,
+    head: &mut u32,
+    words: &mut [u16],
+    len: &mut usize,
+    weights: &[u16],
+    symbols: &[u16],
+    needed: &mut usize,
+) -> u32
+    ensures { AnsPutsU16 result needed.old needed.new
+        (by_weights (map (lowest 16) weights.now) (map (lowest 16) symbols.now)) head.old words.old len.old head.new
+        words.new len.new }
+{
+    let answer = encode_narrow_reverse::<_, _, u16, u16, 12>(
+        alloc, head, words, len, weights, symbols,
+    );
+    code_of(answer, needed)
+}
+
+/// Decodes symbols of type `u16` with one table of weights for all symbols.
+///
+/// Calls [`decode_narrow`] and returns the code of its result ([`code_of`]).
+#[unsafe(no_mangle)]
+pub extern "C" fn constriction_ans_decode_shorts_u16(
+    alloc: Global,
+    head: &mut u32,
+    words: &[u16],
+    len: &mut usize,
+    weights: &[u16],
+    symbols: &mut [u16],
+) -> u32
+    ensures { AnsTakesU16 result (narrow_by_weights (2 ^ 16) (map (lowest 16) weights.now)) words.now head.old len.old
+        head.new len.new (map (lowest 16) symbols.old) (map (lowest 16) symbols.new) }
+{
+    let answer = decode_narrow::<_, _, u16, u16, 12>(alloc, head, words, len, weights, symbols);
     code_without_space(answer)
 }
 

@@ -4,16 +4,18 @@
 ghost use Rattle.constriction_c.specs.Large.{ChainBeginsU32, ChainEndsU32, ChainPutsU32, ChainTakesU32, intervals_from_u32, large_chain};
 ghost use Rattle.constriction_c.specs.Words.{lowest};
 ghost use Rattle.constriction_calls.specs.ChainWords.{InBinary, InRemainders};
+ghost use Rattle.constriction_calls.specs.NarrowSymbols.{narrow_by_weights};
 ghost use Rattle.constriction_inputs.specs.Mixtures.{in_mixture};
 ghost use Rattle.constriction_inputs.specs.Quantized.{in_family};
 ghost use Rattle.constriction_inputs.specs.Rows.{by_rows};
-ghost use Rattle.std.specs.Prelude.{map};
+ghost use Rattle.constriction_inputs.specs.Weights.{by_weights};
+ghost use Rattle.std.specs.Prelude.{◌^◌, map};
 
 use crate::chain::large::ChainHeadsU32;
 use crate::codes::{code_of, code_without_space};
 use constriction_calls::chain::{
-    decode, encode_intervals_reverse, encode_reverse, from_binary, from_remainders, into_binary,
-    into_remainders,
+    decode, decode_narrow, encode_intervals_reverse, encode_narrow_reverse, encode_reverse,
+    from_binary, from_remainders, into_binary, into_remainders,
 };
 use constriction_inputs::models::{Families, Mixtures, Rows};
 use std::alloc::Global;
@@ -234,6 +236,118 @@ pub extern "C" fn constriction_chain_encode_mixture_reverse_u32(
     let mut both = heads.parts();
     let answer = encode_reverse::<_, _, u32, Mixtures<'_>, 24>(
         alloc, &mut both, compressed, count, remainders, rest, &mixtures, symbols,
+    );
+    *heads = ChainHeadsU32::of(both);
+    code_of(answer, needed)
+}
+
+/// Decodes symbols of type `u8` with one table of weights for all symbols.
+///
+/// Calls [`decode_narrow`] and returns the code of its result ([`code_of`]).
+#[unsafe(no_mangle)]
+pub extern "C" fn constriction_chain_decode_bytes_u32(
+    alloc: Global,
+    heads: &mut ChainHeadsU32,
+    compressed: &[u32],
+    count: &mut usize,
+    remainders: &mut [u32],
+    rest: &mut usize,
+    weights: &[u32],
+    symbols: &mut [u8],
+    needed: &mut usize,
+) -> u32
+    ensures { ChainTakesU32 result needed.old needed.new (narrow_by_weights (2 ^ 8) (map (lowest 32) weights.now))
+        (large_chain heads.old compressed.now count.old remainders.old rest.old)
+        (large_chain heads.new compressed.now count.new remainders.new rest.new) (map (lowest 8) symbols.old)
+        (map (lowest 8) symbols.new) }
+{
+    let mut both = heads.parts();
+    let answer = decode_narrow::<_, _, u32, u8, 24>(
+        alloc, &mut both, compressed, count, remainders, rest, weights, symbols,
+    );
+    *heads = ChainHeadsU32::of(both);
+    code_of(answer, needed)
+}
+
+/// Encodes symbols of type `u8` from the last to the first, with one table of weights for all symbols.
+///
+/// Calls [`encode_narrow_reverse`] and returns the code of its result ([`code_of`]).
+#[unsafe(no_mangle)]
+pub extern "C" fn constriction_chain_encode_bytes_reverse_u32(
+    alloc: Global,
+    heads: &mut ChainHeadsU32,
+    compressed: &mut [u32],
+    count: &mut usize,
+    remainders: &[u32],
+    rest: &mut usize,
+    weights: &[u32],
+    symbols: &[u8],
+    needed: &mut usize,
+) -> u32
+    ensures { ChainPutsU32 result needed.old needed.new
+        (by_weights (map (lowest 32) weights.now) (map (lowest 8) symbols.now))
+        (large_chain heads.old compressed.old count.old remainders.now rest.old)
+        (large_chain heads.new compressed.new count.new remainders.now rest.new) }
+{
+    let mut both = heads.parts();
+    let answer = encode_narrow_reverse::<_, _, u32, u8, 24>(
+        alloc, &mut both, compressed, count, remainders, rest, weights, symbols,
+    );
+    *heads = ChainHeadsU32::of(both);
+    code_of(answer, needed)
+}
+
+/// Decodes symbols of type `u16` with one table of weights for all symbols.
+///
+/// Calls [`decode_narrow`] and returns the code of its result ([`code_of`]).
+#[unsafe(no_mangle)]
+pub extern "C" fn constriction_chain_decode_shorts_u32(
+    alloc: Global,
+    heads: &mut ChainHeadsU32,
+    compressed: &[u32],
+    count: &mut usize,
+    remainders: &mut [u32],
+    rest: &mut usize,
+    weights: &[u32],
+    symbols: &mut [u16],
+    needed: &mut usize,
+) -> u32
+    ensures { ChainTakesU32 result needed.old needed.new (narrow_by_weights (2 ^ 16) (map (lowest 32) weights.now))
+        (large_chain heads.old compressed.now count.old remainders.old rest.old)
+        (large_chain heads.new compressed.now count.new remainders.new rest.new) (map (lowest 16) symbols.old)
+        (map (lowest 16) symbols.new) }
+{
+    let mut both = heads.parts();
+    let answer = decode_narrow::<_, _, u32, u16, 24>(
+        alloc, &mut both, compressed, count, remainders, rest, weights, symbols,
+    );
+    *heads = ChainHeadsU32::of(both);
+    code_of(answer, needed)
+}
+
+/// Encodes symbols of type `u16` from the last to the first, with one table of weights for all symbols.
+///
+/// Calls [`encode_narrow_reverse`] and returns the code of its result ([`code_of`]).
+#[unsafe(no_mangle)]
+pub extern "C" fn constriction_chain_encode_shorts_reverse_u32(
+    alloc: Global,
+    heads: &mut ChainHeadsU32,
+    compressed: &mut [u32],
+    count: &mut usize,
+    remainders: &[u32],
+    rest: &mut usize,
+    weights: &[u32],
+    symbols: &[u16],
+    needed: &mut usize,
+) -> u32
+    ensures { ChainPutsU32 result needed.old needed.new
+        (by_weights (map (lowest 32) weights.now) (map (lowest 16) symbols.now))
+        (large_chain heads.old compressed.old count.old remainders.now rest.old)
+        (large_chain heads.new compressed.new count.new remainders.now rest.new) }
+{
+    let mut both = heads.parts();
+    let answer = encode_narrow_reverse::<_, _, u32, u16, 24>(
+        alloc, &mut both, compressed, count, remainders, rest, weights, symbols,
     );
     *heads = ChainHeadsU32::of(both);
     code_of(answer, needed)

@@ -4,16 +4,18 @@
 ghost use Rattle.constriction_c.specs.Small.{ChainBeginsU16, ChainEndsU16, ChainPutsU16, ChainTakesU16, intervals_from_u16, small_chain};
 ghost use Rattle.constriction_c.specs.Words.{lowest};
 ghost use Rattle.constriction_calls.specs.ChainWords.{InBinary, InRemainders};
+ghost use Rattle.constriction_calls.specs.NarrowSymbols.{narrow_by_weights};
 ghost use Rattle.constriction_inputs.specs.Mixtures.{in_mixture};
 ghost use Rattle.constriction_inputs.specs.Quantized.{in_family};
 ghost use Rattle.constriction_inputs.specs.Rows.{by_rows};
-ghost use Rattle.std.specs.Prelude.{map};
+ghost use Rattle.constriction_inputs.specs.Weights.{by_weights};
+ghost use Rattle.std.specs.Prelude.{◌^◌, map};
 
 use crate::chain::small::ChainHeadsU16;
 use crate::codes::{code_of, code_without_space};
 use constriction_calls::chain::{
-    decode, encode_intervals_reverse, encode_reverse, from_binary, from_remainders, into_binary,
-    into_remainders,
+    decode, decode_narrow, encode_intervals_reverse, encode_narrow_reverse, encode_reverse,
+    from_binary, from_remainders, into_binary, into_remainders,
 };
 use constriction_inputs::models::{Families, Mixtures, Rows};
 use std::alloc::Global;
@@ -234,6 +236,118 @@ pub extern "C" fn constriction_chain_encode_mixture_reverse_u16(
     let mut both = heads.parts();
     let answer = encode_reverse::<_, _, u16, Mixtures<'_>, 12>(
         alloc, &mut both, compressed, count, remainders, rest, &mixtures, symbols,
+    );
+    *heads = ChainHeadsU16::of(both);
+    code_of(answer, needed)
+}
+
+/// Decodes symbols of type `u8` with one table of weights for all symbols.
+///
+/// Calls [`decode_narrow`] and returns the code of its result ([`code_of`]).
+#[unsafe(no_mangle)]
+pub extern "C" fn constriction_chain_decode_bytes_u16(
+    alloc: Global,
+    heads: &mut ChainHeadsU16,
+    compressed: &[u16],
+    count: &mut usize,
+    remainders: &mut [u16],
+    rest: &mut usize,
+    weights: &[u16],
+    symbols: &mut [u8],
+    needed: &mut usize,
+) -> u32
+    ensures { ChainTakesU16 result needed.old needed.new (narrow_by_weights (2 ^ 8) (map (lowest 16) weights.now))
+        (small_chain heads.old compressed.now count.old remainders.old rest.old)
+        (small_chain heads.new compressed.now count.new remainders.new rest.new) (map (lowest 8) symbols.old)
+        (map (lowest 8) symbols.new) }
+{
+    let mut both = heads.parts();
+    let answer = decode_narrow::<_, _, u16, u8, 12>(
+        alloc, &mut both, compressed, count, remainders, rest, weights, symbols,
+    );
+    *heads = ChainHeadsU16::of(both);
+    code_of(answer, needed)
+}
+
+/// Encodes symbols of type `u8` from the last to the first, with one table of weights for all symbols.
+///
+/// Calls [`encode_narrow_reverse`] and returns the code of its result ([`code_of`]).
+#[unsafe(no_mangle)]
+pub extern "C" fn constriction_chain_encode_bytes_reverse_u16(
+    alloc: Global,
+    heads: &mut ChainHeadsU16,
+    compressed: &mut [u16],
+    count: &mut usize,
+    remainders: &[u16],
+    rest: &mut usize,
+    weights: &[u16],
+    symbols: &[u8],
+    needed: &mut usize,
+) -> u32
+    ensures { ChainPutsU16 result needed.old needed.new
+        (by_weights (map (lowest 16) weights.now) (map (lowest 8) symbols.now))
+        (small_chain heads.old compressed.old count.old remainders.now rest.old)
+        (small_chain heads.new compressed.new count.new remainders.now rest.new) }
+{
+    let mut both = heads.parts();
+    let answer = encode_narrow_reverse::<_, _, u16, u8, 12>(
+        alloc, &mut both, compressed, count, remainders, rest, weights, symbols,
+    );
+    *heads = ChainHeadsU16::of(both);
+    code_of(answer, needed)
+}
+
+/// Decodes symbols of type `u16` with one table of weights for all symbols.
+///
+/// Calls [`decode_narrow`] and returns the code of its result ([`code_of`]).
+#[unsafe(no_mangle)]
+pub extern "C" fn constriction_chain_decode_shorts_u16(
+    alloc: Global,
+    heads: &mut ChainHeadsU16,
+    compressed: &[u16],
+    count: &mut usize,
+    remainders: &mut [u16],
+    rest: &mut usize,
+    weights: &[u16],
+    symbols: &mut [u16],
+    needed: &mut usize,
+) -> u32
+    ensures { ChainTakesU16 result needed.old needed.new (narrow_by_weights (2 ^ 16) (map (lowest 16) weights.now))
+        (small_chain heads.old compressed.now count.old remainders.old rest.old)
+        (small_chain heads.new compressed.now count.new remainders.new rest.new) (map (lowest 16) symbols.old)
+        (map (lowest 16) symbols.new) }
+{
+    let mut both = heads.parts();
+    let answer = decode_narrow::<_, _, u16, u16, 12>(
+        alloc, &mut both, compressed, count, remainders, rest, weights, symbols,
+    );
+    *heads = ChainHeadsU16::of(both);
+    code_of(answer, needed)
+}
+
+/// Encodes symbols of type `u16` from the last to the first, with one table of weights for all symbols.
+///
+/// Calls [`encode_narrow_reverse`] and returns the code of its result ([`code_of`]).
+#[unsafe(no_mangle)]
+pub extern "C" fn constriction_chain_encode_shorts_reverse_u16(
+    alloc: Global,
+    heads: &mut ChainHeadsU16,
+    compressed: &mut [u16],
+    count: &mut usize,
+    remainders: &[u16],
+    rest: &mut usize,
+    weights: &[u16],
+    symbols: &[u16],
+    needed: &mut usize,
+) -> u32
+    ensures { ChainPutsU16 result needed.old needed.new
+        (by_weights (map (lowest 16) weights.now) (map (lowest 16) symbols.now))
+        (small_chain heads.old compressed.old count.old remainders.now rest.old)
+        (small_chain heads.new compressed.new count.new remainders.now rest.new) }
+{
+    let mut both = heads.parts();
+    let answer = encode_narrow_reverse::<_, _, u16, u16, 12>(
+        alloc, &mut both, compressed, count, remainders, rest, weights, symbols,
     );
     *heads = ChainHeadsU16::of(both);
     code_of(answer, needed)

@@ -3,16 +3,18 @@
 
 ghost use Rattle.constriction_c.specs.Large.{RangeEndsU32, RangePutsU32, RangeTakesU32, intervals_from_u32};
 ghost use Rattle.constriction_c.specs.Words.{lowest};
+ghost use Rattle.constriction_calls.specs.NarrowSymbols.{narrow_by_weights};
 ghost use Rattle.constriction_calls.specs.RangeCalls.{IsSelfSealed, RangeSeals};
 ghost use Rattle.constriction_inputs.specs.Mixtures.{in_mixture};
 ghost use Rattle.constriction_inputs.specs.Quantized.{in_family};
 ghost use Rattle.constriction_inputs.specs.Rows.{by_rows};
-ghost use Rattle.std.specs.Prelude.{map};
+ghost use Rattle.constriction_inputs.specs.Weights.{by_weights};
+ghost use Rattle.std.specs.Prelude.{◌^◌, map};
 
 use crate::codes::{code_of, code_without_space};
 use crate::range::large::{RangeDecoderU32, RangeEncoderU32};
-use constriction_calls::range::decoding::decode;
-use constriction_calls::range::encoding::{encode, encode_intervals};
+use constriction_calls::range::decoding::{decode, decode_narrow};
+use constriction_calls::range::encoding::{encode, encode_intervals, encode_narrow};
 use constriction_calls::range::words::into_self_delimited;
 use constriction_inputs::models::{Families, Mixtures, Rows};
 use std::alloc::Global;
@@ -192,6 +194,94 @@ pub extern "C" fn constriction_range_decode_mixture_u32(
     let mixtures = Mixtures::new(components, component_weights, width);
     let mut parts = decoder.parts();
     let answer = decode::<_, _, u32, _, 24>(alloc, &mut parts, words, &mixtures, symbols);
+    *decoder = RangeDecoderU32::of(parts);
+    code_without_space(answer)
+}
+
+/// Encodes symbols of type `u8` in order, with one table of weights for all symbols.
+///
+/// Calls [`encode_narrow`] and returns the code of its result ([`code_of`]).
+#[unsafe(no_mangle)]
+pub extern "C" fn constriction_range_encode_bytes_u32(
+    alloc: Global,
+    encoder: &mut RangeEncoderU32,
+    words: &mut [u32],
+    len: &mut usize,
+    weights: &[u32],
+    symbols: &[u8],
+    needed: &mut usize,
+) -> u32
+    ensures { RangePutsU32 result needed.old needed.new (by_weights (map (lowest 32) weights.now))
+        (map (lowest 8) symbols.now) encoder.old words.old len.old encoder.new words.new len.new }
+{
+    let mut parts = encoder.parts();
+    let answer = encode_narrow::<_, _, u32, u8, 24>(
+        alloc, &mut parts, words, len, weights, symbols,
+    );
+    *encoder = RangeEncoderU32::of(parts);
+    code_of(answer, needed)
+}
+
+/// Decodes symbols of type `u8` in order, with one table of weights for all symbols.
+///
+/// Calls [`decode_narrow`] and returns the code of its result ([`code_of`]).
+#[unsafe(no_mangle)]
+pub extern "C" fn constriction_range_decode_bytes_u32(
+    alloc: Global,
+    decoder: &mut RangeDecoderU32,
+    words: &[u32],
+    weights: &[u32],
+    symbols: &mut [u8],
+) -> u32
+    ensures { RangeTakesU32 result (narrow_by_weights (2 ^ 8) (map (lowest 32) weights.now)) words.now decoder.old
+        decoder.new (map (lowest 8) symbols.old) (map (lowest 8) symbols.new) }
+{
+    let mut parts = decoder.parts();
+    let answer = decode_narrow::<_, _, u32, u8, 24>(alloc, &mut parts, words, weights, symbols);
+    *decoder = RangeDecoderU32::of(parts);
+    code_without_space(answer)
+}
+
+/// Encodes symbols of type `u16` in order, with one table of weights for all symbols.
+///
+/// Calls [`encode_narrow`] and returns the code of its result ([`code_of`]).
+#[unsafe(no_mangle)]
+pub extern "C" fn constriction_range_encode_shorts_u32(
+    alloc: Global,
+    encoder: &mut RangeEncoderU32,
+    words: &mut [u32],
+    len: &mut usize,
+    weights: &[u32],
+    symbols: &[u16],
+    needed: &mut usize,
+) -> u32
+    ensures { RangePutsU32 result needed.old needed.new (by_weights (map (lowest 32) weights.now))
+        (map (lowest 16) symbols.now) encoder.old words.old len.old encoder.new words.new len.new }
+{
+    let mut parts = encoder.parts();
+    let answer = encode_narrow::<_, _, u32, u16, 24>(
+        alloc, &mut parts, words, len, weights, symbols,
+    );
+    *encoder = RangeEncoderU32::of(parts);
+    code_of(answer, needed)
+}
+
+/// Decodes symbols of type `u16` in order, with one table of weights for all symbols.
+///
+/// Calls [`decode_narrow`] and returns the code of its result ([`code_of`]).
+#[unsafe(no_mangle)]
+pub extern "C" fn constriction_range_decode_shorts_u32(
+    alloc: Global,
+    decoder: &mut RangeDecoderU32,
+    words: &[u32],
+    weights: &[u32],
+    symbols: &mut [u16],
+) -> u32
+    ensures { RangeTakesU32 result (narrow_by_weights (2 ^ 16) (map (lowest 32) weights.now)) words.now decoder.old
+        decoder.new (map (lowest 16) symbols.old) (map (lowest 16) symbols.new) }
+{
+    let mut parts = decoder.parts();
+    let answer = decode_narrow::<_, _, u32, u16, 24>(alloc, &mut parts, words, weights, symbols);
     *decoder = RangeDecoderU32::of(parts);
     code_without_space(answer)
 }

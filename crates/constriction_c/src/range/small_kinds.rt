@@ -3,16 +3,18 @@
 
 ghost use Rattle.constriction_c.specs.Small.{RangeEndsU16, RangePutsU16, RangeTakesU16, intervals_from_u16};
 ghost use Rattle.constriction_c.specs.Words.{lowest};
+ghost use Rattle.constriction_calls.specs.NarrowSymbols.{narrow_by_weights};
 ghost use Rattle.constriction_calls.specs.RangeCalls.{IsSelfSealed, RangeSeals};
 ghost use Rattle.constriction_inputs.specs.Mixtures.{in_mixture};
 ghost use Rattle.constriction_inputs.specs.Quantized.{in_family};
 ghost use Rattle.constriction_inputs.specs.Rows.{by_rows};
-ghost use Rattle.std.specs.Prelude.{map};
+ghost use Rattle.constriction_inputs.specs.Weights.{by_weights};
+ghost use Rattle.std.specs.Prelude.{◌^◌, map};
 
 use crate::codes::{code_of, code_without_space};
 use crate::range::small::{RangeDecoderU16, RangeEncoderU16};
-use constriction_calls::range::decoding::decode;
-use constriction_calls::range::encoding::{encode, encode_intervals};
+use constriction_calls::range::decoding::{decode, decode_narrow};
+use constriction_calls::range::encoding::{encode, encode_intervals, encode_narrow};
 use constriction_calls::range::words::into_self_delimited;
 use constriction_inputs::models::{Families, Mixtures, Rows};
 use std::alloc::Global;
@@ -192,6 +194,94 @@ pub extern "C" fn constriction_range_decode_mixture_u16(
     let mixtures = Mixtures::new(components, component_weights, width);
     let mut parts = decoder.parts();
     let answer = decode::<_, _, u16, _, 12>(alloc, &mut parts, words, &mixtures, symbols);
+    *decoder = RangeDecoderU16::of(parts);
+    code_without_space(answer)
+}
+
+/// Encodes symbols of type `u8` in order, with one table of weights for all symbols.
+///
+/// Calls [`encode_narrow`] and returns the code of its result ([`code_of`]).
+#[unsafe(no_mangle)]
+pub extern "C" fn constriction_range_encode_bytes_u16(
+    alloc: Global,
+    encoder: &mut RangeEncoderU16,
+    words: &mut [u16],
+    len: &mut usize,
+    weights: &[u16],
+    symbols: &[u8],
+    needed: &mut usize,
+) -> u32
+    ensures { RangePutsU16 result needed.old needed.new (by_weights (map (lowest 16) weights.now))
+        (map (lowest 8) symbols.now) encoder.old words.old len.old encoder.new words.new len.new }
+{
+    let mut parts = encoder.parts();
+    let answer = encode_narrow::<_, _, u16, u8, 12>(
+        alloc, &mut parts, words, len, weights, symbols,
+    );
+    *encoder = RangeEncoderU16::of(parts);
+    code_of(answer, needed)
+}
+
+/// Decodes symbols of type `u8` in order, with one table of weights for all symbols.
+///
+/// Calls [`decode_narrow`] and returns the code of its result ([`code_of`]).
+#[unsafe(no_mangle)]
+pub extern "C" fn constriction_range_decode_bytes_u16(
+    alloc: Global,
+    decoder: &mut RangeDecoderU16,
+    words: &[u16],
+    weights: &[u16],
+    symbols: &mut [u8],
+) -> u32
+    ensures { RangeTakesU16 result (narrow_by_weights (2 ^ 8) (map (lowest 16) weights.now)) words.now decoder.old
+        decoder.new (map (lowest 8) symbols.old) (map (lowest 8) symbols.new) }
+{
+    let mut parts = decoder.parts();
+    let answer = decode_narrow::<_, _, u16, u8, 12>(alloc, &mut parts, words, weights, symbols);
+    *decoder = RangeDecoderU16::of(parts);
+    code_without_space(answer)
+}
+
+/// Encodes symbols of type `u16` in order, with one table of weights for all symbols.
+///
+/// Calls [`encode_narrow`] and returns the code of its result ([`code_of`]).
+#[unsafe(no_mangle)]
+pub extern "C" fn constriction_range_encode_shorts_u16(
+    alloc: Global,
+    encoder: &mut RangeEncoderU16,
+    words: &mut [u16],
+    len: &mut usize,
+    weights: &[u16],
+    symbols: &[u16],
+    needed: &mut usize,
+) -> u32
+    ensures { RangePutsU16 result needed.old needed.new (by_weights (map (lowest 16) weights.now))
+        (map (lowest 16) symbols.now) encoder.old words.old len.old encoder.new words.new len.new }
+{
+    let mut parts = encoder.parts();
+    let answer = encode_narrow::<_, _, u16, u16, 12>(
+        alloc, &mut parts, words, len, weights, symbols,
+    );
+    *encoder = RangeEncoderU16::of(parts);
+    code_of(answer, needed)
+}
+
+/// Decodes symbols of type `u16` in order, with one table of weights for all symbols.
+///
+/// Calls [`decode_narrow`] and returns the code of its result ([`code_of`]).
+#[unsafe(no_mangle)]
+pub extern "C" fn constriction_range_decode_shorts_u16(
+    alloc: Global,
+    decoder: &mut RangeDecoderU16,
+    words: &[u16],
+    weights: &[u16],
+    symbols: &mut [u16],
+) -> u32
+    ensures { RangeTakesU16 result (narrow_by_weights (2 ^ 16) (map (lowest 16) weights.now)) words.now decoder.old
+        decoder.new (map (lowest 16) symbols.old) (map (lowest 16) symbols.new) }
+{
+    let mut parts = decoder.parts();
+    let answer = decode_narrow::<_, _, u16, u16, 12>(alloc, &mut parts, words, weights, symbols);
     *decoder = RangeDecoderU16::of(parts);
     code_without_space(answer)
 }
