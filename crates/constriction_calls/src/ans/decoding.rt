@@ -1,6 +1,6 @@
 //! Decoding symbols from a state that the caller keeps. The calls read words, and write none.
 
-ghost use Rattle.std.specs.Prelude.{◌≡◌, ◌≤◌, length, map};
+ghost use Rattle.std.specs.Prelude.{◌≡◌, ◌≤◌, length};
 ghost use Rattle.constriction_base.specs.Models.{pairs_of};
 ghost use Rattle.constriction_base.specs.Steps.{IsSizes};
 ghost use Rattle.constriction_calls.specs.AnsCalls.{AnsTakesBy, AnsTakesByWeights, coder_of, state_kept};
