@@ -32,7 +32,7 @@ def of_symbols(name, bits):
         r"(Encodes|Decodes) symbols": rf"\1 symbols of type `u{bits}`",
         r"symbols: &(mut )?\[usize\]": rf"symbols: &\1[u{bits}]",
         r"symbols\.(now|old|new)": rf"(map (lowest {bits}) symbols.\1)",
-        r"(TakesU32 .*?\()by_weights": rf"\1narrow_by_weights (2 ^ {bits})",
+        r"(Takes[^{}]*?\()by_weights \(map \(lowest 32\) weights\.now\)": rf"\1narrow_from_u32 {bits} weights.now",
         r"    let models = .*\n": "",
         r"\bdecode_by_weights(.*) 24>": rf"decode_narrow\1 u{bits}, 24>",
         r"\bencode(_reverse)?(::<.*) (?:_|Weights<'_, u32>), 24>": rf"encode_narrow\1\2 u{bits}, 24>",
@@ -110,7 +110,7 @@ KINDS = {
 }
 # What the written files may need beyond the imports of large.rt.
 IMPORTS = """
-ghost use Rattle.constriction_c.specs.Large.{intervals_from_u32, large_decoder, large_encoder, large_heads};
+ghost use Rattle.constriction_c.specs.Large.{intervals_from_u32, large_decoder, large_encoder, large_heads, narrow_from_u32};
 ghost use Rattle.constriction_calls.specs.AnsCalls.{AreBinary, HasBinary};
 ghost use Rattle.constriction_calls.specs.ChainWords.{InBinary, InRemainders};
 ghost use Rattle.constriction_calls.specs.RangeCalls.{IsSelfSealed};
@@ -118,8 +118,7 @@ ghost use Rattle.constriction_calls.specs.SymbolCalls.{AsStack, OfWeights};
 ghost use Rattle.constriction_inputs.specs.Mixtures.{in_mixture};
 ghost use Rattle.constriction_inputs.specs.Quantized.{in_family};
 ghost use Rattle.constriction_inputs.specs.Rows.{by_rows};
-ghost use Rattle.constriction_calls.specs.NarrowSymbols.{narrow_by_weights};
-ghost use Rattle.std.specs.Prelude.{◌≡◌, ◌^◌, map};
+ghost use Rattle.std.specs.Prelude.{◌≡◌, map};
 use constriction_calls::ans::decoding::{decode, decode_narrow};
 use constriction_calls::ans::encoding::{encode_intervals_reverse, encode_narrow_reverse};
 use constriction_calls::ans::words::into_binary;

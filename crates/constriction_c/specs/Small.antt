@@ -1,7 +1,7 @@
 -- Written by tools/sizes from Large.antt.
 -- Contracts of the C functions with 16-bit words, 32-bit states and a precision of 12 bits. Each takes what a function's arguments are before the
 -- call and then what they are after it. `code` is what the function returns, and `before` and `needed` are the old and the new value of `needed`.
-use Rattle.std.specs.Prelude.{ℕ, ℤ, List, Result, map}
+use Rattle.std.specs.Prelude.{ℕ, ℤ, ◌^◌, List, Result, map}
 use Rattle.constriction_c.specs.Codes.{Told, answer_by_code}
 use Rattle.constriction_c.specs.Words.{lowest}
 use Rattle.constriction_c.specs.declared.chain.small.ChainHeadsU16.{ChainHeadsU16}
@@ -10,6 +10,7 @@ use Rattle.constriction_c.specs.declared.range.small.RangeEncoderU16.{RangeEncod
 use Rattle.constriction_calls.specs.AnsCalls.{AnsExports, AnsImports, AnsPuts, AnsTakes, coder_of}
 use Rattle.constriction_calls.specs.ChainCalls.{ChainKept, ChainPuts, ChainTakes}
 use Rattle.constriction_calls.specs.ChainWords.{ChainBegins, ChainEnds, Form}
+use Rattle.constriction_calls.specs.NarrowSymbols.{narrow_by_weights}
 use Rattle.constriction_calls.specs.RangeCalls.{RangeKept, RangePuts, RangeTakes, kept_in}
 use Rattle.constriction_calls.specs.StoreCalls.{StoreBuilds, StoreGives}
 use Rattle.constriction_calls.specs.SymbolBits.{PutsAtBit, TakesAtBit}
@@ -26,6 +27,10 @@ use Rattle.constriction_stack.specs.Ans.{AnsState}
 -- Intervals that begin at the numbers of the words `lefts`.
 abbrev pub intervals_from_u16 : List ℕ → List ℕ → Coded
 intervals_from_u16 lefts ps = as_intervals (map (lowest 16) lefts) ps
+
+-- Symbols of `bits` bits under one table of weights, which are the numbers of the words `weights`.
+abbrev pub narrow_from_u16 : ℕ → List ℕ → List ℕ → Coded
+narrow_from_u16 bits weights symbols = narrow_by_weights (2 ^ bits) (map (lowest 16) weights) symbols
 
 -- ---- the stack coder
 -- The function encodes a caller's arguments.

@@ -1,5 +1,5 @@
 -- Contracts of the chain coder's calls: what each call does with the caller's coder, and when each error comes.
-use Rattle.std.specs.Prelude.{◌≡◌, ℕ, ◌*◌, ◌<◌, ◌≤◌, List, ◌∷◌, ◌++◌, [], length, map, reverse, take, Result, OnErr, OnOk}
+use Rattle.std.specs.Prelude.{◌≡◌, ℕ, ◌*◌, ◌^◌, ◌<◌, ◌≤◌, List, ◌∷◌, ◌++◌, [], length, map, reverse, take, Result, OnErr, OnOk}
 use Rattle.constriction_base.specs.Models.{AreKnown, Item}
 use Rattle.constriction_base.specs.Tables.{AtEntry}
 use Rattle.constriction_base.specs.Windows.{IsInWindow}
@@ -11,6 +11,7 @@ use Rattle.constriction_inputs.specs.Coded.{AsksFit, Coded, items}
 use Rattle.constriction_inputs.specs.Intervals.{as_intervals}
 use Rattle.constriction_inputs.specs.Refusals.{Asks, DataOrRoom, Else}
 use Rattle.constriction_inputs.specs.Weights.{by_weights}
+use Rattle.constriction_calls.specs.NarrowSymbols.{narrow_by_weights}
 use Rattle.constriction_calls.specs.declared.chain.ChainHeads.{ChainHeads}
 use Rattle.constriction_inputs.specs.declared.refusal.Refusal.{Refusal}
 use Rattle.constriction_inputs.specs.declared.refusal.Refusal.TheVariants.{ImpossibleSymbol, InvalidData, WrongLength}
@@ -153,3 +154,9 @@ abbrev pub ChainTakesByWeights : {Word State P N M : Type 0} → numbers.Ghosts 
     → ChainKept Word State → ChainKept Word State → List ℕ → List ℕ → Result (Unit {0}) Refusal → Type 0
 ChainTakesByWeights word state P number weights old new old_symbols new_symbols answer =
     ChainTakesBy word state P (by_weights (map number weights)) old new old_symbols new_symbols answer
+
+-- `ChainTakesBy` with one table of weights for all symbols, and symbols of a type with fewer numbers than `usize`.
+abbrev pub ChainTakesNarrow : {Word State S P N M O : Type 0} → numbers.Ghosts Word N → numbers.Ghosts State M → numbers.Ghosts S O → ℕ → (P → ℕ) → List P
+    → ChainKept Word State → ChainKept Word State → List S → List S → Result (Unit {0}) Refusal → Type 0
+ChainTakesNarrow word state symbol P number weights old new old_symbols new_symbols answer =
+    ChainTakesBy word state P (narrow_by_weights (2 ^ symbol.BITS) (map number weights)) old new (map symbol.number old_symbols) (map symbol.number new_symbols) answer

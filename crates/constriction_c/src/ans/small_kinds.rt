@@ -1,15 +1,14 @@
 // Written by tools/sizes from large_kinds.rt.
 //! The same calls with other kinds of models, codewords and words.
 
-ghost use Rattle.constriction_c.specs.Small.{AnsExportsU16, AnsPutsU16, AnsTakesU16, intervals_from_u16};
+ghost use Rattle.constriction_c.specs.Small.{AnsExportsU16, AnsPutsU16, AnsTakesU16, intervals_from_u16, narrow_from_u16};
 ghost use Rattle.constriction_c.specs.Words.{lowest};
 ghost use Rattle.constriction_calls.specs.AnsCalls.{AreBinary, HasBinary};
-ghost use Rattle.constriction_calls.specs.NarrowSymbols.{narrow_by_weights};
 ghost use Rattle.constriction_inputs.specs.Mixtures.{in_mixture};
 ghost use Rattle.constriction_inputs.specs.Quantized.{in_family};
 ghost use Rattle.constriction_inputs.specs.Rows.{by_rows};
 ghost use Rattle.constriction_inputs.specs.Weights.{by_weights};
-ghost use Rattle.std.specs.Prelude.{◌^◌, map};
+ghost use Rattle.std.specs.Prelude.{map};
 
 use crate::codes::{code_of, code_without_space};
 use constriction_calls::ans::decoding::{decode, decode_narrow};
@@ -223,8 +222,8 @@ pub extern "C" fn constriction_ans_decode_bytes_u16(
     weights: &[u16],
     symbols: &mut [u8],
 ) -> u32
-    ensures { AnsTakesU16 result (narrow_by_weights (2 ^ 8) (map (lowest 16) weights.now)) words.now head.old len.old
-        head.new len.new (map (lowest 8) symbols.old) (map (lowest 8) symbols.new) }
+    ensures { AnsTakesU16 result (narrow_from_u16 8 weights.now) words.now head.old len.old head.new len.new
+        (map (lowest 8) symbols.old) (map (lowest 8) symbols.new) }
 {
     let answer = decode_narrow::<_, _, u16, u8, 12>(alloc, head, words, len, weights, symbols);
     code_without_space(answer)
@@ -265,8 +264,8 @@ pub extern "C" fn constriction_ans_decode_shorts_u16(
     weights: &[u16],
     symbols: &mut [u16],
 ) -> u32
-    ensures { AnsTakesU16 result (narrow_by_weights (2 ^ 16) (map (lowest 16) weights.now)) words.now head.old len.old
-        head.new len.new (map (lowest 16) symbols.old) (map (lowest 16) symbols.new) }
+    ensures { AnsTakesU16 result (narrow_from_u16 16 weights.now) words.now head.old len.old head.new len.new
+        (map (lowest 16) symbols.old) (map (lowest 16) symbols.new) }
 {
     let answer = decode_narrow::<_, _, u16, u16, 12>(alloc, head, words, len, weights, symbols);
     code_without_space(answer)

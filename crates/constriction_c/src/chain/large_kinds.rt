@@ -1,15 +1,14 @@
 // Written by tools/sizes from large.rt.
 //! The same calls with other kinds of models, codewords and words.
 
-ghost use Rattle.constriction_c.specs.Large.{ChainBeginsU32, ChainEndsU32, ChainPutsU32, ChainTakesU32, intervals_from_u32, large_chain};
+ghost use Rattle.constriction_c.specs.Large.{ChainBeginsU32, ChainEndsU32, ChainPutsU32, ChainTakesU32, intervals_from_u32, large_chain, narrow_from_u32};
 ghost use Rattle.constriction_c.specs.Words.{lowest};
 ghost use Rattle.constriction_calls.specs.ChainWords.{InBinary, InRemainders};
-ghost use Rattle.constriction_calls.specs.NarrowSymbols.{narrow_by_weights};
 ghost use Rattle.constriction_inputs.specs.Mixtures.{in_mixture};
 ghost use Rattle.constriction_inputs.specs.Quantized.{in_family};
 ghost use Rattle.constriction_inputs.specs.Rows.{by_rows};
 ghost use Rattle.constriction_inputs.specs.Weights.{by_weights};
-ghost use Rattle.std.specs.Prelude.{◌^◌, map};
+ghost use Rattle.std.specs.Prelude.{map};
 
 use crate::chain::large::ChainHeadsU32;
 use crate::codes::{code_of, code_without_space};
@@ -256,7 +255,7 @@ pub extern "C" fn constriction_chain_decode_bytes_u32(
     symbols: &mut [u8],
     needed: &mut usize,
 ) -> u32
-    ensures { ChainTakesU32 result needed.old needed.new (narrow_by_weights (2 ^ 8) (map (lowest 32) weights.now))
+    ensures { ChainTakesU32 result needed.old needed.new (narrow_from_u32 8 weights.now)
         (large_chain heads.old compressed.now count.old remainders.old rest.old)
         (large_chain heads.new compressed.now count.new remainders.new rest.new) (map (lowest 8) symbols.old)
         (map (lowest 8) symbols.new) }
@@ -312,7 +311,7 @@ pub extern "C" fn constriction_chain_decode_shorts_u32(
     symbols: &mut [u16],
     needed: &mut usize,
 ) -> u32
-    ensures { ChainTakesU32 result needed.old needed.new (narrow_by_weights (2 ^ 16) (map (lowest 32) weights.now))
+    ensures { ChainTakesU32 result needed.old needed.new (narrow_from_u32 16 weights.now)
         (large_chain heads.old compressed.now count.old remainders.old rest.old)
         (large_chain heads.new compressed.now count.new remainders.new rest.new) (map (lowest 16) symbols.old)
         (map (lowest 16) symbols.new) }

@@ -1,15 +1,14 @@
 // Written by tools/sizes from large_kinds.rt.
 //! The same calls with other kinds of models, codewords and words.
 
-ghost use Rattle.constriction_c.specs.Small.{RangeEndsU16, RangePutsU16, RangeTakesU16, intervals_from_u16};
+ghost use Rattle.constriction_c.specs.Small.{RangeEndsU16, RangePutsU16, RangeTakesU16, intervals_from_u16, narrow_from_u16};
 ghost use Rattle.constriction_c.specs.Words.{lowest};
-ghost use Rattle.constriction_calls.specs.NarrowSymbols.{narrow_by_weights};
 ghost use Rattle.constriction_calls.specs.RangeCalls.{IsSelfSealed, RangeSeals};
 ghost use Rattle.constriction_inputs.specs.Mixtures.{in_mixture};
 ghost use Rattle.constriction_inputs.specs.Quantized.{in_family};
 ghost use Rattle.constriction_inputs.specs.Rows.{by_rows};
 ghost use Rattle.constriction_inputs.specs.Weights.{by_weights};
-ghost use Rattle.std.specs.Prelude.{◌^◌, map};
+ghost use Rattle.std.specs.Prelude.{map};
 
 use crate::codes::{code_of, code_without_space};
 use crate::range::small::{RangeDecoderU16, RangeEncoderU16};
@@ -233,8 +232,8 @@ pub extern "C" fn constriction_range_decode_bytes_u16(
     weights: &[u16],
     symbols: &mut [u8],
 ) -> u32
-    ensures { RangeTakesU16 result (narrow_by_weights (2 ^ 8) (map (lowest 16) weights.now)) words.now decoder.old
-        decoder.new (map (lowest 8) symbols.old) (map (lowest 8) symbols.new) }
+    ensures { RangeTakesU16 result (narrow_from_u16 8 weights.now) words.now decoder.old decoder.new
+        (map (lowest 8) symbols.old) (map (lowest 8) symbols.new) }
 {
     let mut parts = decoder.parts();
     let answer = decode_narrow::<_, _, u16, u8, 12>(alloc, &mut parts, words, weights, symbols);
@@ -277,8 +276,8 @@ pub extern "C" fn constriction_range_decode_shorts_u16(
     weights: &[u16],
     symbols: &mut [u16],
 ) -> u32
-    ensures { RangeTakesU16 result (narrow_by_weights (2 ^ 16) (map (lowest 16) weights.now)) words.now decoder.old
-        decoder.new (map (lowest 16) symbols.old) (map (lowest 16) symbols.new) }
+    ensures { RangeTakesU16 result (narrow_from_u16 16 weights.now) words.now decoder.old decoder.new
+        (map (lowest 16) symbols.old) (map (lowest 16) symbols.new) }
 {
     let mut parts = decoder.parts();
     let answer = decode_narrow::<_, _, u16, u16, 12>(alloc, &mut parts, words, weights, symbols);

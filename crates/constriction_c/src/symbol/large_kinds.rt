@@ -4,7 +4,7 @@
 ghost use Rattle.constriction_c.specs.Large.{PutsAtBitU32, PutsCodewordsU32, TakesAtBitU32, TakesCodewordsU32};
 ghost use Rattle.constriction_c.specs.Words.{lowest};
 ghost use Rattle.constriction_calls.specs.SymbolCalls.{AsQueue, AsStack, OfNumbers, OfWeights};
-ghost use Rattle.std.specs.Prelude.{◌^◌, map};
+ghost use Rattle.std.specs.Prelude.{map};
 
 use crate::codes::{code_of, code_without_space};
 use constriction_calls::symbol::{

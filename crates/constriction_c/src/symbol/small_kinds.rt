@@ -4,7 +4,7 @@
 ghost use Rattle.constriction_c.specs.Small.{PutsAtBitU16, PutsCodewordsU16, TakesAtBitU16, TakesCodewordsU16};
 ghost use Rattle.constriction_c.specs.Words.{lowest};
 ghost use Rattle.constriction_calls.specs.SymbolCalls.{AsQueue, AsStack, OfNumbers, OfWeights};
-ghost use Rattle.std.specs.Prelude.{◌^◌, map};
+ghost use Rattle.std.specs.Prelude.{map};
 
 use crate::codes::{code_of, code_without_space};
 use constriction_calls::symbol::{

@@ -3,7 +3,7 @@
 ghost use Rattle.std.specs.Prelude.{◌≡◌, ◌≤◌, ◌^◌, length, map};
 ghost use Rattle.constriction_base.specs.Models.{pairs_of};
 ghost use Rattle.constriction_base.specs.Steps.{IsSizes};
-ghost use Rattle.constriction_calls.specs.AnsCalls.{AnsTakes, AnsTakesBy, AnsTakesByWeights, coder_of, state_kept};
+ghost use Rattle.constriction_calls.specs.AnsCalls.{AnsTakesBy, AnsTakesByWeights, coder_of, state_kept};
 ghost use Rattle.constriction_calls.specs.NarrowSymbols.{narrow_by_weights};
 ghost use Rattle.constriction_stack.specs.Symbols.{Decodes, DecodesAll};
 
@@ -117,9 +117,8 @@ pub fn decode_narrow<
 ) -> Result<(), Refusal>
     requires sizes { IsSizes Word.BITS State.BITS }
     requires precision { (1 ≤ PRECISION) × (PRECISION ≤ P.BITS) }
-    ensures call { AnsTakes Word.number State.number Word.BITS State.BITS PRECISION
-        (narrow_by_weights (2 ^ S.BITS) (map P.number weights.now))
-        (coder_of head.old words.now len.old) (coder_of head.new words.now len.new)
+    ensures call { AnsTakesBy Word.BitArray State.BitArray PRECISION
+        (narrow_by_weights (2 ^ S.BITS) (map P.number weights.now)) words.now head.old len.old head.new len.new
         (map S.number symbols.old) (map S.number symbols.new) result }
 {
     if *len > words.len() || !has_numbers::<S>(weights.len()) {

@@ -5,7 +5,7 @@
 ghost use Rattle.std.specs.Prelude.{◌≡◌, ◌≤◌, [], length, map, reverse, IfSome};
 ghost use Rattle.constriction_base.specs.Models.{AreModels, pairs_of};
 ghost use Rattle.constriction_base.specs.Steps.{IsSizes};
-ghost use Rattle.constriction_calls.specs.AnsCalls.{AnsPuts, AnsPutsBy, AnsPutsIntervals, coder_of};
+ghost use Rattle.constriction_calls.specs.AnsCalls.{AnsPutsBy, AnsPutsIntervals};
 ghost use Rattle.constriction_inputs.specs.Weights.{by_weights};
 ghost use Rattle.constriction_stack.specs.Symbols.{EncodesAll};
 
@@ -93,9 +93,9 @@ pub fn encode_narrow_reverse<
 ) -> Result<(), Refusal>
     requires sizes { IsSizes Word.BITS State.BITS }
     requires precision { (1 ≤ PRECISION) × (PRECISION ≤ P.BITS) }
-    ensures call { AnsPuts Word.number State.number Word.BITS State.BITS PRECISION
+    ensures call { AnsPutsBy Word.BitArray State.BitArray PRECISION
         (by_weights (map P.number weights.now) (map S.number symbols.now))
-        (coder_of head.old words.old len.old) (coder_of head.new words.new len.new) result }
+        head.old words.old len.old head.new words.new len.new result }
 {
     let table = Weights { weights };
     if let Some(wide) = widened(alloc, symbols) {

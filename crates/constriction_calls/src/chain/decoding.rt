@@ -5,9 +5,9 @@ ghost use Rattle.constriction_base.specs.Models.{pairs_of};
 ghost use Rattle.constriction_chain.specs.Chain.{IsSized};
 ghost use Rattle.constriction_chain.specs.Symbols.{TakesOffAll};
 ghost use Rattle.constriction_inputs.specs.Buffers.{Appended};
-ghost use Rattle.constriction_calls.specs.ChainCalls.{AreHeadsOf, ChainTakesBy, ChainTakesByWeights, LacksCompressed, keeps};
+ghost use Rattle.constriction_calls.specs.ChainCalls.{AreHeadsOf, ChainTakesBy, ChainTakesByWeights};
+ghost use Rattle.constriction_calls.specs.ChainCalls.{ChainTakesNarrow, LacksCompressed, keeps};
 ghost use Rattle.constriction_calls.specs.ChainFits.{CoderFits};
-ghost use Rattle.constriction_calls.specs.NarrowSymbols.{narrow_by_weights};
 ghost use Rattle.constriction_inputs.specs.Coded.{AreFit, items};
 ghost use Rattle.constriction_inputs.specs.declared.refusal.Refusal.TheVariants as refusals;
 
@@ -176,11 +176,10 @@ pub fn decode_narrow<
     requires sized { IsSized Word.BITS State.BITS PRECISION }
     requires within { PRECISION ≤ P.BITS }
     requires fits { CoderFits Word.row State.row }
-    ensures call { ChainTakes Word.number State.number Word.BITS State.BITS PRECISION
-        (narrow_by_weights (2 ^ S.BITS) (map P.number weights.now))
+    ensures call { ChainTakesNarrow Word.BitArray State.BitArray S.BitArray PRECISION P.number weights.now
         (keeps heads.old compressed.now compressed_len.old remainders.old remainders_len.old)
         (keeps heads.new compressed.now compressed_len.new remainders.new remainders_len.new)
-        (map S.number symbols.old) (map S.number symbols.new) result }
+        symbols.old symbols.new result }
 {
     if *compressed_len > compressed.len() || *remainders_len > remainders.len() {
         return Err(Refusal::WrongLength);

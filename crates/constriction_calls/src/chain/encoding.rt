@@ -5,7 +5,8 @@ ghost use Rattle.constriction_base.specs.Models.{AreKnown, pairs_of};
 ghost use Rattle.constriction_chain.specs.Chain.{IsSized};
 ghost use Rattle.constriction_chain.specs.Symbols.{PutsBackAll};
 ghost use Rattle.constriction_inputs.specs.Buffers.{Appended};
-ghost use Rattle.constriction_calls.specs.ChainCalls.{AreHeadsOf, ChainPutsBy, ChainPutsIntervals, LacksRemainders, keeps};
+ghost use Rattle.constriction_calls.specs.ChainCalls.{AreHeadsOf, ChainPutsBy, ChainPutsIntervals, LacksRemainders};
+ghost use Rattle.constriction_calls.specs.ChainCalls.{keeps};
 ghost use Rattle.constriction_calls.specs.ChainFits.{CoderFits};
 ghost use Rattle.constriction_inputs.specs.Coded.{AreFit, items};
 ghost use Rattle.constriction_inputs.specs.Weights.{by_weights};
@@ -166,7 +167,7 @@ pub fn encode_narrow_reverse<
     requires sized { IsSized Word.BITS State.BITS PRECISION }
     requires within { PRECISION ≤ P.BITS }
     requires fits { CoderFits Word.row State.row }
-    ensures call { ChainPuts Word.number State.number Word.BITS State.BITS PRECISION
+    ensures call { ChainPutsBy Word.BitArray State.BitArray PRECISION
         (by_weights (map P.number weights.now) (map S.number symbols.now))
         (keeps heads.old compressed.old compressed_len.old remainders.now remainders_len.old)
         (keeps heads.new compressed.new compressed_len.new remainders.now remainders_len.new) result }

@@ -1,12 +1,12 @@
 //! Encoding symbols after the words in a caller's buffer.
 
-ghost use Rattle.std.specs.Prelude.{◌≡◌, ◌≤◌, List, length, map, IfSome};
+ghost use Rattle.std.specs.Prelude.{◌≡◌, ◌≤◌, List, length, IfSome};
 ghost use Rattle.constriction_base.specs.Models.{pairs_of};
 ghost use Rattle.constriction_base.specs.Steps.{IsSizes};
 ghost use Rattle.constriction_queue.specs.Encoder.{left_to_encode, run_by};
 ghost use Rattle.constriction_queue.specs.Symbols.{NarrowsAll};
 ghost use Rattle.constriction_inputs.specs.Coded.{AreFit, items};
-ghost use Rattle.constriction_calls.specs.RangeCalls.{IsEncoderKept, RangePuts, RangePutsBy, RangePutsIntervals, kept_in, run_kept};
+ghost use Rattle.constriction_calls.specs.RangeCalls.{IsEncoderKept, RangePutsBy, RangePutsIntervals, run_kept};
 ghost use Rattle.constriction_inputs.specs.Weights.{by_weights};
 
 use crate::narrow::{are_known, widened};
@@ -225,9 +225,9 @@ pub fn encode_narrow<
 ) -> Result<(), Refusal>
     requires sizes { IsSizes Word.BITS State.BITS }
     requires precision { (1 ≤ PRECISION) × (PRECISION ≤ P.BITS) }
-    ensures call { RangePuts Word.number State.number Word.BITS State.BITS PRECISION
+    ensures call { RangePutsBy Word.BitArray State.BitArray PRECISION
         (by_weights (map P.number weights.now)) (map S.number symbols.now)
-        (kept_in encoder.old buffer.old len.old) (kept_in encoder.new buffer.new len.new) result }
+        encoder.old buffer.old len.old encoder.new buffer.new len.new result }
 {
     let table = Weights { weights };
     if let Some(wide) = widened(alloc, symbols) {
