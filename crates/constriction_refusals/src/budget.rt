@@ -45,22 +45,24 @@ impl Budget {
         self.left.set(self.calls);
     }
 
-    /// Returns whether a call was refused.
+    /// Returns whether [`Budget::passes`] ever returned `false`.
     pub fn has_refused(&self) -> bool {
         self.refused.get()
     }
 
-    /// Returns whether `prepare` makes room.
+    /// Returns whether the writes that a `prepare` asked room for don't count as calls.
     pub fn makes_room(&self) -> bool {
         self.makes_room
     }
 
-    /// Sets the number of calls left to 1000, so that no later call is refused.
+    /// Sets the number of calls left to 1000, enough for all calls up to the next [`Budget::begin`].
     pub fn refuse_nothing(&self) {
         self.left.set(1000);
     }
 
-    /// Adds `number` to the sum: a word that a backend took, or the number of words that a `prepare` asked for.
+    /// Adds `number` to the sum that [`Budget::taken`] returns, which depends on the order of the numbers.
+    ///
+    /// `number` is a word that a backend took, or the number of words that a `prepare` asked for.
     pub fn note(&self, number: u64) {
         let taken = self.taken.get();
         self.taken.set(

@@ -184,7 +184,7 @@ fn of_remainders(alloc: Global, backend: Refusing<'_>, sum: &mut Sum) {
     }
 }
 
-/// Imports the words of `backend` with the call `form`, and adds the outcome to `sum`.
+/// Makes a chain coder from the words of `backend` with the import `form`, and adds the outcome to `sum`.
 pub fn make(alloc: Global, backend: Refusing<'_>, form: Form, sum: &mut Sum) {
     match form {
         Form::FromRemainders => of_remainders(alloc, backend, sum),

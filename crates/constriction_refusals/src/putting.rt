@@ -30,7 +30,7 @@ pub enum Take {
     List,
 }
 
-/// Returns the outcome of a step or of a list call.
+/// Returns the outcome of a call that encodes or decodes symbols, from the call's result `answer`.
 pub fn answer_of<F: Drop, E: Drop>(answer: Result<(), CoderError<F, E>>) -> Answer {
     match answer {
         Ok(()) => Answer::Done,
@@ -119,7 +119,7 @@ where
     }
 }
 
-/// Decodes six symbols with the call `call`, also after a refusal, and adds the outcomes to `sum`.
+/// Decodes six times with the call `call`, even if a decode is refused, and adds the six outcomes to `sum`.
 pub fn takes<C>(coder: &mut C, table: &Table, call: Take, sum: &mut Sum)
 where
     C: Decode<4>,

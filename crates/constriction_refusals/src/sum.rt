@@ -29,7 +29,7 @@ impl Sum {
         self.add(1);
     }
 
-    /// Adds `number` after the numbers already added.
+    /// Adds `number` to the sum, which depends on the order of the numbers.
     pub fn add(&mut self, number: u64) {
         self.value = self
             .value

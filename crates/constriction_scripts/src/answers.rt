@@ -15,9 +15,9 @@ pub const OTHER: &str = "other";
 /// The answer if there is no memory for the test's own lists.
 pub const MEMORY: &str = "Memory";
 
-/// An error that has a word in scripts.
+/// An error that a script can expect as the answer of a call.
 pub trait Told {
-    /// Returns the text for `error` in scripts, or a text for its type if `error` is `None`.
+    /// Returns the text for `error` in scripts, or a text for the error type if `error` is `None`.
     fn word(error: Option<&Self>) -> &'static str;
 
     /// Returns the text for this error in scripts.
@@ -116,7 +116,7 @@ impl<C: Told, E: Told> Told for TryCodingError<C, E> {
     }
 }
 
-/// Returns the answer of a call without a result: [`DONE`], or the word of its error.
+/// Returns the answer of a call that returns no value: [`DONE`], or the text for the error in scripts.
 pub fn answer_of<E: Told + Drop>(answer: Result<(), E>) -> &'static str {
     match answer {
         Ok(()) => DONE,

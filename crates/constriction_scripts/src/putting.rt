@@ -220,7 +220,9 @@ const PUTS: &[(&str, Put)] = &[
     ("items", Put::Items),
 ];
 
-/// Encodes symbols with the call that `act` names. Returns its answer, or `None` if `PUTS` doesn't have the verb.
+/// Encodes symbols from first to last, with the call that `act` names.
+///
+/// Returns the answer of the call, or `None` if `PUTS` doesn't have the verb of `act`.
 pub fn put_by<C, M, const PRECISION: usize>(
     alloc: Global,
     coder: &mut C,

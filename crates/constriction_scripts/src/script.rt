@@ -41,7 +41,7 @@ pub struct Script {
 /// The number that stands for the error 0. The error `k` has the number `BAD + k`.
 const BAD: u128 = 1 << 64;
 
-/// Returns the error that `numbers[at]` stands for, or `None` if it stands for no error.
+/// Returns `k` if `numbers[at]` exists and stands for the error `k`, and `None` otherwise.
 pub fn error_at(numbers: &[u128], at: usize) -> Option<u8> {
     match numbers.get(at) {
         Some(number) if *number >= BAD => u8::try_from(*number - BAD).ok(),

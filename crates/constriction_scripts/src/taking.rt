@@ -202,7 +202,9 @@ const TAKES: &[(&str, Take)] = &[
     ("by-items", Take::ByItems),
 ];
 
-/// Decodes symbols with the call that `act` names. Returns its answer, or `None` if `TAKES` doesn't have the verb.
+/// Decodes symbols with the call that `act` names.
+///
+/// Returns the answer of the call, or `None` if `TAKES` doesn't have the verb of `act`.
 pub fn take_by<C, M, const PRECISION: usize>(
     alloc: Global,
     coder: &mut C,

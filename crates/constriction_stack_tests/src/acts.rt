@@ -159,7 +159,9 @@ where
     show_by::<_, _, _, PRECISION>(coder, act).unwrap_or(OTHER)
 }
 
-/// Runs a script with a coder. Returns the text of the first act whose result isn't the expected one.
+/// Runs a script with a coder, up to the first act with an unexpected answer.
+///
+/// Returns the text of this act, or `None` if every act has the expected answer.
 pub fn follow<Word, State, Backend, Probability, const PRECISION: usize>(
     alloc: Global,
     coder: &mut AnsCoder<Word, State, Backend>,

@@ -29,9 +29,10 @@ pub fn said(failed: Option<&'static str>) -> Result<(), Fail> {
     }
 }
 
-/// Runs a script with a new coder over a vector, and with a table of `weights`.
+/// Runs the script `text` with a new coder over a vector, and with a table of `weights`.
 ///
-/// Returns the first act that failed, or `MEMORY` if the table or the script can't be made.
+/// Returns the text of the first act that failed, or `None` if no act failed. If the table or the script can't be made,
+/// returns [`MEMORY`].
 pub fn go<Word, State, Probability, const PRECISION: usize>(
     alloc: Global,
     weights: &[Probability],
@@ -56,12 +57,16 @@ where
     }
 }
 
-/// Runs a script with a coder of 8-bit words and 16-bit heads.
+/// Runs the script `text` with a coder of 8-bit words and 16-bit heads, and with a table of `weights`.
+///
+/// If an act fails, the error is the text of this act.
 pub fn small(alloc: Global, weights: &[u8], text: &'static str) -> Result<(), Fail> {
     said(go::<u8, u16, u8, 8>(alloc, weights, text))
 }
 
-/// Runs a script with a coder of 32-bit words and 64-bit heads.
+/// Runs the script `text` with a coder of 32-bit words and 64-bit heads, and with a table of `weights`.
+///
+/// If an act fails, the error is the text of this act.
 pub fn wide(alloc: Global, weights: &[u32], text: &'static str) -> Result<(), Fail> {
     said(go::<u32, u64, u32, 24>(alloc, weights, text))
 }

@@ -192,7 +192,7 @@ where
     DONE
 }
 
-/// Exports a coder, and compares the words with `numbers`. Returns the answer.
+/// Exports a coder's words, and compares them with `numbers`. Returns the answer.
 pub fn export<Word, State, Backend>(
     coder: AnsCoder<Word, State, Backend>,
     numbers: &[u128],
@@ -209,7 +209,7 @@ where
     }
 }
 
-/// Exports a coder in binary form, and compares the words with `numbers`. Returns the answer.
+/// Exports a coder's words in binary form, and compares them with `numbers`. Returns the answer.
 pub fn export_binary<Word, State, Backend>(
     coder: AnsCoder<Word, State, Backend>,
     numbers: &[u128],
@@ -344,7 +344,9 @@ where
     }
 }
 
-/// Runs a script with a coder over a vector. Returns the text of the first act whose result isn't the expected one.
+/// Runs a script with a coder over a vector, up to the first act with an unexpected answer.
+///
+/// Returns the text of this act, or `None` if every act has the expected answer.
 pub fn follow_owning<Word, State, Probability, const PRECISION: usize>(
     alloc: Global,
     coder: &mut AnsCoder<Word, State>,

@@ -107,9 +107,9 @@ where
     }
 }
 
-/// Runs a script with a coder that can only decode.
+/// Runs a script with a coder that can only decode, up to the first act with an unexpected answer.
 ///
-/// Returns the text of the first act whose result isn't the expected one.
+/// Returns the text of this act, or `None` if every act has the expected answer.
 pub fn follow_reading<State, Backend>(
     coder: &mut AnsCoder<u8, State, Backend>,
     table: &WeightTable<u8, 8>,
@@ -130,9 +130,9 @@ where
     None
 }
 
-/// Runs a script with a coder that can decode and seek.
+/// Runs a script with a coder that can decode and seek, up to the first act with an unexpected answer.
 ///
-/// Returns the text of the first act whose result isn't the expected one.
+/// Returns the text of this act, or `None` if every act has the expected answer.
 pub fn follow_seeking<State, Backend>(
     coder: &mut AnsCoder<u8, State, Backend>,
     table: &WeightTable<u8, 8>,

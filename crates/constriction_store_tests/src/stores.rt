@@ -12,7 +12,7 @@ pub type Table = WeightTable<u32, 24>;
 /// The type of the store of most tests.
 pub type Halves = Store<u32, u64, Table, 24>;
 
-/// An entry of an index.
+/// An entry of an index: the place, the range coder's state at this place, and the number of symbols.
 pub type Entry = (usize, RangeCoderState<u32, u64>, usize);
 
 /// An entry of an index as numbers: the place, the interval's lower end and length, and the number of symbols.
@@ -81,7 +81,7 @@ pub fn gives_all(alloc: Global, store: &Halves, chunks: &[&[usize]]) -> bool {
     store.num_chunks() == chunks.len()
 }
 
-/// Returns the entry of an index with these numbers, or `None` if the interval is too short.
+/// Converts an entry's numbers to the entry. Returns `None` if the interval is too short.
 pub fn entry_of((place, lower, range, len): Numbers) -> Option<Entry> {
     match RangeCoderState::new(lower, range) {
         Ok(state) => Some((place, state, len)),

@@ -59,7 +59,9 @@ where
     coder.encode_iid_symbols(symbols, model)
 }
 
-/// Decodes the first symbol of an iterator over three symbols, and leaves the other two on the coder.
+/// Decodes one symbol with an iterator over three symbols, and leaves the other two on the coder.
+///
+/// Returns the iterator's first item, which is never `None`.
 pub fn first_of_three<C, M>(
     coder: &mut C,
     model: &M,
@@ -111,7 +113,9 @@ where
     coder.encode_symbols([(first, model), (second, model)])
 }
 
-/// Encodes the items of a list in which the second item is an error. The call stops there, after one symbol.
+/// Encodes the items of a list in which the second item is the error 7.
+///
+/// The call stops at this error, after one symbol, and returns the error.
 pub fn encode_one<C, M>(
     coder: &mut C,
     symbol: &M::Symbol,
@@ -126,7 +130,9 @@ where
     coder.try_encode_symbols([Ok((symbol, model)), Err(7), Ok((symbol, model))])
 }
 
-/// Decodes a symbol with the first of `models`. Returns `None`, and leaves the coder unchanged, if there are none.
+/// Decodes a symbol with the first of `models`, and returns the outcome of this decode.
+///
+/// If `models` is empty, returns `None` and leaves the coder unchanged.
 pub fn first_of_models<C, M>(
     coder: &mut C,
     models: &[M],
@@ -144,7 +150,9 @@ where
     symbols.next()
 }
 
-/// Decodes with an iterator of models in which the first item is an error. The coder stays unchanged.
+/// Decodes with an iterator of models in which the first item is the error 7.
+///
+/// Returns this error, and leaves the coder unchanged.
 pub fn first_is_bad<C, M>(
     coder: &mut C,
     model: &M,
@@ -198,9 +206,9 @@ where
     coder.encode_symbol(symbol, model)
 }
 
-/// Encodes a symbol, or returns `None` if the coder may be full.
+/// Encodes a symbol, or returns `None` if the coder's `maybe_full` returns true.
 ///
-/// If the coder's `tells_room` holds, an error that this function returns never means a lack of room.
+/// If the coder's ghost member `tells_room` holds, the returned error never means a lack of room.
 pub fn encode_unless_full<C, M>(
     coder: &mut C,
     symbol: &M::Symbol,
@@ -219,7 +227,9 @@ where
     Some(coder.encode_symbol(symbol, model))
 }
 
-/// Decodes a symbol, or returns `None` if the coder may be exhausted. An error never means that the data ended.
+/// Decodes a symbol, or returns `None` if the coder's `maybe_exhausted` returns true.
+///
+/// The returned error never means that the data ended.
 pub fn decode_unless_exhausted<C, M>(
     coder: &mut C,
     model: &M,

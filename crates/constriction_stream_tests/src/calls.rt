@@ -88,12 +88,12 @@ pub fn put_list(pile: &mut Pile, symbols: &[usize], table: &Table) -> Put {
     how_put(pile.encode_iid_symbols(symbols, table))
 }
 
-/// Returns whether the pile may be full.
+/// Returns the result of the pile's `maybe_full`.
 pub fn seems_full(pile: &Pile) -> bool {
     Encode::<8>::maybe_full(pile)
 }
 
-/// Returns whether the pile may be exhausted.
+/// Returns the result of the pile's `maybe_exhausted`.
 pub fn seems_exhausted(pile: &Pile) -> bool {
     Decode::<8>::maybe_exhausted(pile)
 }

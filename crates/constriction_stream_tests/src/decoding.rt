@@ -47,7 +47,9 @@ fn iterators_dropped_early(rt: HostRuntime) -> Result<(), Fail> {
     Ok(())
 }
 
-/// Decodes with generic callers. Returns whether each caller returns what is expected.
+/// Encodes two symbols onto `pile`, and decodes them with the generic functions of `callers`.
+///
+/// Returns whether every call has the expected outcome.
 fn through_the_bounds(pile: &mut Pile, tables: &[Table; 1]) -> bool {
     matches!(put_list(pile, &[1, 0], &tables[0]), Put::Done)
         && matches!(

@@ -3,7 +3,7 @@
 ghost use Rattle.std.specs.Prelude.{◌≡◌, ◌+◌, MatchOption};
 ghost use Rattle.std.specs.Iterator.{at_most};
 
-/// An iterator that returns the reference `one` `count` times, and has no size hint.
+/// An iterator that returns the reference `one` exactly `count` times, and has no size hint.
 #[derive(Drop)]
 pub struct Ones<'a, T> {
     pub count: usize,

@@ -12,7 +12,7 @@ use std::alloc::Global;
 /// A queue decoder over borrowed words.
 pub type LentQueue<'a, Word> = QueueDecoder<Word, Cursor<Word, &'a [Word]>>;
 
-/// Exports a queue. Returns whether the words are `words`.
+/// Exports a queue. Returns whether the exported words are `words`.
 pub fn exports_queue<Word: BitArray + PartialEq>(
     coder: QueueEncoder<Word>,
     words: &[Word],
@@ -23,7 +23,7 @@ pub fn exports_queue<Word: BitArray + PartialEq>(
     }
 }
 
-/// Exports a stack. Returns whether the words are `words`.
+/// Exports a stack. Returns whether the exported words are `words`.
 pub fn exports<Word: BitArray + PartialEq>(coder: StackCoder<Word>, words: &[Word]) -> bool {
     match coder.into_compressed() {
         Ok(all) => all.as_slice() == words,
@@ -52,7 +52,9 @@ pub fn has_len<Word: BitArray, S: Semantics, B: BoundedReadWords<Word, Stack>>(
     coder.len_fits() && coder.len() == len && coder.is_empty() == (len == 0)
 }
 
-/// Encodes `numbers` into a queue. Returns whether it has `len` bits, exports `words` and decodes to `numbers`.
+/// Encodes `numbers` into a new queue as Exp-Golomb codewords.
+///
+/// Returns whether the queue has `len` bits, exports `words` and decodes to `numbers`.
 pub fn queue_goes<Word: BitArray + PartialEq, N: BitArray + PartialEq>(
     alloc: Global,
     numbers: &[N],

@@ -16,7 +16,7 @@ pub enum Put {
     Refused,
 }
 
-/// Writes the codewords of `symbols` until one is refused. Returns the outcome.
+/// Writes the Exp-Golomb codewords of `symbols` until one is refused. Returns the outcome.
 pub fn puts<S: BitOrder, Stream: WriteBitStream<S>, N: BitArray>(
     stream: &mut Stream,
     symbols: &[N],
@@ -55,7 +55,7 @@ pub fn refusal_of<E: Drop>(error: CoderError<SymbolCodeError<InvalidCodeword>, E
     }
 }
 
-/// Reads symbols and compares them with `symbols`, until one is refused or differs. Returns the outcome.
+/// Reads Exp-Golomb codewords until a read fails or a symbol isn't the next of `symbols`. Returns the outcome.
 pub fn takes<S: Semantics, Stream: ReadBitStream<S>, N: BitArray + PartialEq>(
     stream: &mut Stream,
     symbols: &[N],

@@ -86,7 +86,7 @@ pub fn decoder_of(
     DecoderHuffmanTree::from_probabilities(alloc, weights.iter())
 }
 
-/// Returns whether two trees agree, and have exactly the codewords `codes`.
+/// Returns whether the trees of an encoder and a decoder both have exactly the codewords `codes`.
 ///
 /// `codes` lists each codeword's bits as a number, and the number of its bits.
 pub fn have_codes(
@@ -107,7 +107,7 @@ pub fn have_codes(
     encoder.num_symbols() == codes.len() && decoder.num_symbols() == codes.len()
 }
 
-/// Returns whether both trees of `weights` have exactly the codewords `codes`.
+/// Returns whether the encoder's and the decoder's tree of `weights` both have exactly the codewords `codes`.
 pub fn are_codes(alloc: Global, weights: &[u8], codes: &[(u32, u32)]) -> bool {
     match (encoder_of(alloc, weights), decoder_of(alloc, weights)) {
         (Ok(encoder), Ok(decoder)) => have_codes(alloc, &encoder, &decoder, codes),

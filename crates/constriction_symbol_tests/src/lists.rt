@@ -10,7 +10,7 @@ use constriction_symbol::exp_golomb::ExpGolomb;
 use constriction_symbol::reading::ReadBitStream;
 use std::alloc::AllocError;
 
-/// Returns the outcome of a list call.
+/// Returns the outcome of a call that encodes symbols, from the call's result `answer`.
 pub fn answer_of(answer: Result<(), DefaultEncoderError<AllocError>>) -> Put {
     match answer {
         Ok(()) => Put::Done,

@@ -89,7 +89,7 @@ fn emit_lone<E, F: FnMut(bool) -> Result<(), E>>(
 
 /// Writes a codeword of `zeros + 1` bits to a queue over a buffer, and checks the words.
 ///
-/// If there was no memory, the function checks that no bit was written, and fails with a text that says so.
+/// If there is no memory, the function checks that no bit was written, and returns an error that reports both facts.
 pub fn turned_round(alloc: Global, zeros: u32) -> Result<(), Fail> {
     let mut words = [0u64; 3];
     let mut coder: QueueEncoder<u64, Cursor<u64, &mut [u64]>> = QueueEncoder::from_compressed(

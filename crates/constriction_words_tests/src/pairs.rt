@@ -3,7 +3,7 @@
 use crate::arithmetic::{difference, product, quotient, quotient_by, remainder, sum};
 use constriction_words::BitArray;
 
-/// Two words, and the results that the methods should return for them.
+/// Two words, and the results that the methods of [`BitArray`] should return for them.
 #[derive(Drop)]
 pub struct Pair<W> {
     pub numbers: (W, W),
@@ -29,7 +29,7 @@ fn is_pair<W: BitArray + PartialEq>(pair: &Pair<W>) -> bool {
         && first.wrapping_minus(second) == pair.wrapping.1
 }
 
-/// Returns whether the type's methods return the expected results for each of `pairs`.
+/// Returns whether the methods of `W` return the expected results for each of `pairs`.
 pub fn are_pairs<W: BitArray + PartialEq>(pairs: &[Pair<W>]) -> bool {
     for pair in pairs {
         if !is_pair(pair) {

@@ -3,7 +3,7 @@
 use crate::arithmetic::{index, shifted, through_nonzero};
 use constriction_words::BitArray;
 
-/// A word, and the results that the methods should return for it.
+/// A word, and the results that the methods of [`BitArray`] should return for it.
 #[derive(Drop)]
 pub struct Single<W> {
     pub number: W,
@@ -28,7 +28,7 @@ fn is_single<W: BitArray + PartialEq>(single: &Single<W>) -> bool {
         && number.to_nonzero().is_none() == (single.length == 0)
 }
 
-/// Returns whether the type's methods and constants have the expected values.
+/// Returns whether the constants of `W` and the results of its methods are the expected ones.
 ///
 /// Each of `singles` holds a word and the results that the methods should return for it.
 /// `bits` is the expected `BITS`. `named` holds the expected `nothing()`, `unit()` and `greatest()`.
