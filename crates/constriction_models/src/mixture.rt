@@ -60,7 +60,7 @@ pub enum MixtureError {
 ///         Component { weight: 1, distribution: high },
 ///     ];
 ///     let mixture = Mixture::new(&components)?;
-///     mixture.cumulative(327680) // at 5: a little below three quarters of 2^32
+///     mixture.cumulative(327680) // at 5: about 0.747 times 2^32
 /// }
 /// ```
 #[derive(Drop)]
@@ -145,9 +145,9 @@ impl<'a, D: CumulativeDistribution> Mixture<'a, D> {
     /// Returns the number `k` of the component whose share holds `sum`, and how much of the share lies below `sum`.
     ///
     /// A component of weight `w` has a share of `w * 2^32` numbers. The first share begins at 0, and each other share
-    /// begins where the previous one ends. The shares are sorted by the guesses of their components, `places`. The
-    /// second number of the result is in units of `2^-32` of the share. If no share holds `sum`, the call returns 0 and
-    /// one half of `2^32`.
+    /// begins where the previous one ends. `places[k]` is the guess of component `k`, and the shares are in ascending
+    /// order of these guesses. The second number of the result is in units of `2^-32` of the share. If no share holds
+    /// `sum`, the call returns 0 and one half of `2^32`.
     fn share_of(&self, places: &[i64; FEW], sum: u64) -> (usize, u64)
         ensures { result.0 < length self.now.components.now }
     {

@@ -58,7 +58,7 @@ pub record EncodeCall {Word B E S : Type 0} (number : Word → ℕ) (holds : hol
   pub error : IfErr answer (λ e. IsRefused number holds writes w s old step e new)
 
 -- an encode of a step onto an interval, held words and a backend: what it answers and leaves
-pub record EncodesOnto {Word State B E S : Type 0} (number : Word → ℕ) (state : State → ℕ) (holds : holding.Ghosts B Word S) (writes : writing.Ghosts B Word E)
+pub record EncodesAtInterval {Word State B E S : Type 0} (number : Word → ℕ) (state : State → ℕ) (holds : holding.Ghosts B Word S) (writes : writing.Ghosts B Word E)
     (w s : ℕ) (lower range : State) (situation : EncoderSituation Word) (step : Step) (old : B) (answer : Result (Shifted Word State) E) (new : B) : Type 0 where
   pub ok : IfOk answer (λ after. EncodeCall number holds writes w s
       (encoder_of number holds w (state lower) (state range) old situation) step (Ok tt) (shifted_over number state holds w after new))

@@ -6,8 +6,8 @@ use Rattle.constriction_base.specs.Models.{Model, Item}
 use Rattle.constriction_queue.specs.Range.{Run, Takes, narrowed_by, offset}
 
 -- a model of the precision, by its table
-abbrev pub model_at : {S M : Type 0} → ℕ → (M → List (S × ℕ × ℕ)) → M → Model S
-model_at precision table model = record { precision = precision; table = table model }
+abbrev pub model_by : {S M : Type 0} → ℕ → (M → List (S × ℕ × ℕ)) → M → Model S
+model_by precision table model = record { precision = precision; table = table model }
 
 -- Encoding the symbol leads from the old run to the new run: the interval is narrowed to the symbol's entry.
 abbrev pub Narrows : {S : Type 0} → ℕ → ℕ → Model S → S → Run → Run → Type 0

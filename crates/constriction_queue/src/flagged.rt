@@ -22,7 +22,7 @@ ghost use Rattle.constriction_queue.specs.declared.decoder.symbols.DecoderFronte
 ghost use Rattle.constriction_queue.specs.Encoder.{left_to_encode};
 ghost use Rattle.constriction_queue.specs.Flagged.{DecodesUnder, EncodesItem, HoldsNone, StepsToFault};
 ghost use Rattle.constriction_queue.specs.Flagged.{flagged, next_model};
-ghost use Rattle.constriction_queue.specs.Symbols.{model_at};
+ghost use Rattle.constriction_queue.specs.Symbols.{model_by};
 
 use crate::decoder::RangeDecoder;
 use crate::decoder::symbols::DecoderFrontendError;
@@ -135,7 +135,7 @@ impl<
         M2::Probability: WordOf<Word>,
         ensures step { DecodesUnder Word.number Backend.Holds Backend.ReadWords.own Word.BITS State.BITS
             (next_model self.old.switched
-            (model_at P1 M1.table first) (model_at P2 M2.table second))
+            (model_by P1 M1.table first) (model_by P2 M2.table second))
             self.old.decoder result self.new.decoder }
         ensures variant { (result ≡ Err (coder_error.Frontend frontend_error.InvalidData))
             ↔ HoldsNone State.BITS (if self.old.switched then P2 else P1) self.old.decoder }
@@ -185,7 +185,7 @@ where
     requires { length symbols.now ≤ left_to_encode encoder.old }
     ensures steps { StepsToFault (EncodesItem Word.number Backend.Holds Backend.WriteWords.own Word.BITS State.BITS)
         encoder.old
-        (flagged flag (model_at P1 M1.table first.now) (model_at P2 M2.table second.now) symbols.now)
+        (flagged flag (model_by P1 M1.table first.now) (model_by P2 M2.table second.now) symbols.now)
         result encoder.new }
     ensures fewer_left { left_to_encode encoder.old ≤ left_to_encode encoder.new + length symbols.now }
 {

@@ -6,7 +6,7 @@ ghost use Rattle.constriction_base.specs.Steps.{IsStep, IsSizes};
 ghost use Rattle.constriction_queue.specs.Range.{step_of};
 ghost use Rattle.constriction_queue.specs.Encoder.{held_of, released_of, words_let_go};
 ghost use Rattle.constriction_queue.specs.Encoder.{CutsRun, GrowsRun, HasPlace, PartsFit};
-ghost use Rattle.constriction_queue.specs.Calls.{EncodesOnto};
+ghost use Rattle.constriction_queue.specs.Calls.{EncodesAtInterval};
 
 use crate::situation::{EncoderSituation, HeldWords, nonzero_count};
 use crate::writing::write_step;
@@ -197,7 +197,7 @@ pub fn step_onto<Word: WordOf<State>, State: BitArray, Backend: WriteWords<Word>
     requires wide { 2 ^ (State.BITS - Word.BITS) ≤ State.number range }
     requires fit { PartsFit Word.number Word.BITS State.BITS situation (State.number lower) (State.number range) }
     requires place { HasPlace situation }
-    ensures { EncodesOnto Word.number State.number Backend.Holds Backend.WriteWords.own Word.BITS State.BITS
+    ensures { EncodesAtInterval Word.number State.number Backend.Holds Backend.WriteWords.own Word.BITS State.BITS
         lower range situation (step_of precision (State.number left) (State.number p))
         bulk.old result bulk.new }
 {

@@ -30,7 +30,7 @@ pub type Lent<'a, Word, State> = RangeDecoder<Word, State, Cursor<Word, &'a [Wor
 
 /// A decoder that owns its words.
 ///
-/// Scripts use this type, because the checker can't prove generic calls that return text on a borrowing decoder.
+/// Scripts use this type. The checker can't prove a generic call that returns text if its decoder borrows the words.
 pub type Owning<Word, State> = RangeDecoder<Word, State, Cursor<Word, Vec<Word>>>;
 
 /// Returns whether the decoder's interval, point and number of words left are the numbers of `act`.

@@ -7,4 +7,3 @@ pub mod Imports
 pub mod Positions
 pub mod Sizes
 pub mod Symbols
-pub mod Lists

@@ -3,7 +3,7 @@ use Rattle.std.specs.Prelude.{◌≡◌, ◌⊎◌, ℕ, ◌<◌, ◌≤◌, ⊤
 use Rattle.std.specs.declared.vec.Vec.{Vec}
 use Rattle.constriction_base.specs.Models.{Model, items_of}
 use Rattle.constriction_queue.specs.Range.{Run}
-use Rattle.constriction_queue.specs.Symbols.{FindsAll, model_at}
+use Rattle.constriction_queue.specs.Symbols.{FindsAll, model_by}
 use Rattle.constriction_store.specs.Chunks.{chunk_in, lists_of}
 use Rattle.constriction_store.specs.Stores.{Entry, HoldsChunk, HoldsNoChunk, HoldsNoSymbol, Stored, entry_in, run_at}
 use Rattle.constriction_store.specs.Built.{BuildFails}
@@ -43,7 +43,7 @@ HoldsEach w s model words index (place ∷ places) (chunk ∷ chunks) =
 -- The store has a chunk at each of these places, and holds these chunks there.
 abbrev pub StoreHoldsEach : {M : Type 0} → ℕ → ℕ → ℕ → (M → List (ℕ × ℕ × ℕ)) → Stored M → List ℕ → List (List ℕ) → Type 0
 StoreHoldsEach w s precision table store places chunks =
-    HoldsEach w s (model_at precision table store.model) store.words store.index places chunks
+    HoldsEach w s (model_by precision table store.model) store.words store.index places chunks
 
 -- The store holds a chunk at this place, but there is no memory to add the chunk to a list.
 abbrev pub HasNoRoom : ℕ → ℕ → Model ℕ → List ℕ → List Entry → ℕ → ChunkError → Type 0

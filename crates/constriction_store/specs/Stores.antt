@@ -6,7 +6,7 @@ use Rattle.constriction_queue.specs.Range.{Run, offset, initial}
 use Rattle.constriction_queue.specs.SelfDelimiting.{SelfDelimits}
 use Rattle.constriction_queue.specs.States.{IsPosition, lower_of, range_of}
 use Rattle.constriction_queue.specs.declared.state.RangeCoderState.{RangeCoderState}
-use Rattle.constriction_queue.specs.Symbols.{FindsAll, NarrowsAll, model_at}
+use Rattle.constriction_queue.specs.Symbols.{FindsAll, NarrowsAll, model_by}
 use Rattle.constriction_store.specs.Chunks.{chunk_in}
 
 -- ---- the index
@@ -90,12 +90,12 @@ pub record HoldsChunks (w s : ℕ) (model : Model ℕ) (words : List ℕ) (index
 -- The store holds these symbols as the chunk with this number.
 abbrev pub StoreHoldsChunk : {M : Type 0} → ℕ → ℕ → ℕ → (M → List (ℕ × ℕ × ℕ)) → Stored M → ℕ → List ℕ → Type 0
 StoreHoldsChunk w s precision table store i symbols =
-    HoldsChunk w s (model_at precision table store.model) store.words (entry_in store.index i) symbols
+    HoldsChunk w s (model_by precision table store.model) store.words (entry_in store.index i) symbols
 
 -- The store holds these chunks in order, and no others.
 abbrev pub StoreHoldsChunks : {M : Type 0} → ℕ → ℕ → ℕ → (M → List (ℕ × ℕ × ℕ)) → Stored M → List (List ℕ) → Type 0
 StoreHoldsChunks w s precision table store chunks =
-    HoldsChunks w s (model_at precision table store.model) store.words store.index chunks
+    HoldsChunks w s (model_by precision table store.model) store.words store.index chunks
 
 -- ---- how it is built
 

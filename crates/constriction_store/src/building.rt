@@ -5,7 +5,7 @@ ghost use Rattle.constriction_base.specs.Models.{items_of};
 ghost use Rattle.constriction_base.specs.Steps.{IsSizes};
 ghost use Rattle.constriction_queue.specs.Encoder.{left_to_encode, run_by};
 ghost use Rattle.constriction_queue.specs.Range.{initial};
-ghost use Rattle.constriction_queue.specs.Symbols.{NarrowsAll, model_at};
+ghost use Rattle.constriction_queue.specs.Symbols.{NarrowsAll, model_by};
 ghost use Rattle.constriction_store.specs.Built.{BuildFails, EncodingFails};
 ghost use Rattle.constriction_store.specs.Chunks.{count_of, lists_of};
 ghost use Rattle.constriction_store.specs.Stores.{HoldsChunks, Indexes, IsBuilt, entry_at};
@@ -83,9 +83,9 @@ where
     M::Probability: WordOf<Word>,
     requires { length symbols.now ≤ left_to_encode encoder.old }
     ensures ok { OnOk result (NarrowsAll Word.BITS State.BITS
-        (items_of (model_at PRECISION M.table model.now) symbols.now)
+        (items_of (model_by PRECISION M.table model.now) symbols.now)
         (run_by Word.BITS State.BITS encoder.old) (run_by Word.BITS State.BITS encoder.new)) }
-    ensures err { IfErr result (EncodingFails (model_at PRECISION M.table model.now) symbols.now) }
+    ensures err { IfErr result (EncodingFails (model_by PRECISION M.table model.now) symbols.now) }
     ensures fewer_left { left_to_encode encoder.old ≤ left_to_encode encoder.new + length symbols.now }
 {
     for (place, symbol) in symbols.iter().enumerate() {
@@ -117,9 +117,9 @@ where
     requires left { 2 ^ 64 - 18 ≤ left_to_encode encoder.old }
     requires few { count_of (lists_of chunks.now) ≤ 1048576 }
     ensures ok { IfOk result (λ index. Indexes Word.BITS State.BITS
-        (model_at PRECISION M.table model.now) (lists_of chunks.now) (map entry_at index.items)
+        (model_by PRECISION M.table model.now) (lists_of chunks.now) (map entry_at index.items)
         (run_by Word.BITS State.BITS encoder.old) (run_by Word.BITS State.BITS encoder.new)) }
-    ensures err { IfErr result (BuildFails (model_at PRECISION M.table model.now)
+    ensures err { IfErr result (BuildFails (model_by PRECISION M.table model.now)
         (lists_of chunks.now)) }
 {
     let mut index = Vec::new(alloc);
@@ -177,12 +177,12 @@ where
     pub fn build(alloc: Global, chunks: &[Vec<usize>], model: M) -> Result<Self, BuildError>
         requires { IsSizes Word.BITS State.BITS }
         ensures built { IfOk result (λ store. IsBuilt Word.BITS State.BITS
-            (model_at PRECISION M.table model) (lists_of chunks.now) store.index store.words) }
+            (model_by PRECISION M.table model) (lists_of chunks.now) store.index store.words) }
         ensures chunks { IfOk result (λ store. HoldsChunks Word.BITS State.BITS
-            (model_at PRECISION M.table model) store.words store.index (lists_of chunks.now)) }
+            (model_by PRECISION M.table model) store.words store.index (lists_of chunks.now)) }
         ensures model { IfOk result (λ store. store.model ≡ model) }
         ensures too_long { (result ≡ Err BuildError.TooLong) ↔ (1048576 < count_of (lists_of chunks.now)) }
-        ensures err { IfErr result (BuildFails (model_at PRECISION M.table model)
+        ensures err { IfErr result (BuildFails (model_by PRECISION M.table model)
             (lists_of chunks.now)) }
     {
         if !are_few(chunks) {

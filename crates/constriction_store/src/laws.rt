@@ -4,7 +4,7 @@ ghost use Rattle.std.specs.Prelude.{◌≡◌, ◌+◌, ◌/◌, ℕ, List, map,
 ghost use Rattle.constriction_base.specs.Models.{Model, IsModel};
 ghost use Rattle.constriction_base.specs.Steps.{IsSizes, AreWords};
 ghost use Rattle.constriction_queue.specs.Range.{Run};
-ghost use Rattle.constriction_queue.specs.Symbols.{model_at};
+ghost use Rattle.constriction_queue.specs.Symbols.{model_by};
 ghost use Rattle.constriction_store.specs.Chunks.{chunk_in, lists_of};
 ghost use Rattle.constriction_store.specs.LookedUp.{AreChunks, FailsFirst, HasNoChunks, StoreHoldsEach};
 ghost use Rattle.constriction_store.specs.Stores.{Agree, Entry, FindsAt, HoldsChunk, HoldsNoChunk, IsBuilt};
@@ -62,7 +62,7 @@ where
     ensures each { IfOk result (λ found. StoreHoldsEach Word.BITS State.BITS PRECISION M.table store.now
         places.now (lists_of found.items)) }
     ensures err { IfErr result (FailsFirst Word.BITS State.BITS
-        (model_at PRECISION M.table store.now.model) store.now.words store.now.index places.now) }
+        (model_by PRECISION M.table store.now.model) store.now.words store.now.index places.now) }
     ensures back { (chunks : List (List ℕ)) →
         StoreHoldsChunks Word.BITS State.BITS PRECISION M.table store.now chunks →
         AreChunks chunks places.now result }
@@ -114,9 +114,9 @@ where
     requires { IsSizes Word.BITS State.BITS }
     ensures back { IfOk result (λ through. lists_of through.1.items ≡ map (chunk_in (lists_of chunks.now)) places.now) }
     ensures store { IfOk result (λ through. IsBuilt Word.BITS State.BITS
-        (model_at PRECISION M.table model) (lists_of chunks.now) through.0.index through.0.words) }
+        (model_by PRECISION M.table model) (lists_of chunks.now) through.0.index through.0.words) }
     ensures model { IfOk result (λ through. through.0.model ≡ model) }
-    ensures err { IfErr result (HasNoChunks (model_at PRECISION M.table model)
+    ensures err { IfErr result (HasNoChunks (model_by PRECISION M.table model)
         (lists_of chunks.now) places.now) }
 {
     let store = match Store::<Word, State, M, PRECISION>::build(alloc, chunks, model) {
@@ -155,9 +155,9 @@ where
     requires { IsSizes Word.BITS State.BITS }
     ensures back { IfOk result (λ through. lists_of through.1.items ≡ map (chunk_in (lists_of chunks.now)) places.now) }
     ensures store { IfOk result (λ through. IsBuilt Word.BITS State.BITS
-        (model_at PRECISION M.table model) (lists_of chunks.now) through.0.index through.0.words) }
+        (model_by PRECISION M.table model) (lists_of chunks.now) through.0.index through.0.words) }
     ensures model { IfOk result (λ through. through.0.model ≡ model) }
-    ensures err { IfErr result (HasNoChunks (model_at PRECISION M.table model)
+    ensures err { IfErr result (HasNoChunks (model_by PRECISION M.table model)
         (lists_of chunks.now) places.now) }
 {
     let built = match Store::<Word, State, M, PRECISION>::build(alloc, chunks, model) {

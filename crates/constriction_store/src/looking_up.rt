@@ -6,7 +6,7 @@ ghost use Rattle.constriction_base.specs.Models.{items_of};
 ghost use Rattle.constriction_queue.specs.Decoder.{StandsAt};
 ghost use Rattle.constriction_queue.specs.Range.{Run};
 ghost use Rattle.constriction_queue.specs.States.{lower_of, range_of};
-ghost use Rattle.constriction_queue.specs.Symbols.{FindsAll, model_at};
+ghost use Rattle.constriction_queue.specs.Symbols.{FindsAll, model_by};
 ghost use Rattle.constriction_store.specs.LookedUp.{ChunkFails, IsChunk, LookUpFails};
 ghost use Rattle.constriction_store.specs.Stores.{StoreHoldsChunk, run_from};
 
@@ -75,10 +75,10 @@ where
     ensures count { IfOk result (λ symbols. length symbols.items ≡ len) }
     ensures ok { (words : List ℕ) (there : Run) → StandsAt Word.BITS State.BITS words there decoder.old →
         IfOk result (λ symbols. (last : Run) × FindsAll Word.BITS State.BITS words
-        (items_of (model_at PRECISION M.table model.now) symbols.items) there last) }
+        (items_of (model_by PRECISION M.table model.now) symbols.items) there last) }
     ensures err { (words : List ℕ) (there : Run) → StandsAt Word.BITS State.BITS words there decoder.old →
         IfErr result (ChunkFails Word.BITS State.BITS
-        (model_at PRECISION M.table model.now) words there len) }
+        (model_by PRECISION M.table model.now) words there len) }
 {
     let mut symbols = Vec::new(alloc);
     'symbols: for _ in 0..len {
@@ -131,7 +131,7 @@ where
         ensures ok { IfOk result (λ symbols.
             StoreHoldsChunk Word.BITS State.BITS PRECISION M.table self.now i symbols.items) }
         ensures err { IfErr result (LookUpFails Word.BITS State.BITS
-            (model_at PRECISION M.table self.now.model) self.now.words self.now.index i) }
+            (model_by PRECISION M.table self.now.model) self.now.words self.now.index i) }
         ensures back { i < length self.now.index → (symbols : List ℕ) →
             StoreHoldsChunk Word.BITS State.BITS PRECISION M.table self.now i symbols →
             IsChunk symbols result }

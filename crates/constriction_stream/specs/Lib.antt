@@ -1,2 +1,3 @@
+pub mod CoderLists
 pub mod Lists
 pub mod Symbols

@@ -30,8 +30,10 @@ pub fn from_compressed<Word: WordOf<State>, State: BitArray>(words: &[Word]) -> 
 ///
 /// # Errors
 ///
-/// - `WrongLength` exactly if `pos` is past the buffer's end.
-/// - `InvalidData` exactly if the interval is too short.
+/// Checked in this order:
+///
+/// - `WrongLength` if `pos` is past the buffer's end.
+/// - `InvalidData` if `range` is below `2^(State::BITS - Word::BITS)`.
 pub fn seek<Word: WordOf<State>, State: BitArray>(
     decoder: &mut DecoderParts<State>,
     words: &[Word],

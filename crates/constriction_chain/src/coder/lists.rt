@@ -1,6 +1,6 @@
 //! Encoding lists of symbols from last to first, as methods of the coder, so that no trait has to be in scope.
 
-ghost use Rattle.constriction_chain.specs.Lists.{EncodesPairs, EncodesSymbols, GivesAtMostLeft, LowersLeft, TriesPairs};
+ghost use Rattle.constriction_stream.specs.CoderLists.{EncodesEachPair, EncodesSymbols, GivesAtMostLeft, LowersLeft, TriesPairs};
 
 use crate::coder::ChainCoder;
 use crate::errors::EncoderError;
@@ -38,7 +38,7 @@ impl<
         I::IntoIter: DoubleEndedIterator + Drop,
         requires { GivesAtMostLeft ⟦<Self as Encode<PRECISION>>⟧ (I.into_iter_gives symbols_and_models)
             I.IntoIter.can_next_back I.IntoIter.remaining self.old }
-        ensures steps { EncodesPairs ⟦<Self as Encode<PRECISION>>⟧ PRECISION M.table S.lent
+        ensures steps { EncodesEachPair ⟦<Self as Encode<PRECISION>>⟧ PRECISION M.table S.lent
             (I.into_iter_gives symbols_and_models) I.IntoIter.next_back_gives self.old result self.new }
         ensures fewer_left { LowersLeft ⟦<Self as Encode<PRECISION>>⟧ (I.into_iter_gives symbols_and_models)
             I.IntoIter.remaining self.old self.new }

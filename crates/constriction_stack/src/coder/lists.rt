@@ -3,7 +3,7 @@
 //! The contracts refer to the iterator's `next_back`, so a caller needs no contract of `Rev`. They require that the
 //! iterator ends and that its `next_back` may be called.
 
-ghost use Rattle.constriction_stack.specs.Lists.{EncodesPairs, EncodesSymbols, GivesAtMostLeft, LowersLeft, TriesPairs};
+ghost use Rattle.constriction_stream.specs.CoderLists.{EncodesEachPair, EncodesSymbols, GivesAtMostLeft, LowersLeft, TriesPairs};
 
 use crate::coder::AnsCoder;
 use constriction_base::backends::{Holds, Stack, WriteWords};
@@ -39,7 +39,7 @@ impl<Word: WordOf<State>, State: BitArray, Backend: WriteWords<Word>> AnsCoder<
         I::IntoIter: DoubleEndedIterator + Drop,
         requires { GivesAtMostLeft ⟦<Self as Encode<PRECISION>>⟧ (I.into_iter_gives symbols_and_models)
             I.IntoIter.can_next_back I.IntoIter.remaining self.old }
-        ensures steps { EncodesPairs ⟦<Self as Encode<PRECISION>>⟧ PRECISION M.table S.lent
+        ensures steps { EncodesEachPair ⟦<Self as Encode<PRECISION>>⟧ PRECISION M.table S.lent
             (I.into_iter_gives symbols_and_models) I.IntoIter.next_back_gives self.old result self.new }
         ensures fewer_left { LowersLeft ⟦<Self as Encode<PRECISION>>⟧ (I.into_iter_gives symbols_and_models)
             I.IntoIter.remaining self.old self.new }

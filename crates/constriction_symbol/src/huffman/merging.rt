@@ -85,7 +85,10 @@ fn take_least<P: BitArray>(
     }
 }
 
-/// Merges the trees until one is left, and returns the indices of the two trees of each merge, first merge first.
+/// Merges the two trees of least weight until one tree is left. At first, each weight is a tree.
+///
+/// Returns the indices of the two trees of each merge, first merge first. The tree of `weights[i]` has index `i`. Each
+/// merge gives its tree the next index, starting at `weights.len()`.
 fn merge_all<P: BitArray>(alloc: Global, weights: &[P]) -> Result<Vec<[usize; 2]>, AllocError>
     requires some { 0 < length weights.now }
     requires total { sum_by P.number weights.now < 2 ^ P.BITS }

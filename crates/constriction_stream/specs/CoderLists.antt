@@ -1,4 +1,4 @@
--- Calls of the coder that encode lists of symbols from last to first, as a trait's rules for one symbol tell them.
+-- List calls of a coder, by the rules that an `Encode` has for one symbol.
 use Rattle.std.specs.Prelude.{ℕ, List, Option, Result}
 use Rattle.std.specs.Iterator.{Count}
 use Rattle.constriction_base.specs.Steps.{Step}
@@ -7,39 +7,36 @@ use Rattle.constriction_stream.specs.Lists.{GivesAtMost, LowersByItems, StepsUnt
 use Rattle.constriction_stream.specs.Symbols.{EncodesPair, EncodesSymbol}
 use Rattle.constriction_stream.specs.declared.errors.TryCodingError.{TryCodingError}
 
--- `coder` has the rules of an `Encode`, and `gives`, `next` and `remaining` are those of the list's iterator
+-- `coder` has the rules of an `Encode`. `gives`, `next` and `remaining` are the rules of the list's iterator.
 module _ {C V F B : Type 0} (coder : record {
-  shows : C → V → Type 0;
-  encodes : C → Step → Result (Unit {0}) (CoderError F B) → C → Type 0;
-  is_impossible_symbol : F → Type 0;
-  counts_symbols : Type 0;
-  symbols_left : C → ℕ;
-  is_lack_of_room : CoderError F B → Type 0;
-  tells_room : C → Type 0;
-}) where
-  -- each such iterator may be asked for items and ends; if the coder counts symbols, it gives at most those left
+    shows : C → V → Type 0; encodes : C → Step → Result (Unit {0}) (CoderError F B) → C → Type 0;
+    is_impossible_symbol : F → Type 0; counts_symbols : Type 0; symbols_left : C → ℕ;
+    is_lack_of_room : CoderError F B → Type 0; tells_room : C → Type 0;
+  }) where
+  -- Each such iterator can be called, and ends. If the coder counts symbols, the iterator returns at most as many items
+  -- as symbols are left.
   abbrev pub GivesAtMostLeft : {I : Type 0} → (I → Type 0) → (I → Type 0) → (I → Count) → C → Type 0
   GivesAtMostLeft gives can_next remaining old = GivesAtMost gives can_next remaining coder.counts_symbols (coder.symbols_left old)
 
-  -- symbols with their models are encoded in order, up to the first that is refused
-  abbrev pub EncodesPairs : {S M A I : Type 0} → ℕ → (M → List (S × ℕ × ℕ)) → (A → S) → (I → Type 0) → (I → Option (A × M) → I → Type 0)
+  -- Symbols with their models are encoded in order, up to the first symbol that is refused.
+  abbrev pub EncodesEachPair : {S M A I : Type 0} → ℕ → (M → List (S × ℕ × ℕ)) → (A → S) → (I → Type 0) → (I → Option (A × M) → I → Type 0)
       → C → Result (Unit {0}) (CoderError F B) → C → Type 0
-  EncodesPairs precision table lent gives next old result new =
+  EncodesEachPair precision table lent gives next old result new =
       StepsUntilFault (EncodesPair coder.encodes coder.is_impossible_symbol precision table lent) gives next old result new
 
-  -- the same of items that may be errors, up to the first error
+  -- `EncodesEachPair` for items that may be errors, up to the first error.
   abbrev pub TriesPairs : {S M A I Q : Type 0} → ℕ → (M → List (S × ℕ × ℕ)) → (A → S) → (I → Type 0) → (I → Option (Result (A × M) Q) → I → Type 0)
       → C → Result (Unit {0}) (TryCodingError (CoderError F B) Q) → C → Type 0
   TriesPairs precision table lent gives next old result new =
       StepsUntilFault (TriesItem (EncodesPair coder.encodes coder.is_impossible_symbol precision table lent)) gives next old result new
 
-  -- the same of symbols under one table
+  -- `EncodesEachPair` for symbols with one table.
   abbrev pub EncodesSymbols : {S A I : Type 0} → ℕ → List (S × ℕ × ℕ) → (A → S) → (I → Type 0) → (I → Option A → I → Type 0)
       → C → Result (Unit {0}) (CoderError F B) → C → Type 0
   EncodesSymbols precision table lent gives next old result new =
       StepsUntilFault (λ old symbol result new. EncodesSymbol coder.encodes coder.is_impossible_symbol precision table (lent symbol) old result new)
       gives next old result new
 
-  -- the number of symbols left falls by at most the number of items
+  -- The number of symbols left falls by at most the number of items.
   abbrev pub LowersLeft : {I : Type 0} → (I → Type 0) → (I → Count) → C → C → Type 0
   LowersLeft gives remaining old new = LowersByItems gives remaining (coder.symbols_left old) (coder.symbols_left new)
