@@ -1,17 +1,6 @@
 //! Tests of worked examples: scripts that check exact words and intervals.
 
-use crate::coders::{
-    Coder, INVERTING, Table, decode, said, small, small_of, tall, tall_of, wide, wide_of,
-};
-use crate::encoding::follow;
-use crate::parts::is_situation;
-use constriction_base::backends::Pos;
-use constriction_base::cursor::Cursor;
-use constriction_base::weights::WeightTable;
-use constriction_queue::RangeEncoder;
-use constriction_scripts::putting::put_each;
-use constriction_scripts::script::Script;
-use std::mem;
+use crate::coders::{INVERTING, decode, said, small, small_of, tall, tall_of, wide, wide_of};
 use std::test::Fail;
 
 #[test]
@@ -329,54 +318,4 @@ fn seal_one_zero_word(rt: HostRuntime) -> Result<(), Fail> {
         rt.alloc(),
         &[(first, "put 0"), (second, "put 1 sealed 1 0 delimited 1 0")],
     )
-}
-
-/// Forgets a guard, so that its words stay in the vector. Returns whether the encoder had memory for the guard.
-fn forgets(encoder: &mut Coder) -> bool {
-    match encoder.get_compressed() {
-        Ok(guard) => {
-            mem::forget(guard);
-            true
-        }
-        Err(_) => false,
-    }
-}
-
-#[test]
-fn range_forgotten_guard(rt: HostRuntime) -> Result<(), Fail> {
-    let table: Table = WeightTable::new(rt.alloc(), INVERTING)?;
-    let first = Script::read(rt.alloc(), "put 1")?;
-    let last = Script::read(
-        rt.alloc(),
-        "written 126 129 held 1 126 at 3 33024 65280
-         put 3 export 126 129 127 127 1",
-    )?;
-    let mut encoder = Coder::new(rt.alloc());
-    said(follow(rt.alloc(), &mut encoder, &table, &first))?;
-    assert!(rt; forgets(&mut encoder));
-    said(follow(rt.alloc(), &mut encoder, &table, &last))
-}
-
-/// Encodes three symbols over `buf`, which has room for one word. Returns whether the third symbol is refused.
-///
-/// The encoder must write two words for the third symbol. It writes the first word, and the second finds no room.
-fn is_full(buf: &mut [u8], table: &Table) -> bool {
-    let words: Cursor<u8, &mut [u8]> = Cursor::new_at_write_beginning(buf);
-    let mut encoder: RangeEncoder<u8, u16, Cursor<u8, &mut [u8]>> =
-        RangeEncoder::with_write_backend(words);
-    let answer = put_each(&mut encoder, table, &[1, 1, 3]);
-    let (bulk, state, situation) = encoder.into_raw_parts();
-    answer == "full"
-        && bulk.pos() == 1
-        && crate::parts::is_interval(state, &[33024, 65280], 0)
-        && is_situation(situation, &[2, 126])
-}
-
-/// Checks that an encode with room for one of its two words writes the first word and keeps the interval.
-#[test]
-fn range_cursor_full(rt: HostRuntime) -> Result<(), Fail> {
-    let table: Table = WeightTable::new(rt.alloc(), INVERTING)?;
-    let mut buf = [0u8; 1];
-    assert!(rt; is_full(&mut buf, &table) && buf == [127u8]);
-    Ok(())
 }

@@ -1,4 +1,4 @@
-//! Heads, words and positions of coders as scripts write them, and interpreters for coders that can only decode.
+//! Heads, words and positions of coders as scripts write them, and an interpreter for coders that can decode and seek.
 
 use constriction_base::backends::{
     BoundedReadWords, Holds, Pos, PosSeek, ReadWords, Seek, Stack, Words,
@@ -89,7 +89,7 @@ where
 }
 
 /// Runs an act with a coder that can only decode, and returns the answer.
-fn read_by<State, Backend>(
+pub fn read_by<State, Backend>(
     coder: &mut AnsCoder<u8, State, Backend>,
     table: &WeightTable<u8, 8>,
     act: &Act<'_>,
@@ -105,29 +105,6 @@ where
         "head" => answer_if(is_at_head(coder, act)),
         _ => OTHER,
     }
-}
-
-/// Runs a script with a coder that can only decode, up to the first act with an unexpected answer.
-///
-/// Returns the text of this act, or `None` if every act has the expected answer.
-pub fn follow_reading<State, Backend>(
-    coder: &mut AnsCoder<u8, State, Backend>,
-    table: &WeightTable<u8, 8>,
-    script: &Script,
-) -> Option<&'static str>
-where
-    u8: WordOf<State>,
-    State: BitArray + Number,
-    Backend: ReadWords<u8, Stack>,
-    Backend::ReadError: Told + Drop,
-{
-    for at in 0..script.len() {
-        let act = script.act(at);
-        if read_by(coder, table, &act) != act.answer {
-            return Some(act.text);
-        }
-    }
-    None
 }
 
 /// Runs a script with a coder that can decode and seek, up to the first act with an unexpected answer.

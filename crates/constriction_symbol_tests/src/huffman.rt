@@ -1,7 +1,7 @@
 //! Tests of Huffman trees: worked codewords and refusals.
 
 use constriction_base::errors::CoderError;
-use constriction_symbol::codebooks::{EncoderCodebook, SymbolCodeError};
+use constriction_symbol::codebooks::EncoderCodebook;
 use constriction_symbol::coder::StackCoder;
 use constriction_symbol::huffman::{DecoderHuffmanTree, EncoderHuffmanTree, HuffmanError};
 use constriction_symbol::reading::ReadBitStream;
@@ -178,67 +178,6 @@ fn huffman_refusals(rt: HostRuntime) {
 #[test]
 fn huffman_zero_weight(rt: HostRuntime) {
     assert!(rt; are_codes(rt.alloc(), &[255, 0], &[(1, 1), (0, 1)]));
-}
-
-/// Returns whether making either tree fails with the error that the iterator of weights returns.
-fn faults_end(alloc: Global) -> bool {
-    matches!(
-        EncoderHuffmanTree::try_from_probabilities(alloc, [Ok(255u8), Ok(1), Err("e")]),
-        Err(HuffmanError::Iterator(error)) if error == "e"
-    ) && matches!(
-        DecoderHuffmanTree::try_from_probabilities(alloc, [Ok(255u8), Ok(1), Err("e")]),
-        Err(HuffmanError::Iterator(error)) if error == "e"
-    )
-}
-
-/// Returns whether both trees made from `Result`s of weights have the codewords `1 0`.
-fn given_have_codes(alloc: Global) -> bool {
-    let items: [Result<u8, &str>; 2] = [Ok(2), Ok(1)];
-    let Ok(encoder) = EncoderHuffmanTree::try_from_probabilities(alloc, items) else {
-        return false;
-    };
-    let others: [Result<u8, &str>; 2] = [Ok(2), Ok(1)];
-    let Ok(decoder) = DecoderHuffmanTree::try_from_probabilities(alloc, others) else {
-        return false;
-    };
-    have_codes(alloc, &encoder, &decoder, &[(1, 1), (0, 1)])
-}
-
-#[test]
-fn huffman_iterator_fault(rt: HostRuntime) {
-    assert!(rt; faults_end(rt.alloc()) && given_have_codes(rt.alloc()));
-}
-
-/// Returns whether a symbol past the last symbol has no codeword.
-fn is_unknown(alloc: Global) -> bool {
-    match encoder_of(alloc, &[2, 2, 4, 1, 1]) {
-        Ok(encoder) => {
-            matches!(prefix_of(&encoder, 5), Coded::Unknown(0))
-                && matches!(suffix_of(&encoder, 5), Coded::Unknown(0))
-        }
-        Err(_) => false,
-    }
-}
-
-/// Decodes a symbol. Returns whether the bits on the stack end within a codeword.
-fn is_short(alloc: Global, coder: &mut StackCoder<u8>) -> bool {
-    match decoder_of(alloc, &[2, 2, 4, 1, 1]) {
-        Ok(decoder) => {
-            matches!(
-                coder.decode_symbol(&decoder),
-                Err(CoderError::Frontend(SymbolCodeError::OutOfCompressedData))
-            ) && coder.is_empty()
-        }
-        Err(_) => false,
-    }
-}
-
-#[test]
-fn huffman_unknown_and_short(rt: HostRuntime) {
-    let mut coder: StackCoder<u8> = StackCoder::new(rt.alloc());
-    assert!(rt;
-        is_unknown(rt.alloc()) && coder.write_bit(true).is_ok() && is_short(rt.alloc(), &mut coder)
-    );
 }
 
 /// Makes the tree of the first 150 Fibonacci numbers. The codeword of symbol 0 has 149 bits.
