@@ -35,7 +35,9 @@ pub fn asks_for_one<Word, B: WriteWords<Word>>(backend: &mut B) -> Result<(), B:
     }
 }
 
-/// Seeks in a vector. Succeeds exactly if `place` is at most its length, and otherwise leaves the vector unchanged.
+/// Seeks to `place` in a vector. Succeeds exactly if `place` is at most the vector's length.
+///
+/// An error leaves the vector unchanged.
 pub fn vector_goes<A: Allocator>(words: &mut Vec<u32, A>, place: usize) -> Result<(), ()>
     ensures variant { IsOk result ↔ (place ≤ vec_len words.old) }
     ensures kept { OnErr result (words.new ≡ words.old) }
@@ -46,7 +48,9 @@ pub fn vector_goes<A: Allocator>(words: &mut Vec<u32, A>, place: usize) -> Resul
     }
 }
 
-/// Seeks in a cursor. Succeeds exactly if `place` is at most the buffer's length. An error leaves the cursor unchanged.
+/// Seeks to `place` in a cursor. Succeeds exactly if `place` is at most the buffer's length.
+///
+/// An error leaves the cursor unchanged.
 pub fn cursor_goes(words: &mut Cursor<u32, &[u32]>, place: usize) -> Result<(), ()>
     ensures variant { IsOk result ↔ (place ≤ length words.old.buf.now) }
     ensures kept { OnErr result (words.new ≡ words.old) }

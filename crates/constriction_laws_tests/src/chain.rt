@@ -20,7 +20,8 @@ fn coder_of(alloc: Global) -> Option<Small> {
 
 /// Decodes two symbols from the words 20, 30 and 9. Returns whether symbols and remainders are as expected.
 ///
-/// The remainders head is first `9 * 240 + 14`, and its low word moves out. Then the head is `8 * 100 + 20`.
+/// The first decode makes the remainders head `9 * 240 + 14`, and moves its low word out, which leaves 8. The second
+/// decode makes the head `8 * 100 + 20`.
 fn taken(alloc: Global, tables: &[Table; 2]) -> bool {
     let Some(coder) = coder_of(alloc) else {
         return false;

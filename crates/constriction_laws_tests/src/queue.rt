@@ -43,7 +43,9 @@ fn from_position(alloc: Global, tables: &[Table; 2]) -> bool {
     }
 }
 
-/// Decodes the words that a new encoder lends. Returns whether missing words are read as zeros.
+/// Decodes two symbols from the words that a new encoder lends.
+///
+/// Returns whether both symbols are 0, because words past the end are read as zeros.
 fn from_lent_words(alloc: Global, tables: &[Table; 2]) -> bool {
     let mut encoder = Small::new(alloc);
     match decode_lent_words_by_models::<u8, u16, Global, _, 8>(alloc, &mut encoder, tables) {

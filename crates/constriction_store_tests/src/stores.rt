@@ -9,7 +9,7 @@ use std::test::Fail;
 /// The type of the table of most tests.
 pub type Table = WeightTable<u32, 24>;
 
-/// The type of the store of most tests.
+/// The store type that most tests use.
 pub type Halves = Store<u32, u64, Table, 24>;
 
 /// An entry of an index: the place, the range coder's state at this place, and the number of symbols.

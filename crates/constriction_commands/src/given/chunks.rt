@@ -15,7 +15,11 @@ pub type Given = (Table, Vec<usize>, Vec<Vec<usize>>);
 
 /// Parses line 1 as weights, line 2 as the indices of the chunks to look up, and each further line as a chunk.
 ///
-/// Returns a fault if a line is no list of numbers, if the weights make no table, or if there is no memory.
+/// Returns a fault in each of these cases:
+///
+/// - A line isn't a list of numbers.
+/// - The weights don't make a table.
+/// - There is no memory.
 pub fn table_and_chunks(alloc: Global, text: &[u8]) -> Result<Given, Fault>
     ensures ok { IfOk result (λ given. GivesChunks text.now (⟦<Table as EntropyModel<PRECISION>>⟧.table given.0)
         given.1.items (lists_of given.2.items)) }

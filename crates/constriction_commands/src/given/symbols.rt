@@ -12,7 +12,11 @@ use std::alloc::Global;
 
 /// Parses line 1 as the weights of a table, and line 2 as symbols.
 ///
-/// Returns a fault if a line is no list of numbers, if the weights make no table, or if there is no memory.
+/// Returns a fault in each of these cases:
+///
+/// - A line isn't a list of numbers.
+/// - The weights don't make a table.
+/// - There is no memory.
 pub fn table_and_symbols(alloc: Global, text: &[u8]) -> Result<(Table, Vec<usize>), Fault>
     ensures ok { IfOk result
         (λ given. GivesSymbols text.now (⟦<Table as EntropyModel<PRECISION>>⟧.table given.0) given.1.items) }

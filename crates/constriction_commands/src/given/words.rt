@@ -40,8 +40,12 @@ fn take_count(numbers: &mut Vec<u32>) -> Result<u32, Fault>
 
 /// Parses line 1 as the weights of a table, and line 2 as a count of symbols followed by words.
 ///
-/// Returns a fault if a line is no list of numbers, if the count is missing or above `MOST`, if the weights make no
-/// table, or if there is no memory.
+/// Returns a fault in each of these cases:
+///
+/// - A line isn't a list of numbers.
+/// - The count is missing or above `MOST`.
+/// - The weights don't make a table.
+/// - There is no memory.
 pub fn table_and_words(alloc: Global, text: &[u8]) -> Result<(Table, u32, Vec<u32>), Fault>
     ensures ok { IfOk result
         (λ given. GivesWords text.now (⟦<Table as EntropyModel<PRECISION>>⟧.table given.0) given.1 given.2.items) }

@@ -198,9 +198,9 @@ where
     /// Returns a guard that lends the words that [`AnsCoder::into_binary`] would return.
     ///
     /// While the guard lives, the backend holds the words below the head and then the head's words below its leading 1,
-    /// lowest first. Zero words directly below the leading 1 are included. The coder first asks the backend for room
-    /// for the head's words. A head of 1 has no words below its leading 1. Dropping the guard restores the coder,
-    /// unless a read fails.
+    /// lowest first. Words directly below the leading 1 are included even if they are 0. A head of 1 has no words below
+    /// its leading 1. The coder first asks the backend for room for the head's words. Dropping the guard restores the
+    /// coder, unless a read fails.
     ///
     /// # Errors
     ///

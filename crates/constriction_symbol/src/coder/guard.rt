@@ -135,8 +135,8 @@ impl<Word: BitArray, A: Allocator> StackCoder<Word, Vec<Word, A>> {
     ///
     /// # Errors
     ///
-    /// Returns `AllocError` if there is no memory for the words that end the bits: two words if the word outside the
-    /// vector is full, else one. The bits are unchanged.
+    /// Returns `AllocError` if there is no memory for the words that the guard appends. The guard appends two words if
+    /// the word outside the vector is full, else one. After an error, the bits are unchanged.
     ///
     /// # Examples
     ///
