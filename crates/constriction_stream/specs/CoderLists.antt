@@ -9,10 +9,14 @@ use Rattle.constriction_stream.specs.declared.errors.TryCodingError.{TryCodingEr
 
 -- `coder` has the rules of an `Encode`. `gives`, `next` and `remaining` are the rules of the list's iterator.
 module _ {C V F B : Type 0} (coder : record {
-    shows : C → V → Type 0; encodes : C → Step → Result (Unit {0}) (CoderError F B) → C → Type 0;
-    is_impossible_symbol : F → Type 0; counts_symbols : Type 0; symbols_left : C → ℕ;
-    is_lack_of_room : CoderError F B → Type 0; tells_room : C → Type 0;
-  }) where
+  shows : C → V → Type 0;
+  encodes : C → Step → Result (Unit {0}) (CoderError F B) → C → Type 0;
+  is_impossible_symbol : F → Type 0;
+  counts_symbols : Type 0;
+  symbols_left : C → ℕ;
+  is_lack_of_room : CoderError F B → Type 0;
+  tells_room : C → Type 0;
+}) where
   -- Each such iterator can be called, and ends. If the coder counts symbols, the iterator returns at most as many items
   -- as symbols are left.
   abbrev pub GivesAtMostLeft : {I : Type 0} → (I → Type 0) → (I → Type 0) → (I → Count) → C → Type 0
