@@ -3,7 +3,7 @@
 from __future__ import annotations
 
 import re
-from math import log2
+from math import ceil, log2
 
 import definitions as by
 from judging import Page, judge, read
@@ -132,5 +132,5 @@ def test():
     crates(page)
     speed(page)
     gate()
-    rounding = f"{log2(1 + 2 ** -(64 - 32 - 24)):.4f}"
+    rounding = f"{ceil(10000 * log2(1 + 2 ** -(64 - 32 - 24))) / 10000:.4f}"
     page.has(f"rounding adds at most {rounding} bits a symbol to the information content (24-bit precision, 32-bit words,")
