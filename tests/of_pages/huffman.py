@@ -67,9 +67,9 @@ def nodes(page, steps, ways):
     while node:
         climb.append(node)
         node = parents[node // 2]
-    first, second, third = (f"{node} (bit {node % 2}, union {node // 2})" for node in climb)
+    first, second, third = (f"{node} (bit {node % 2}, parent {node // 2})" for node in climb)
     bits = series(node % 2 for node in climb)
-    climbed = f"From symbol 3's leaf the encoder goes up through nodes {first}, {second} and {third} to the root."
+    climbed = f"From symbol 3's leaf to the root, the encoder reads the nodes {first}, {second} and {third}."
     page.has(f"{climbed} The bits {bits} are the codeword from its last bit to its first")
 
     page.row("Union", *[union for _, _, _, union, _ in steps])

@@ -142,7 +142,7 @@ def following(page):
     number, words = sealed(low, length, moves, 32)
     room, zeros = low + length - number * 2**24, zero_words(low, length, 32)
     page.has(f"So `c = {number}`, and `A + R` is {low + length}, which is `c * q + {room}`")
-    page.has(f"With one zero word it needs {2**24 // 256} numbers, with two {2**24 // 256**2}. It holds {room}, so `t` is {zeros}")
+    page.has(f"the interval has {room} numbers. Without zero words it must have `q` there, with one zero word {2**24 // 256}, and with two, {2**24 // 256**2}. So `t` is {zeros}")
     longer = digits(number, moves + 1) + [0] * zeros
     others, within = words + [255, 255], words + [0, 255]
     judge(found(tables, words, 32)[0] == found(tables, within, 32)[0] == symbols, "what may follow the seal")
