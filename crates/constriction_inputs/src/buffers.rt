@@ -45,7 +45,7 @@ pub fn append<Word: BitArray>(
     }
     if added.len() == 1 {
         buffer[*len] = added[0];
-    } else {
+    } else if added.len() > 1 {
         buffer[*len..end].copy_from_slice(added);
     }
     *len = end;
