@@ -15,11 +15,11 @@ mod of_u64;
 mod of_u8;
 mod of_usize;
 
-/// A word: an unsigned integer of `BITS` bits. `u8`, `u16`, `u32`, `u64`, `u128` and `usize` are words.
+/// A word type: unsigned integers of `BITS` bits. `u8`, `u16`, `u32`, `u64`, `u128` and `usize` are word types.
 ///
-/// Contracts describe a word by a natural number, `number`, and each method by what it does to these numbers. A result
-/// wraps or loses bits only if the method's name says so. By `number_law`, `number word < 2 ^ BITS` holds for every
-/// word. Generic code may rely on this law, and its callers don't have to prove it.
+/// Contracts describe a word by its natural number, `number`, and a method's result by the numbers of its arguments. A
+/// result wraps or loses bits only if the method's name says so. By `number_law`, `number word < 2 ^ BITS` holds for
+/// every word. Generic code may rely on this law, and its callers don't have to prove it.
 ///
 /// Some methods have a condition, for example that a sum fits the type. The caller proves the condition. The compiler
 /// inlines each method as one or a few machine instructions. The exceptions are quotients and remainders of `u128`, for
@@ -50,7 +50,7 @@ pub trait BitArray: Copy + Drop {
     // The number that a word stands for.
     ghost number: { Self → ℕ };
 
-    /// The type for numbers of `Self` that are above 0.
+    /// The type of the words that are above 0.
     type NonZero: Copy + Drop;
 
     // The number that a value of `NonZero` stands for.
@@ -68,11 +68,11 @@ pub trait BitArray: Copy + Drop {
     fn greatest() -> Self
         ensures { number result + 1 ≡ 2 ^ BITS };
 
-    /// Returns whether the number is 0.
+    /// Returns whether `self` is 0.
     fn is_nothing(self) -> bool
         ensures { IsTrue result ↔ (number self ≡ 0) };
 
-    /// Returns whether the number is below `other`.
+    /// Returns whether `self` is below `other`.
     fn is_below(self, other: Self) -> bool
         ensures { IsTrue result ↔ (number self < number other) };
 
@@ -99,7 +99,7 @@ pub trait BitArray: Copy + Drop {
     /// Returns `self` divided by `other`, rounded down. An impl may use `reciprocal` to avoid the division.
     ///
     /// The caller proves that `reciprocal` is the reciprocal of `other`. The default method ignores `reciprocal` and
-    /// divides. The impls of this crate, except the impl for `u128`, compute a product and a shift instead.
+    /// divides. The impls of this crate, except the impl for `u128`, multiply and shift instead.
     fn quotient_by(self, other: Self, reciprocal: Reciprocal) -> Self
         requires { IsReciprocalOf reciprocal (number other) }
         ensures { number result ≡ number self / number other }
@@ -112,7 +112,7 @@ pub trait BitArray: Copy + Drop {
         requires { 0 < number other }
         ensures { number result ≡ number self % number other };
 
-    /// Returns the number times `2 ^ by`.
+    /// Returns `self` times `2 ^ by`.
     ///
     /// The caller proves that the product fits the type and that `by` is below `BITS`.
     fn shifted_left(self, by: u32) -> Self
@@ -120,17 +120,17 @@ pub trait BitArray: Copy + Drop {
         requires fits { number self * 2 ^ by < 2 ^ BITS }
         ensures { number result ≡ number self * 2 ^ by };
 
-    /// Returns the number divided by `2 ^ by`, rounded down. The caller proves that `by` is below `BITS`.
+    /// Returns `self` divided by `2 ^ by`, rounded down. The caller proves that `by` is below `BITS`.
     fn shifted_right(self, by: u32) -> Self
         requires { by < BITS }
         ensures { number result ≡ number self / 2 ^ by };
 
-    /// Returns the lowest `count` bits of the number. The caller proves that `count` is below `BITS`.
+    /// Returns the lowest `count` bits of `self`. The caller proves that `count` is below `BITS`.
     fn low_bits(self, count: u32) -> Self
         requires { count < BITS }
         ensures { number result ≡ number self % 2 ^ count };
 
-    /// Returns the number of bits without leading zeros: 0 for the number 0, `BITS` for the greatest number.
+    /// Returns the number of bits of `self` without leading zeros: 0 for 0, `BITS` for the greatest number.
     fn bit_length(self) -> u32
         ensures below { number self < 2 ^ result }
         ensures least { 2 ^ result ≤ 2 * number self + 1 }
@@ -147,15 +147,15 @@ pub trait BitArray: Copy + Drop {
         ensures value { number result ≡ (number self + 2 ^ BITS - number other) % 2 ^ BITS }
         ensures back { (number result + number other) % 2 ^ BITS ≡ number self };
 
-    /// Returns the same number as a `NonZero`, or `None` if the number is 0.
+    /// Returns `self` as a `NonZero`, or `None` if `self` is 0.
     fn to_nonzero(self) -> Option<Self::NonZero>
         ensures { MatchOption result (number self ≡ 0) (λ n. nonzero_number n ≡ number self) };
 
-    /// Returns the same number as a word.
+    /// Returns `nonzero` as a word.
     fn from_nonzero(nonzero: Self::NonZero) -> Self
         ensures { number result ≡ nonzero_number nonzero };
 
-    /// Returns the same number as a `usize`. The caller proves that the number is below `2 ^ 64`.
+    /// Returns `self` as a `usize`. The caller proves that `self` is below `2 ^ 64`.
     fn to_index(self) -> usize
         requires { number self < 2 ^ 64 }
         ensures { result ≡ number self };

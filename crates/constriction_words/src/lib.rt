@@ -1,17 +1,18 @@
-//! Words: unsigned integers of a fixed number of bits, for code that is generic over them.
+//! Words: unsigned integers of a fixed number of bits, for code that is generic over word types.
 //!
 //! - [`bit_array`]: `BitArray`, the trait of word types with exact arithmetic, and its six impls for `u8`, `u16`,
 //!   `u32`, `u64`, `u128` and `usize`.
-//! - [`reciprocal`]: `Reciprocal`, which divides by a fixed number with one product and one shift.
+//! - [`reciprocal`]: `Reciprocal`, which replaces divisions by a fixed number with multiplications.
 //! - [`word_of`]: `WordOf<T>`, which widens a word to a `T` and narrows a `T` to a word, and its eighteen impls.
 //!
-//! Each coder is written once, generic over its word types, and each of its steps is proved once for all of them.
-//! Contracts describe a word by the natural number that it stands for. Generic code may rely on three laws, which its
+//! Each coder is written once, generic over its word types. Each step of a coder is proved once, for all word types.
+//! Contracts describe a word by the natural number that it stands for. Generic code may rely on four laws, which its
 //! callers don't have to prove:
 //!
 //! - A word's number is below `2 ^ BITS`.
 //! - The number of a `NonZero` is above 0.
-//! - A word that is `WordOf<T>` is no wider than `T`.
+//! - `BITS` is between 8 and 128.
+//! - A word type that is `WordOf<T>` has at most `T::BITS` bits.
 //!
 //! For example, this function computes the mean of two words, rounded down. It never adds the two words, because their
 //! sum may not fit the type. Therefore its contract has no condition:

@@ -1,20 +1,20 @@
-//! `Reciprocal`: exact division by a fixed number, with a product instead of a division instruction.
+//! `Reciprocal`: exact division by a fixed number, with a multiplication instead of a division instruction.
 //!
 //! Let `2^k` be the greatest power of two that is at most the divisor `p`. Let `q` and `r` be the quotient and the
-//! remainder of `2^(64+k) - 1` by `p`. The shift is `k`. If `r < 2^k`, multiplier and addend are both `q`. Otherwise
-//! the multiplier is `q + 1` and the addend is 0. Multiplier and addend fit 64 bits. If `p` is a power of two, then
-//! `r < 2^k`.
+//! remainder of `2^(64+k) - 1` divided by `p`. The shift is `k`. If `r < 2^k`, multiplier and addend are both `q`.
+//! Otherwise the multiplier is `q + 1` and the addend is 0. Multiplier and addend fit 64 bits. If `p` is a power of
+//! two, then `r < 2^k`.
 //!
-//! Reciprocals of 64 bits work for every state of at most 64 bits. A product of two 64-bit numbers is one machine
-//! instruction, so reciprocals of 32 bits would gain nothing.
+//! Reciprocals of 64 bits work for every coder state of at most 64 bits. A multiplication of two 64-bit numbers is one
+//! machine instruction, so reciprocals of 32 bits would save no time.
 
 ghost use Rattle.std.specs.Prelude.{◌≡◌, ◌+◌, ◌*◌, ◌/◌, ◌<◌, ℕ};
 
 /// The reciprocal of a divisor above 0, for exact quotients (rounded down) of numbers below `2^64`.
 ///
-/// It consists of a multiplier, an addend and a shift. It pays off if the caller divides many numbers by the same
-/// number, for example coder states by a symbol's weight. The caller computes it once. Each quotient then takes one
-/// 128-bit product and a shift. On most machines this is several times as fast as a division.
+/// A reciprocal consists of a multiplier, an addend and a shift. Use a reciprocal to divide many numbers by the same
+/// number, for example coder states by a symbol's weight. The caller computes the reciprocal once. Each quotient then
+/// takes one 128-bit product, an addition and a shift. On most machines this is several times as fast as a division.
 ///
 /// # Examples
 ///
@@ -34,9 +34,9 @@ pub struct Reciprocal {
 impl Reciprocal {
     ghost use Rattle.constriction_words.specs.Reciprocals.{IsReciprocalOf};
 
-    /// Returns the reciprocal of `divisor`. The caller proves that `divisor` is above 0.
+    /// Computes the reciprocal of `divisor`. The caller proves that `divisor` is above 0.
     ///
-    /// This takes one 128-bit division and one 128-bit remainder, and no loop.
+    /// The call takes one 128-bit division and one 128-bit remainder, and has no loop.
     ///
     /// # Examples
     ///
@@ -68,7 +68,7 @@ impl Reciprocal {
         }
     }
 
-    /// Returns the quotient of `number` by the divisor of this reciprocal, rounded down.
+    /// Returns `number` divided by the divisor of this reciprocal, rounded down.
     #[inline]
     pub fn quotient(self, number: u64) -> u64
         ensures { (divisor : ℕ) → IsReciprocalOf self divisor → result ≡ number / divisor }

@@ -5,21 +5,21 @@ ghost use Rattle.std.proofs.Common.{rules};
 
 use crate::bit_array::BitArray;
 
-/// A word that is no wider than the word type `T`, so that each of its numbers is also a number of `T`.
+/// A word type that is no wider than the word type `T`, so that widening a word to `T` loses no bits.
 ///
-/// Each word type is `WordOf` itself. In addition:
+/// Each word type `T` is `WordOf<T>`. In addition:
 ///
-/// - `u8` is `WordOf` every other word type.
-/// - `u16` is `WordOf` `u32`, `u64`, `u128` and `usize`.
-/// - `u32` is `WordOf` `u64` and `u128`.
-/// - `u64` is `WordOf` `u128`.
+/// - `u8` is `WordOf<T>` for every other word type `T`.
+/// - `u16` is `WordOf<T>` for `T` = `u32`, `u64`, `u128` and `usize`.
+/// - `u32` is `WordOf<T>` for `T` = `u64` and `u128`.
+/// - `u64` is `WordOf<T>` for `T` = `u128`.
 ///
 /// An implementor proves three facts:
 ///
 /// - `widen` keeps the number.
-/// - `narrow` keeps the lowest `BITS` bits.
-/// - `width_law`: the word's `BITS` is at most `T::BITS`. Generic code may rely on this law, and its callers don't have
-///   to prove it.
+/// - `narrow` keeps the lowest `Self::BITS` bits.
+/// - `Self::BITS` is at most `T::BITS` (`width_law`). Generic code may rely on this law, and its callers don't have to
+///   prove it.
 ///
 /// # Examples
 ///
@@ -28,11 +28,11 @@ use crate::bit_array::BitArray;
 /// let low = <u32 as WordOf<u64>>::narrow(4294967303); // 7, as 4294967303 is 2^32 + 7
 /// ```
 pub trait WordOf<T: BitArray>: BitArray {
-    /// Returns the same number in the wider type.
+    /// Converts the word to a `T` with the same number.
     fn widen(self) -> T
         ensures { T.number result ≡ Self.number self };
 
-    /// Returns the lowest `Self::BITS` bits of `wide`: its remainder modulo `2 ^ Self::BITS`.
+    /// Returns the lowest `Self::BITS` bits of `wide`, which is `wide` modulo `2 ^ Self::BITS`.
     fn narrow(wide: T) -> Self
         ensures { Self.number result ≡ T.number wide % 2 ^ Self.BITS };
 
