@@ -16,10 +16,11 @@ mod writing;
 
 /// A buffer of words with a position between the words of a stack and the words of a queue.
 ///
-/// As a stack, the cursor holds the words before the position, and the word right before the position is read first. As
-/// a queue, it holds the words from the position on, and the word at the position is read first. A write replaces the
-/// word at the position, and moves the position past this word. At the end of the buffer, a write is refused. Contracts
-/// describe a cursor by its buffer and its position. The position never exceeds the buffer's length.
+/// As a stack, the cursor holds the words before the position. The word right before the position is read first. As a
+/// queue, the cursor holds the words at and after the position. The word at the position is read first. A write
+/// replaces the word at the position, and moves the position past this word. At the end of the buffer, the cursor
+/// refuses a write. Contracts describe a cursor by its buffer and its position. The position never exceeds the buffer's
+/// length.
 ///
 /// # Examples
 ///

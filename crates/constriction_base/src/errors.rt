@@ -10,9 +10,9 @@ use thiserror::Error;
 
 /// The error of a call to a coder: either the coder's frontend or its backend refuses the call.
 ///
-/// The frontend is the part of the coder that handles symbols and their models. The backend reads and writes words. The
-/// `?` operator turns a backend's error into `CoderError::Backend`. It doesn't convert a frontend's error: the caller
-/// has to wrap that error as `CoderError::Frontend(error)`.
+/// The frontend is the part of the coder that encodes or decodes symbols. The backend reads and writes words. The `?`
+/// operator turns a backend's error into `CoderError::Backend`. The operator doesn't convert a frontend's error: the
+/// caller has to wrap that error as `CoderError::Frontend(error)`.
 ///
 /// # Examples
 ///
@@ -40,7 +40,7 @@ impl<F, B> From<B> for CoderError<F, B> {
     }
 }
 
-/// The error of an encoder's frontend.
+/// The error of an encoder's frontend: the symbol is impossible.
 ///
 /// # Examples
 ///
@@ -54,7 +54,7 @@ pub enum DefaultEncoderFrontendError {
     ImpossibleSymbol,
 }
 
-/// The error of an encoder whose backend has the write error `E`.
+/// The error of an encoder whose backend returns write errors of type `E`.
 pub type DefaultEncoderError<E> = CoderError<DefaultEncoderFrontendError, E>;
 
 /// The error of a call that both reads from a backend and writes to it.
@@ -91,10 +91,10 @@ pub enum BoundedWriteError {
     /// The position of the write is the end of the buffer.
     #[error("out of space")]
     OutOfSpace,
-    /// There is no memory.
+    /// An allocation failed.
     ///
-    /// A `Cursor` never returns this error. A coder over a cursor returns it if the coder itself asks for memory and
-    /// gets none.
+    /// A `Cursor` never returns this error. A coder over a cursor returns this error if the coder itself fails to
+    /// allocate memory.
     #[error("out of memory")]
     Memory,
 }

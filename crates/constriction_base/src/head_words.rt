@@ -1,4 +1,4 @@
-//! Words that move between a coder's head and a backend. The head is the number that a coder keeps above its words.
+//! Functions that move words between a coder's head and a backend. The head is the number above the coder's words.
 //!
 //! If there are no words to write, `append_words` doesn't call the backend. If a write is refused, the call returns how
 //! many words it wrote before that write. The stack coder's guard needs this number to take the words off again,
@@ -18,7 +18,7 @@ use constriction_words::{BitArray, WordOf};
 
 /// Returns the number of words of `head`, not counting leading zero words.
 ///
-/// The caller proves that `State` has a whole number of words, at least two.
+/// The caller proves that the width of `State` is a whole number of words, at least two.
 #[inline]
 pub fn count_of_words<Word: WordOf<State>, State: BitArray>(head: State) -> usize
     requires { IsSizes Word.BITS State.BITS }
@@ -35,8 +35,8 @@ pub fn count_of_words<Word: WordOf<State>, State: BitArray>(head: State) -> usiz
 
 /// Returns the number of bits of `head` below its highest set bit, counted in words.
 ///
-/// Returns `None` if these bits don't make a whole number of words, or if `head` is 0. The caller proves that `State`
-/// has a whole number of words, at least two.
+/// Returns `None` if these bits aren't a whole number of words, or if `head` is 0. The caller proves that the width of
+/// `State` is a whole number of words, at least two.
 pub fn words_below_one<Word: WordOf<State>, State: BitArray>(head: State) -> Option<usize>
     requires { IsSizes Word.BITS State.BITS }
     ensures value { IfSome result (λ m. IsOneAbove Word.BITS m (State.number head)) }
@@ -54,7 +54,7 @@ pub fn words_below_one<Word: WordOf<State>, State: BitArray>(head: State) -> Opt
 
 /// Writes the lowest `count` words of `head` to `bulk`, the lowest word first, without asking for room.
 ///
-/// The caller proves that `State` has a whole number of words, at least two.
+/// The caller proves that the width of `State` is a whole number of words, at least two.
 ///
 /// # Errors
 ///
@@ -85,7 +85,8 @@ pub fn write_words<Word: WordOf<State>, State: BitArray, Backend: WriteWords<Wor
 
 /// Asks for room for `count` words, and writes the lowest `count` words of `head` to `bulk`, the lowest word first.
 ///
-/// If `count` is 0, the backend isn't called. The caller proves that `State` has a whole number of words, at least two.
+/// If `count` is 0, the call doesn't use the backend. The caller proves that the width of `State` is a whole number of
+/// words, at least two.
 ///
 /// # Errors
 ///
@@ -122,7 +123,7 @@ pub fn append_words<Word: WordOf<State>, State: BitArray, Backend: WriteWords<Wo
 ///
 /// # Errors
 ///
-/// Returns the error of the refused read. The words that the call read before this read are lost.
+/// Returns the error that the backend returned for a read. The words that the call read before this read are lost.
 pub fn fill<Word: WordOf<State>, State: BitArray, Backend: ReadWords<Word, Stack>>(
     bulk: &mut Backend,
     head: State,

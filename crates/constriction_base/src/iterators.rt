@@ -1,4 +1,4 @@
-//! An iterator of `Result`s of words as a backend for reading.
+//! `FallibleIteratorReadWords`: a backend that reads words from an iterator of `Result`s.
 
 ghost use Rattle.std.specs.Prelude.{◌≡◌, ◌↔◌, List, [], Some, None, Ok, Err, Result, Option, true, false};
 ghost use Rattle.std.specs.Iterator.{Drains};
@@ -11,9 +11,9 @@ use std::marker::Model;
 
 /// A backend whose reads return the words of an iterator, in the iterator's order.
 ///
-/// Both as a stack and as a queue, the backend reads the iterator's first item first. If the item is `Err(error)`, the
+/// Both as a stack and as a queue, the backend reads the iterator's first item first. If an item is `Err(error)`, the
 /// read returns this error, and the next read continues with the next item. Once the iterator has returned `None`, no
-/// read calls it again. Contracts describe the backend by the iterator and whether the iterator has ended.
+/// read calls the iterator again. Contracts describe the backend by the iterator and whether the iterator has ended.
 ///
 /// # Examples
 ///
@@ -75,7 +75,7 @@ impl<Iter: Iterator> IntoIterator for FallibleIteratorReadWords<Iter> {
     ghost into_iter_gives = { λ backend rest. (fuse_source rest ≡ backend.0) × (fuse_done rest ≡ backend.1)
         × (fuse_done rest ≡ false → Iter.can_next (fuse_source rest)) };
 
-    /// Returns an iterator over the items that no read has taken. After its first `None`, it returns only `None`.
+    /// Returns an iterator over the items that are left to read. After its first `None`, it returns only `None`.
     fn into_iter(self) -> Fuse<Iter> {
         let FallibleIteratorReadWords { inner } = self;
         inner

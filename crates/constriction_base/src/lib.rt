@@ -8,14 +8,14 @@
 //! - [`backends`]: the backend traits (`ReadWords`, `WriteWords` and others) and the two reading orders, `Stack` and
 //!   `Queue`.
 //! - [`vectors`], [`slices`]: buffers that lend their words, and `Vec` as a stack that grows.
-//! - [`small_vectors`]: `SmallVec` as a stack whose first word needs no memory.
+//! - [`small_vectors`]: `SmallVec` as a stack whose first word needs no allocation.
 //! - [`cursor`]: `Cursor`, a buffer of fixed length with a position, readable in both directions.
 //! - [`reverse`]: `Reverse`, which swaps the two reading directions of a cursor.
-//! - [`iterators`]: an iterator of `Result`s of words as a backend for reading.
+//! - [`iterators`]: a backend that reads words from an iterator of `Result`s.
 //! - [`model`]: the model traits, with the law that a model is a table.
-//! - [`weights`]: `WeightTable`, a model made from the weights of its symbols, with a fast search.
+//! - [`weights`]: `WeightTable`, a model built from the weights of its symbols, with a fast search for a quantile.
 //! - [`errors`]: the errors of coders and backends.
-//! - [`head_words`]: words that move between a coder's head (the number above its words) and a backend.
+//! - [`head_words`]: functions that move words between a coder's head (the number above its words) and a backend.
 #![tactic(auto)]
 
 pub mod backends;

@@ -1,4 +1,4 @@
-//! Model traits. A model gives each of its symbols an interval. The interval's length stands for the probability.
+//! Model traits. A model gives each symbol an interval. The interval's length stands for the symbol's probability.
 //!
 //! A model of a given precision (in bits) partitions its quantiles, the numbers below `2 ^ PRECISION`, into intervals.
 //! Each symbol that the model can code has one interval. [`EncoderModel`] finds the interval of a symbol.
@@ -43,9 +43,9 @@ pub trait EntropyModel<const PRECISION: usize>: Drop {
 
 /// A model that an encoder can use.
 ///
-/// An implementor proves that each call returns the start and the length of the symbol's interval. If the table has no
-/// entry for the symbol, the call returns `None`. If a call also returns a reciprocal, it is the reciprocal of this
-/// length.
+/// An implementor proves that each call returns the start and the length of the symbol's interval, or `None` if the
+/// table has no entry for the symbol. If a call also returns a reciprocal, the implementor proves that it is the
+/// reciprocal of this length.
 ///
 /// # Examples
 ///
@@ -66,7 +66,7 @@ pub trait EncoderModel<const PRECISION: usize>: EntropyModel<PRECISION> {
 
     /// Returns the start and the length of the symbol's interval, and the length's reciprocal if the model stores it.
     ///
-    /// Returns `None` for an impossible symbol. With a reciprocal, an encoder multiplies where it would divide by the
+    /// Returns `None` for an impossible symbol. With a reciprocal, an encoder can multiply instead of dividing by the
     /// length. A model that stores no reciprocals keeps the default method, which returns `None` in place of the
     /// reciprocal.
     fn left_cumulative_and_reciprocal(

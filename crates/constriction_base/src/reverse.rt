@@ -1,6 +1,6 @@
 //! `Reverse`: a cursor whose stack and queue are swapped.
 //!
-//! `Reverse(Cursor::new_at_write_beginning(words))` is a stack that reads the buffer `words` from its first word on.
+//! `Reverse(Cursor::new_at_write_beginning(words))` is a stack that reads the buffer `words` from first word to last.
 //! Use `Reverse` for buffers that list the words of a stack in reading order, for example a file that is written from
 //! its end. The impls cover only cursors: an impl for every backend can be proved, but code that calls it can't.
 
@@ -15,8 +15,8 @@ use std::convert::Infallible;
 
 /// A backend that swaps the stack and the queue of the backend `B`.
 ///
-/// Over a cursor, the stack consists of the words from the cursor's position on, and the word at the position is read
-/// first. The queue consists of the words before the position, and the word right before the position is read first. A
+/// Over a cursor, the stack consists of the words at and after the cursor's position. The word at the position is read
+/// first. The queue consists of the words before the position. The word right before the position is read first. A
 /// position of `Reverse` is the position of the cursor.
 ///
 /// # Examples

@@ -1,8 +1,8 @@
 //! `SmallVec` as a stack of words. The first word is stored in the value itself.
 //!
 //! The vector asks for memory only when it grows past its first word. Only then may a write or `prepare` fail, and only
-//! for lack of memory. Reads never fail, take no memory and keep the capacity. The crate `constriction_symbol` reverses
-//! a codeword on a bit stack over such a vector. The impls are generic over the allocator.
+//! for lack of memory. Reads never fail, allocate nothing and keep the capacity. The crate `constriction_symbol`
+//! reverses a codeword on a bit stack over such a vector. The impls are generic over the allocator.
 
 ghost use Rattle.std.specs.Prelude.{◌≡◌, ◌+◌, ◌-◌, false, ◌<◌, ◌≤◌, ◌==◌, Option, Result, Ok, Err, length, reverse};
 ghost use Rattle.constriction_base.specs.Backends.{Reads, Writes};
@@ -64,7 +64,7 @@ impl<A: Allocator + Copy> WriteWords<usize> for SmallVec<usize, 1, A> {
 
     ghost seems_full = { λ _. false };
 
-    /// Writes a word onto the stack. The first word needs no memory.
+    /// Writes a word onto the stack. A write onto an empty stack never fails.
     #[tactic(auto, using(crate::proofs::Ends::reverse_push))]
     fn write(&mut self, word: usize) -> Result<(), AllocError> {
         // The capacity is at least the one inline word.
@@ -77,9 +77,9 @@ impl<A: Allocator + Copy> WriteWords<usize> for SmallVec<usize, 1, A> {
         false
     }
 
-    /// Asks for room for `count` further words.
+    /// Asks for room for `count` more words.
     ///
-    /// The call needs no memory if the number of words held plus `count` is at most 1.
+    /// The call never fails if the number of words on the stack plus `count` is at most 1.
     fn prepare(&mut self, count: usize) -> Result<(), AllocError> {
         // The capacity is at least one, and at least the number of words.
         let _inline = self.capacity();

@@ -1,7 +1,7 @@
 //! `Vec` as a stack of words: the last word of the vector is read first.
 //!
-//! Reads never fail, take no memory and keep the capacity. Writes and `prepare` fail only for lack of memory. The impls
-//! are generic over the allocator.
+//! Reads never fail, allocate nothing and keep the capacity. Writes and `prepare` fail only for lack of memory. The
+//! impls are generic over the allocator.
 
 ghost use Rattle.std.specs.Prelude.{◌≡◌, ◌+◌, ◌-◌, false, ◌<◌, ◌≤◌, ◌==◌, Option, Result, Ok, Err, reverse, vec_len};
 ghost use Rattle.std.specs.Prelude.{vec_capacity, take};

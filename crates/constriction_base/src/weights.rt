@@ -1,13 +1,16 @@
-//! `WeightTable`: a model made from the weights of its symbols.
+//! `WeightTable`: a model built from the weights of its symbols.
 //!
 //! The table cuts off weights of 0 at the end of the list, so that the start of each remaining symbol fits
 //! `Probability`. Starts and hints take one allocation each. Contracts describe a table by its `entries`, defined in
 //! `specs/`, because the laws of `EntropyModel` hold for every value of the type.
 //!
-//! Computing a reciprocal takes one 128-bit division: 33 to 41 ns in a prototype. The rest of a table takes 10.4 to
-//! 10.8 ns a symbol. Two 64-bit divisions would take 19 to 29 ns, but they work only for weights below 2^32, so `new`
-//! uses the 128-bit division. An encoder that divides by weights, such as the stack coder, divides if the table comes
-//! from `for_decoding`. If the table comes from `new`, at a precision of at most 63 bits, the encoder never divides.
+//! Computing a reciprocal takes one 128-bit division: 33 to 41 ns in a prototype. Building the rest of a table takes
+//! 10.4 to 10.8 ns a symbol. Two 64-bit divisions would take 19 to 29 ns, but work only for weights below 2^32.
+//! Therefore `new` uses the 128-bit division.
+//!
+//! With a table from `for_decoding`, an encoder that divides by weights, such as the stack coder, executes a division
+//! for each symbol. With a table from `new`, at a precision of at most 63 bits, the encoder never divides if its state
+//! has at most 64 bits.
 
 mod hints;
 pub mod starts;
@@ -27,7 +30,7 @@ use constriction_words::{BitArray, Reciprocal};
 use std::alloc::{AllocError, Global};
 use thiserror::Error;
 
-/// The error of making a table from weights.
+/// The error of building a table from weights.
 ///
 /// # Examples
 ///
@@ -42,7 +45,7 @@ pub enum TableError {
     /// The weights don't add up to `2 ^ PRECISION`.
     #[error("wrong total")]
     WrongTotal,
-    /// There is no memory for the table.
+    /// An allocation for the table failed.
     #[error("out of memory")]
     Memory,
 }
@@ -55,15 +58,15 @@ impl From<AllocError> for TableError {
     }
 }
 
-/// A model of the symbols `0`, `1`, .. with weights that add up to `2 ^ PRECISION`.
+/// A model of the symbols `0`, `1`, `2` and so on, with weights that add up to `2 ^ PRECISION`.
 ///
 /// A table is built from a list of weights: the weight at index `i` is the weight of symbol `i`. The intervals lie in
 /// the order of the symbols, and the length of each interval is its symbol's weight. A symbol is impossible if its
 /// weight is 0, or if the list has no weight for it.
 ///
-/// A decoder finds a quantile's symbol in two stages. All quantiles with the same high bits form a bucket, and the
-/// table stores which symbols have an interval that meets the bucket. A binary search then finds the quantile's symbol
-/// among these symbols. Usually there is only one such symbol, so there is nothing to search.
+/// A decoder finds a quantile's symbol in two stages. All quantiles with the same high bits form a bucket. The table
+/// stores the symbol of each bucket's first quantile. A binary search then finds the quantile's symbol between this
+/// symbol and the symbol of the next bucket's first quantile. If the two symbols are equal, there is nothing to search.
 ///
 /// # Examples
 ///
@@ -81,7 +84,7 @@ pub struct WeightTable<Probability: BitArray, const PRECISION: usize> {
     hints: Vec<usize>,
     /// The number of low bits in which the quantiles of a bucket differ.
     shift: u32,
-    /// The reciprocal of each symbol's weight, or of 1 if the weight is 0. The list may instead be empty.
+    /// The reciprocal of each symbol's weight, or of 1 if the weight is 0. Empty if the table keeps no reciprocals.
     reciprocals: Vec<Reciprocal>,
     pub ghost positive: { 1 ≤ PRECISION },
     pub ghost fits: { PRECISION ≤ Probability.BITS },
@@ -99,7 +102,7 @@ pub struct WeightTable<Probability: BitArray, const PRECISION: usize> {
 impl<Probability: BitArray, const PRECISION: usize> WeightTable<Probability, PRECISION> {
     ghost use Rattle.constriction_base.specs.WeightTables.{entries, KeepsReciprocals};
 
-    /// Creates the table of `weights`, for encoding and decoding.
+    /// Creates a table from `weights`, for encoding and decoding.
     ///
     /// The caller proves that `PRECISION` is at least 1 and at most `Probability::BITS`. If `PRECISION` is
     /// `Probability::BITS`, a single weight can't hold the total, so at least two weights have to be above 0.
@@ -107,21 +110,21 @@ impl<Probability: BitArray, const PRECISION: usize> WeightTable<Probability, PRE
     /// The table allocates its memory from `alloc`. Let `n` be the number of symbols up to and including the last
     /// symbol with a weight above 0. The table keeps:
     ///
-    /// - `n` starts, one for each of these symbols.
-    /// - At most `4 * n + 1` hints, which speed up decoding.
-    /// - At a precision of at most 63 bits, `n` reciprocals of 24 bytes each. With them, an encoder that would divide
-    ///   by a weight multiplies instead.
+    /// - `n` starts of type `Probability`, one for each of these symbols.
+    /// - At most `4 * n + 1` hints of 8 bytes each, which speed up decoding.
+    /// - At a precision of at most 63 bits, `n` reciprocals of 24 bytes each. With a reciprocal, an encoder whose state
+    ///   has at most 64 bits multiplies instead of dividing by the weight.
     ///
     /// [`for_decoding`](WeightTable::for_decoding) creates a table without reciprocals in less time.
     ///
     /// # Errors
     ///
-    /// The checks come in this order:
+    /// The call returns the first of these errors that applies:
     ///
-    /// - `Empty`: the list is empty.
-    /// - `WrongTotal`: the weights don't add up to `2 ^ PRECISION`. The sum is exact, whatever the width of
+    /// - `Empty`: the list `weights` is empty.
+    /// - `WrongTotal`: the weights don't add up to `2 ^ PRECISION`. The sum is exact, even if it doesn't fit
     ///   `Probability`.
-    /// - `Memory`: there is no memory for the table.
+    /// - `Memory`: an allocation for the table fails.
     ///
     /// # Examples
     ///
@@ -146,11 +149,11 @@ impl<Probability: BitArray, const PRECISION: usize> WeightTable<Probability, PRE
         }
     }
 
-    /// Creates the table of `weights` without reciprocals, for decoding.
+    /// Creates a table from `weights` without reciprocals, for decoding.
     ///
-    /// The table has the same entries as the table of [`new`](WeightTable::new), and takes less time and memory. It
-    /// is also the better table for encoders that don't divide by weights, such as the range encoder. Encoders that
-    /// divide by weights accept the table too, but run slower.
+    /// The table has the same entries as the table of [`new`](WeightTable::new), and takes less time and memory. Use it
+    /// also for encoders that don't divide by weights, such as the range encoder. Encoders that divide by weights, such
+    /// as the stack coder, accept the table too, but run slower.
     ///
     /// # Errors
     ///
@@ -200,7 +203,7 @@ impl<Probability: BitArray, const PRECISION: usize> WeightTable<Probability, PRE
         Ok(self)
     }
 
-    /// Returns the reciprocal of each symbol's weight, or of 1 if the weight is 0.
+    /// Computes the reciprocal of each symbol's weight, or of 1 if the weight is 0.
     fn made_reciprocals(&self, alloc: Global) -> Result<Vec<Reciprocal>, AllocError>
         requires { PRECISION ≤ 63 }
         ensures count { IfOk result (λ made. length made.items ≡ length self.now.starts.items) }

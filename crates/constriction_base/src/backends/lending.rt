@@ -19,7 +19,7 @@ pub trait Words<Word> {
 /// An implementor proves what each call does to the lent words: `set_word` replaces a word, and `reverse_words`
 /// reverses the order of the words.
 pub trait WordsMut<Word>: Words<Word> {
-    /// Replaces the word at `index` by `word`. The caller proves that `index` is below the number of words.
+    /// Replaces the word at `index` with `word`. The caller proves that `index` is below the number of words.
     fn set_word(&mut self, index: usize, word: Word)
         requires { index < length (Self.lent self.old) }
         ensures { Self.lent self.new ≡ slice_set (Self.lent self.old) index word };

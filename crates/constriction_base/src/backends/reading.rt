@@ -9,8 +9,8 @@ use crate::backends::semantics::Semantics;
 ///
 /// A type that implements the trait for both orders has one list of words for each order.
 ///
-/// This trait doesn't restrict how an implementor defines `words`, the list, and `is_list`, which says whether reads
-/// follow the list. Where `is_list` holds, the contracts of reading and writing state how each call changes the list.
+/// An implementor freely chooses `words`, the list of words, and `is_list`, which states whether reads follow this
+/// list. Where `is_list` holds, the contracts of reading and writing state how each call changes the list.
 pub trait Holds<Word, S: Semantics> {
     /// The words that the next reads return, in order. Where `is_list` doesn't hold, the list has no meaning.
     ghost words: { Self → List Word };
@@ -23,10 +23,14 @@ pub trait Holds<Word, S: Semantics> {
 ///
 /// A `Stack` reads the word that was written last. A `Queue` reads the word that was written first.
 ///
-/// An implementor chooses what a read may return, how the read changes the backend (`reads`), and what
-/// `maybe_exhausted` returns (`seems_exhausted`). It proves that the calls obey these choices, and that
-/// `maybe_exhausted` returns `true` if the next read may return `Ok(None)`. Where `is_list` holds, it also proves that
-/// a read takes the first word of the list, and that `maybe_exhausted` returns `true` for an empty list.
+/// An implementor chooses what a read may return and how the read changes the backend (`reads`). It also chooses what
+/// `maybe_exhausted` returns (`seems_exhausted`). It proves four facts:
+///
+/// - The calls obey these choices.
+/// - `maybe_exhausted` returns `true` if the next read may return `Ok(None)`.
+/// - Where `is_list` holds, a read that succeeds takes the first word off the list, or returns `Ok(None)` if the list
+///   is empty.
+/// - Where `is_list` holds, `maybe_exhausted` returns `true` if the list is empty.
 ///
 /// # Examples
 ///
@@ -37,7 +41,8 @@ pub trait Holds<Word, S: Semantics> {
 pub trait ReadWords<Word, S: Semantics>: Holds<Word, S> {
     /// The error of a read.
     ///
-    /// It is `Infallible` for vectors and cursors, and the iterator's own error type for `FallibleIteratorReadWords`.
+    /// For vectors and cursors, the type is `Infallible`. For `FallibleIteratorReadWords`, the type is the error type of
+    /// the iterator's items.
     type ReadError;
 
     /// Relates the backend before a read, what the read returns, and the backend after the read.
@@ -46,7 +51,7 @@ pub trait ReadWords<Word, S: Semantics>: Holds<Word, S> {
     /// The value that `maybe_exhausted` returns.
     ghost seems_exhausted: { Self → Bool };
 
-    /// Takes the next word and returns it, or returns `Ok(None)` if no word is left.
+    /// Reads the next word, or returns `Ok(None)` if no word is left.
     ///
     /// Where `is_list` holds, a read that returns `Ok(None)` leaves the list of words unchanged.
     ///
@@ -58,9 +63,10 @@ pub trait ReadWords<Word, S: Semantics>: Holds<Word, S> {
         ensures reads { reads self.old result self.new }
         ensures words { Self.is_list → Reads (Self.words self.old) result (Self.words self.new) };
 
-    /// Returns whether the backend may be exhausted.
+    /// Returns whether the backend may have run out of words.
     ///
-    /// If it returns `false`, the next read doesn't return `Ok(None)`. If it returns `true`, a word may still be left.
+    /// If the call returns `false`, the next read doesn't return `Ok(None)`. If the call returns `true`, a word may
+    /// still be left.
     fn maybe_exhausted(&self) -> bool
         ensures value { result ≡ seems_exhausted self.now }
         ensures exhausted { Self.is_list → Self.words self.now ≡ [] → IsTrue result }
@@ -71,11 +77,11 @@ pub trait ReadWords<Word, S: Semantics>: Holds<Word, S> {
 ///
 /// An implementor proves that `is_list` holds and that `remaining` returns the length of the list.
 pub trait BoundedReadWords<Word, S: Semantics>: ReadWords<Word, S> {
-    /// Returns the number of words left in the reading order `S`.
+    /// Returns the number of words left to read in the order `S`.
     fn remaining(&self) -> usize
         ensures { result ≡ length (Self.words self.now) };
 
-    /// Returns whether no word is left.
+    /// Returns whether no word is left to read in the order `S`.
     fn is_exhausted(&self) -> bool
         ensures { result ≡ (length (Self.words self.now) == 0) }
     {

@@ -1,6 +1,6 @@
 //! Positions in a backend or in a coder.
 //!
-//! For vectors and cursors, `can_seek` and `seek_fails` exclude each other: a seek succeeds exactly if `can_seek`
+//! For vectors and cursors, `can_seek` and `seek_fails` exclude each other: a seek succeeds if and only if `can_seek`
 //! holds, and a refused seek changes nothing. Some coders read words after their backend has sought, or have two
 //! backends. For these coders, `can_seek` and `seek_fails` may both hold for a position. `stays` states how a refused
 //! seek may change the value.
@@ -10,7 +10,7 @@ ghost use Rattle.std.specs.Prelude.{◌≡◌, ℕ, length, IsOk, OnOk, OnErr};
 use crate::backends::reading::Holds;
 use crate::backends::semantics::Stack;
 
-/// A type that has positions.
+/// A backend or a coder that has positions.
 pub trait PosSeek {
     type Position: Drop;
 }
@@ -26,7 +26,7 @@ pub trait Pos: PosSeek {
 
     /// Holds if `pos` can return the current position, for example because the count of words fits `Position`.
     ///
-    /// It always holds for vectors and cursors.
+    /// For vectors and cursors, `can_tell` always holds.
     ghost can_tell: { Self → Type 0 };
 
     /// Returns the current position. The caller proves that `can_tell` holds.
@@ -56,7 +56,7 @@ pub trait CountsWords<Word>: Pos<Position = usize> + Holds<Word, Stack> {
 /// An implementor chooses which seeks can succeed (`can_seek`) or be refused (`seek_fails`). It also chooses how a
 /// successful seek (`sought`) and a refused seek (`stays`) change the value. It proves that `seek` obeys these choices.
 /// Both `can_seek` and `seek_fails` can hold for one position, if a read during `seek` decides whether the seek
-/// succeeds. Where only one of them holds, as for vectors and cursors, a seek succeeds exactly if `can_seek` holds.
+/// succeeds. Where only one of them holds, as for vectors and cursors, `seek` succeeds if and only if `can_seek` holds.
 pub trait Seek: PosSeek {
     /// Holds if a seek to the position may succeed. A seek to any other position is refused.
     ghost can_seek: { Self → Self.Position → Type 0 };
@@ -70,12 +70,12 @@ pub trait Seek: PosSeek {
     /// Relates the value before a refused seek, the position, and the value after the seek.
     ghost stays: { Self → Self.Position → Self → Type 0 };
 
-    /// Seeks to `position`, for example to a position that `pos` returned.
+    /// Moves to `position`, for example to a position that `pos` returned.
     ///
     /// # Errors
     ///
-    /// Returns `Err(())` if the seek is refused. A seek is refused only where `seek_fails` holds, for example because
-    /// words were taken off after the position was recorded. A refused seek leaves a vector or a cursor unchanged.
+    /// Returns `Err(())` only where `seek_fails` holds, for example because a vector has fewer words than `position`. A
+    /// vector or a cursor is then unchanged.
     fn seek(&mut self, position: Self::Position) -> Result<(), ()>
         ensures variant { IsOk result → can_seek self.old position }
         ensures err { OnErr result (seek_fails self.old position) }

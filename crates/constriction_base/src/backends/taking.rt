@@ -7,10 +7,10 @@ use crate::backends::reading::ReadWords;
 use crate::backends::semantics::Stack;
 use crate::backends::writing::WriteWords;
 
-/// Takes `count` words off the backend `bulk`, or fewer if a read is refused.
+/// Removes the next `count` words from the backend `bulk`, or fewer if a read fails.
 ///
-/// If no read is ever refused, the call takes exactly the first `count` words, or all words if fewer are left. A
-/// coder's guard calls `take_back` to remove the words that the guard wrote onto the backend.
+/// If no read can fail, the call removes exactly the next `count` words, or all words if fewer are left. A coder's
+/// guard calls `take_back` to remove the words that the guard wrote onto the backend.
 pub fn take_back<Word, Backend>(bulk: &mut Backend, count: usize)
 where
     Word: Drop,

@@ -35,9 +35,9 @@ use crate::backends::semantics::Stack;
 /// words.write(9)?; // neither write allocates memory
 /// ```
 pub trait WriteWords<Word>: Holds<Word, Stack> {
-    /// The error of a write and of `prepare`.
+    /// The error of `write` and `prepare`.
     ///
-    /// For vectors, it means lack of memory. For cursors, it means lack of room.
+    /// A vector's error means lack of memory. A cursor's error means lack of room.
     type WriteError;
 
     /// Relates the backend before a write, the word, what the write returns, and the backend after the write.
@@ -79,13 +79,13 @@ pub trait WriteWords<Word>: Holds<Word, Stack> {
 
     /// Returns whether the backend may be full.
     ///
-    /// If it returns `false`, neither the next write nor a `prepare` for one word is refused for lack of room. A
-    /// backend that grows as long as there is memory always returns `false`.
+    /// If the call returns `false`, the backend refuses neither the next write nor a `prepare` for one word for lack of
+    /// room. A vector always returns `false`, because it grows as long as there is memory.
     fn maybe_full(&self) -> bool
         ensures value { result ≡ seems_full self.now }
         ensures room_left { result ≡ false → (e : Self.WriteError) → is_lack_of_room e → write_fails self.now e → ⊥ };
 
-    /// Asks for room for `count` further words. No word changes.
+    /// Asks for room for `count` more words. No word changes.
     ///
     /// Where `makes_room` holds, as for vectors, `Ok` guarantees that the next `count` writes succeed. For a cursor,
     /// `Ok` guarantees nothing. Every error that the next write may return after the call was also possible before the

@@ -1,4 +1,4 @@
-//! A cursor as a queue: it reads the words from its position on, up to the end of the buffer.
+//! A cursor as a queue: it reads the words from its position to the end of the buffer.
 
 ghost use Rattle.std.specs.Prelude.{◌≡◌, ◌+◌, ◌-◌, ◌<◌, ◌==◌, Option, Result, Ok, None, length, drop};
 ghost use Rattle.constriction_base.specs.Backends.{Reads};

@@ -31,7 +31,7 @@ impl<Word: BitArray, Buf: WordsMut<Word> + Drop> WriteWords<Word> for Cursor<Wor
 
     ghost seems_full = { λ c. c.pos == length (Buf.lent c.buf) };
 
-    /// Replaces the word at the position by `word`, and moves the position past it. No other word changes.
+    /// Replaces the word at the position with `word`, and moves the position past it. No other word changes.
     ///
     /// # Errors
     ///
@@ -61,12 +61,12 @@ impl<Word: BitArray, Buf: WordsMut<Word> + Drop> WriteWords<Word> for Cursor<Wor
         self.pos == self.buf.words().len()
     }
 
-    /// Returns `Ok` and changes nothing. `Ok` doesn't guarantee room.
+    /// Always returns `Ok` and changes nothing. `Ok` doesn't guarantee room.
     fn prepare(&mut self, _count: usize) -> Result<(), BoundedWriteError>
         ensures variant { IsOk result }
         ensures unchanged { self.new ≡ self.old }
     {
-        // A cursor's room is what its buffer has.
+        // A cursor can't make room: its room is the rest of its buffer.
         Ok(())
     }
 

@@ -1,8 +1,8 @@
 //! Hints: where the search for a quantile's symbol begins and ends, by the quantile's high bits.
 //!
 //! All quantiles with the same high bits form a bucket. The number of buckets is a power of two, and never above
-//! `2 ^ PRECISION` or 2^63. Let `n` be the number of symbols up to the last symbol with a weight above 0. Within these
-//! limits, there are more than `2 * n` and at most `4 * n` buckets.
+//! `2 ^ PRECISION` or 2^63. Let `n` be the number of symbols up to the last symbol with a weight above 0. There are at
+//! most `4 * n` buckets, and more than `2 * n` unless the number of buckets is `2 ^ PRECISION` or 2^63.
 
 ghost use Rattle.std.specs.Prelude.{◌≡◌, ◌+◌, ◌-◌, ◌*◌, ◌^◌, ◌<◌, ◌≤◌, ◌⊎◌, length, map, slice_index, IfOk};
 ghost use Rattle.constriction_base.specs.Tables.{IsRising};
@@ -13,8 +13,8 @@ use std::alloc::{AllocError, Global};
 
 /// Returns the number of low bits in which the quantiles of a bucket differ, in a table of `symbols` symbols.
 ///
-/// `precision` is the table's precision in bits. The table has more than `2 * symbols` and at most `4 * symbols`
-/// buckets. It has fewer only if each bucket is a single quantile, or if there are 2^63 buckets.
+/// `precision` is the table's precision in bits. The table has at most `4 * symbols` buckets. The table has more than
+/// `2 * symbols` buckets unless each bucket is a single quantile, or there are 2^63 buckets.
 pub fn shift_for(symbols: usize, precision: usize) -> u32
     requires some { 0 < symbols }
     requires within { (1 ≤ precision) × (precision ≤ 128) }
@@ -27,7 +27,7 @@ pub fn shift_for(symbols: usize, precision: usize) -> u32
     precision - precision.min(symbols.ilog2() + 2).min(63)
 }
 
-/// Returns the last symbol, from `from` on, with a start at or below `quantile`.
+/// Returns the last symbol at or after `from` whose interval starts at or below `quantile`.
 fn symbol_from<Probability: BitArray>(
     starts: &[Probability],
     from: usize,
