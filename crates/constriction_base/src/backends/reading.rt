@@ -41,8 +41,8 @@ pub trait Holds<Word, S: Semantics> {
 pub trait ReadWords<Word, S: Semantics>: Holds<Word, S> {
     /// The error of a read.
     ///
-    /// For vectors and cursors, the type is `Infallible`. For `FallibleIteratorReadWords`, the type is the error type of
-    /// the iterator's items.
+    /// For vectors and cursors, the type is `Infallible`. For `FallibleIteratorReadWords`, the type is the error type
+    /// of the iterator's items.
     type ReadError;
 
     /// Relates the backend before a read, what the read returns, and the backend after the read.
