@@ -2,7 +2,7 @@
 
 use constriction_words::BitArray;
 
-/// A coder, which has words of compressed data and a state besides these words.
+/// A coder: it holds words of compressed data, and a state besides these words.
 ///
 /// An implementor chooses the ghost member `shows`, which relates the coder to each value that `state` may return. It
 /// proves that `state` returns one of these values.
@@ -10,13 +10,13 @@ pub trait Code {
     /// The word type of the compressed data.
     type Word: BitArray;
 
-    /// The type of the coder's state, which is what the coder holds besides compressed data.
+    /// The type of the coder's state, such as the stack coder's head or the range coder's interval.
     type State: Drop;
 
     /// Relates the coder to each value that `state` may return. An implementor chooses this relation freely.
     ghost shows: { Self → Self.State → Type 0 };
 
-    /// Returns the coder's state, which is what the coder holds besides its compressed data.
+    /// Returns the coder's state, such as the stack coder's head or the range coder's interval.
     fn state(&self) -> Self::State
         ensures { shows self.now result };
 }

@@ -10,8 +10,9 @@ use crate::encoding::Encode;
 
 /// An encoder that turns into a decoder of the data that it holds.
 ///
-/// An implementor chooses two ghost members: `becomes` relates the encoder to each decoder, and `fails` to each error,
-/// that `into_decoder` may return. It proves that `into_decoder` returns one of these decoders or errors.
+/// An implementor chooses two ghost members. `becomes` relates the encoder to each decoder that `into_decoder` may
+/// return. `fails` relates the encoder to each error that `into_decoder` may return. The implementor proves that
+/// `into_decoder` returns one of these decoders or errors.
 pub trait IntoDecoder<const PRECISION: usize>: Encode<PRECISION> {
     /// The type of the decoder.
     type IntoDecoder: Decode<PRECISION, Word = Self::Word, State = Self::State> + Drop;

@@ -20,7 +20,7 @@ use constriction_words::WordOf;
 ///
 /// - `decode_symbol` makes the step of an entry of the model's table, as `decodes` allows, and returns the entry's
 ///   symbol. Otherwise it returns an error that `decodes` or `halts` allows.
-/// - If `maybe_exhausted` returns `false`, then `has_data` holds, and the next step isn't refused for lack of data.
+/// - If `maybe_exhausted` returns `false`, then `has_data` holds, and the next decode doesn't fail for lack of data.
 ///
 /// Generic code can rely only on these facts. If a caller needs stronger guarantees, it must name the coder's type.
 pub trait Decode<const PRECISION: usize>: Code {
@@ -32,11 +32,11 @@ pub trait Decode<const PRECISION: usize>: Code {
 
     /// Relates the coder before a step, the step, what the step returns, and the coder after the step.
     ///
-    /// This is where an implementor states what its coder does.
+    /// With this relation, an implementor states what its coder does.
     ghost decodes: { Self → Step → Result (Unit {0}) (CoderError Self.FrontendError Self.BackendError)
         → Self → Type 0 };
 
-    /// Relates the coder before a call, an error that precedes any use of the model, and the coder after the call.
+    /// Relates the coder before a call, an error returned before any use of the model, and the coder after the call.
     ///
     /// An implementor chooses this relation freely. If every call uses the model, the relation never holds.
     ghost halts: { Self → CoderError Self.FrontendError Self.BackendError → Self → Type 0 };
@@ -75,7 +75,7 @@ pub trait Decode<const PRECISION: usize>: Code {
 
     /// Returns an iterator that decodes one symbol for each model of `models`.
     ///
-    /// The iterator is lazy: it decodes a symbol only when `next` is called. It continues after an error.
+    /// The iterator is lazy: it decodes a symbol only when the caller calls `next`. An error doesn't end the iterator.
     ///
     /// # Examples
     ///
@@ -101,7 +101,7 @@ pub trait Decode<const PRECISION: usize>: Code {
         }
     }
 
-    /// Returns an iterator that decodes one symbol for each model, from items that are either a model or an error.
+    /// Returns an iterator that decodes one symbol for each model, where each item is a model or an error.
     ///
     /// For an item `Err(error)`, the iterator returns `InvalidEntropyModel(error)` and leaves the decoder unchanged.
     /// For a model, it decodes a symbol as the iterator of [`decode_symbols`](Decode::decode_symbols) does.
@@ -124,7 +124,7 @@ pub trait Decode<const PRECISION: usize>: Code {
 
     /// Returns an iterator that decodes `amt` symbols, all under one model.
     ///
-    /// The iterator is lazy: it decodes a symbol only when `next` is called. It continues after an error.
+    /// The iterator is lazy: it decodes a symbol only when the caller calls `next`. An error doesn't end the iterator.
     ///
     /// # Examples
     ///
@@ -154,9 +154,9 @@ pub trait Decode<const PRECISION: usize>: Code {
         }
     }
 
-    /// Returns whether all encoded symbols may have been decoded.
+    /// Returns whether the data may have ended.
     ///
-    /// If it returns `false`, then `has_data` holds, and the next step isn't refused for lack of data.
+    /// If the call returns `false`, then `has_data` holds, and the next decode doesn't fail for lack of data.
     fn maybe_exhausted(&self) -> bool
         ensures data { OnFalse result (has_data self.now) }
         ensures goes_on { OnFalse result (GoesOn decodes halts is_end_of_data self.now) }

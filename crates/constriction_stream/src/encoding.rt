@@ -58,7 +58,7 @@ pub trait Encode<const PRECISION: usize>: Code {
 
     /// Relates the coder before a step, the step, what the step returns, and the coder after the step.
     ///
-    /// This is where an implementor states what its coder does.
+    /// With this relation, an implementor states what its coder does.
     ghost encodes: { Self → Step → Result (Unit {0}) (CoderError Self.FrontendError Self.BackendError)
         → Self → Type 0 };
 
@@ -68,13 +68,13 @@ pub trait Encode<const PRECISION: usize>: Code {
     /// states this condition.
     ghost is_impossible_symbol: { Self.FrontendError → Type 0 };
 
-    /// Holds if `symbols_left` limits the number of symbols that the coder may be asked to encode.
+    /// Holds if `symbols_left` limits the number of symbols that a caller may encode.
     ///
-    /// An implementor chooses freely whether it holds. If it doesn't hold, no caller has to prove anything about
-    /// `symbols_left`.
+    /// An implementor chooses freely whether `counts_symbols` holds. If `counts_symbols` doesn't hold, no caller has to
+    /// prove anything about `symbols_left`.
     ghost counts_symbols: { Type 0 };
 
-    /// The number of symbols that the coder may still be asked to encode.
+    /// The number of symbols that a caller may still encode, where `counts_symbols` holds.
     ///
     /// An implementor chooses the number freely, but `encode_symbol` lowers it by at most 1.
     ghost symbols_left: { Self → ℕ };
@@ -85,14 +85,15 @@ pub trait Encode<const PRECISION: usize>: Code {
     /// `never_full` states this condition. If no error means that the coder is full, `maybe_full` guarantees nothing.
     ghost is_lack_of_room: { CoderError Self.FrontendError Self.BackendError → Type 0 };
 
-    /// Holds if `maybe_full` can determine whether there is room. An implementor chooses freely when it holds.
+    /// Holds if `maybe_full` can determine whether there is room.
     ///
-    /// Where `tells_room` doesn't hold, `maybe_full` guarantees nothing.
+    /// An implementor chooses freely when `tells_room` holds. Where `tells_room` doesn't hold, `maybe_full` guarantees
+    /// nothing.
     ghost tells_room: { Self → Type 0 };
 
-    /// Returns the number of symbols that the coder may still be asked to encode.
+    /// Returns the number of symbols that the caller may still encode.
     ///
-    /// A step lowers this number by at most 1. Coders without a limit return `usize::MAX`.
+    /// Encoding a symbol lowers this number by at most 1. Coders without a limit return `usize::MAX`.
     fn symbols_left(&self) -> usize
         ensures { result ≡ symbols_left self.now };
 
@@ -129,8 +130,8 @@ pub trait Encode<const PRECISION: usize>: Code {
     ///
     /// # Errors
     ///
-    /// Returns the error of the first refused step. Exactly the symbols before the refused symbol are encoded. The
-    /// items after it are not taken from the iterator.
+    /// Returns the error of the first symbol that the coder refuses. Exactly the symbols before this symbol are
+    /// encoded. The call takes no further item from the iterator.
     ///
     /// # Examples
     ///
@@ -163,13 +164,14 @@ pub trait Encode<const PRECISION: usize>: Code {
         Ok(())
     }
 
-    /// Encodes symbols in order, from items that are either a symbol with its own model or an error.
+    /// Encodes symbols in order, where each item is a symbol with its own model, or an error.
     ///
     /// Where `counts_symbols` holds, the caller proves that `symbols_left` is at least the number of items.
     ///
     /// # Errors
     ///
-    /// The call stops at the first item that fails. Exactly the symbols of the items before this item are encoded.
+    /// The call stops at the first item that fails. Exactly the symbols of the items before this item are encoded. The
+    /// call takes no further item from the iterator.
     ///
     /// - `InvalidEntropyModel(error)`: the item is `Err(error)`.
     /// - `CodingError(error)`: the coder refuses the item's symbol.
@@ -209,8 +211,8 @@ pub trait Encode<const PRECISION: usize>: Code {
     ///
     /// # Errors
     ///
-    /// Returns the error of the first refused step. Exactly the symbols before the refused symbol are encoded. The
-    /// symbols after it are not taken from the iterator.
+    /// Returns the error of the first symbol that the coder refuses. Exactly the symbols before this symbol are
+    /// encoded. The call takes no further symbol from the iterator.
     ///
     /// # Examples
     ///
@@ -246,9 +248,9 @@ pub trait Encode<const PRECISION: usize>: Code {
         Ok(())
     }
 
-    /// Returns whether the next step may be refused for lack of room.
+    /// Returns whether the coder may refuse the next symbol for lack of room.
     ///
-    /// If it returns `false` and `tells_room` holds, the next step isn't refused for lack of room.
+    /// If the call returns `false` and `tells_room` holds, the coder doesn't refuse the next symbol for lack of room.
     fn maybe_full(&self) -> bool
         ensures room { OnFalse result (tells_room self.now → HasRoom encodes is_lack_of_room self.now) }
     {

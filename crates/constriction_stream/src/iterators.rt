@@ -1,7 +1,8 @@
 //! Iterators over the symbols that a decoder returns.
 //!
-//! The iterators are lazy: they decode a symbol only when `next` is called. They return one result for each model, and
-//! continue after an error. After an iterator is dropped, its decoder is positioned after the symbols returned so far.
+//! The iterators are lazy: they decode a symbol only when the caller calls `next`. They return one result for each
+//! model. An error doesn't end an iterator. After the caller drops an iterator, the decoder is positioned after the
+//! symbols returned so far.
 //! The fields are public, because contracts name the decoder and the models that are left. The methods of `Decode` that
 //! return the iterators are `final`: if they were plain default methods, no impl of `Decode` could be proved.
 //!

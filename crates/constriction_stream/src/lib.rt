@@ -1,6 +1,6 @@
 //! The coder traits: generic code uses them to encode and decode symbols with any coder.
 //!
-//! An encoder takes symbols, each with the model that states its probability. A decoder with the same models returns
+//! An encoder encodes symbols, each under a model that states its probability. A decoder with the same models returns
 //! the symbols. In each step, a coder gets only the start and the length of an interval of the numbers below
 //! `2 ^ PRECISION`. Each coder states in `Encode::encodes` or `Decode::decodes` what it does with the interval. The
 //! traits state what all coders have in common:
@@ -11,10 +11,10 @@
 //!
 //! The modules:
 //!
-//! - [`coder`]: `Code`, the words and the state that every coder has.
-//! - [`encoding`]: `Encode` for single steps and lists of symbols, and `EncodeReverse` for lists from the last symbol
-//!   to the first.
-//! - [`decoding`]: `Decode` for single steps and for iterators of symbols.
+//! - [`coder`]: `Code`, the word type and the state that every coder has.
+//! - [`encoding`]: `Encode` encodes single symbols and lists of symbols. `EncodeReverse` encodes lists from the last
+//!   symbol to the first.
+//! - [`decoding`]: `Decode` decodes single symbols, and returns iterators that decode lists of symbols.
 //! - [`iterators`]: the iterators that the calls of `Decode` return.
 //! - [`conversions`]: `IntoDecoder` turns an encoder into a decoder, and `AsDecoder` lends an encoder's data to one.
 //! - [`errors`]: the error of calls that take models or symbols as `Result`s.

@@ -22,8 +22,8 @@ pub trait EncodeReverse<const PRECISION: usize>: Encode<PRECISION> {
     ///
     /// # Errors
     ///
-    /// Returns the error of the first refused step. Exactly the symbols after the refused symbol in the list are
-    /// encoded. The items before it are not taken from the iterator.
+    /// Returns the error of the first symbol that the coder refuses, counted from the end of the list. Exactly the
+    /// symbols after this symbol in the list are encoded. The call takes no further item from the iterator.
     ///
     /// # Examples
     ///
@@ -57,14 +57,14 @@ pub trait EncodeReverse<const PRECISION: usize>: Encode<PRECISION> {
         Ok(())
     }
 
-    /// Encodes symbols from the last to the first, from items that are either a symbol with its own model or an error.
+    /// Encodes symbols from the last to the first, where each item is a symbol with its own model, or an error.
     ///
     /// Where `counts_symbols` holds, the caller proves that `symbols_left` is at least the number of items.
     ///
     /// # Errors
     ///
-    /// The call goes from the last item to the first, and stops at an item that fails. Exactly the symbols of the items
-    /// after this item in the list are encoded.
+    /// The call stops at the first item that fails, counted from the end of the list. Exactly the symbols of the items
+    /// after this item in the list are encoded. The call takes no further item from the iterator.
     ///
     /// - `InvalidEntropyModel(error)`: the item is `Err(error)`.
     /// - `CodingError(error)`: the coder refuses the item's symbol.
@@ -106,8 +106,8 @@ pub trait EncodeReverse<const PRECISION: usize>: Encode<PRECISION> {
     ///
     /// # Errors
     ///
-    /// Returns the error of the first refused step. Exactly the symbols after the refused symbol in the list are
-    /// encoded. The symbols before it are not taken from the iterator.
+    /// Returns the error of the first symbol that the coder refuses, counted from the end of the list. Exactly the
+    /// symbols after this symbol in the list are encoded. The call takes no further symbol from the iterator.
     ///
     /// # Examples
     ///

@@ -13,7 +13,7 @@ use constriction_words::WordOf;
 
 /// An iterator that decodes a given number of symbols, all under one model.
 ///
-/// [`Decode::decode_iid_symbols`](crate::decoding::Decode::decode_iid_symbols) returns it.
+/// [`Decode::decode_iid_symbols`](crate::decoding::Decode::decode_iid_symbols) returns this iterator.
 ///
 /// # Examples
 ///

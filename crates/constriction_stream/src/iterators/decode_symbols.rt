@@ -11,7 +11,7 @@ use constriction_words::WordOf;
 
 /// An iterator that decodes one symbol for each model.
 ///
-/// [`Decode::decode_symbols`](crate::decoding::Decode::decode_symbols) returns it.
+/// [`Decode::decode_symbols`](crate::decoding::Decode::decode_symbols) returns this iterator.
 ///
 /// # Examples
 ///

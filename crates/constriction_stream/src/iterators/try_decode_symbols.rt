@@ -12,7 +12,7 @@ use constriction_words::WordOf;
 
 /// An iterator that decodes one symbol for each model, and returns each error that takes the place of a model.
 ///
-/// [`Decode::try_decode_symbols`](crate::decoding::Decode::try_decode_symbols) returns it.
+/// [`Decode::try_decode_symbols`](crate::decoding::Decode::try_decode_symbols) returns this iterator.
 ///
 /// # Examples
 ///
