@@ -1,4 +1,4 @@
-//! The coder, its parts, and when it is empty.
+//! `AnsCoder`: creating a coder, taking its parts, and testing whether it is empty.
 //!
 //! - [`symbols`]: the two steps, `encode_symbol` and `decode_symbol`.
 //! - [`lists`]: encoding lists of symbols from last to first.
@@ -60,9 +60,9 @@ impl<Word: WordOf<State>, State: BitArray, Backend: Holds<Word, Stack>> Model
 }
 
 impl<Word: WordOf<State>, State: BitArray> AnsCoder<Word, State, Vec<Word>> {
-    /// Creates an empty coder: head 0 and no words.
+    /// Creates an empty coder, with head 0 and no words.
     ///
-    /// The call allocates nothing. The coder takes memory for its words from `alloc` later.
+    /// The call allocates nothing. Later, the coder allocates memory for its words from `alloc`.
     ///
     /// # Examples
     ///
@@ -102,9 +102,9 @@ impl<Word: WordOf<State>, State: BitArray, Backend: Holds<Word, Stack>> AnsCoder
 > {
     /// Returns whether the coder is empty, which means that its head is 0.
     ///
-    /// A new coder is empty, and it is empty again after all symbols encoded onto it are decoded. An empty coder may
-    /// still hold symbols: encoding a symbol whose interval begins at 0 leaves an empty coder empty, and decoding
-    /// returns that symbol.
+    /// A new coder is empty. It is empty again after the caller has decoded all symbols that were encoded onto it. An
+    /// empty coder may still hold symbols: encoding a symbol whose interval begins at 0 leaves an empty coder empty, and
+    /// decoding returns that symbol.
     #[inline]
     pub fn is_empty(&self) -> bool
         ensures { IsTrue result ↔ (self.now.state.head ≡ 0) }
@@ -121,8 +121,8 @@ impl<Word: WordOf<State>, State: BitArray, Backend: Holds<Word, Stack>> AnsCoder
     /// Creates a coder from a backend and a head.
     ///
     /// The head may be any number. If the backend has words and the head is below `2^(State::BITS - Word::BITS)`, the
-    /// state isn't normalized. Decoding from a state that isn't normalized works as usual. But if a symbol is encoded
-    /// onto this state, decoding that symbol need not restore the state.
+    /// state isn't normalized. Decoding works from every state. But if the caller encodes a symbol onto a state that
+    /// isn't normalized, decoding this symbol need not restore the state.
     ///
     /// # Examples
     ///
@@ -174,7 +174,7 @@ impl<Word: WordOf<State>, State: BitArray, Backend: WriteWords<Word>> AnsCoder<
     State,
     Backend,
 > {
-    /// Creates an empty coder over an empty backend: head 0 and no words.
+    /// Creates an empty coder over a backend without words. The head is 0.
     ///
     /// The caller proves that the backend holds no words.
     ///
@@ -203,11 +203,11 @@ impl<Word: WordOf<State>, State: BitArray, Backend: Holds<Word, Stack> + Clone> 
 
     ghost is_infallible = { λ coder. Backend.is_infallible coder.backend };
 
-    /// Clones the coder: the same head over a clone of the backend.
+    /// Clones the coder. The clone has the same head, over a clone of the backend.
     ///
     /// # Errors
     ///
-    /// Returns `AllocError` only if cloning the backend fails.
+    /// Returns `AllocError` if cloning the backend fails.
     fn clone(&self) -> Result<Self, AllocError> {
         let bulk = self.bulk.clone()?;
         Ok(AnsCoder {

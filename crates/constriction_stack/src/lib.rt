@@ -24,8 +24,9 @@
 //! ```
 //!
 //! The modules:
-//! - [`coder`]: the coder, its steps, its words and its positions.
-//! - `steps`: the arithmetic of a step on the head.
+//!
+//! - [`coder`]: the coder, its steps, its words, its positions and its guards.
+//! - `steps`: the arithmetic of encoding and decoding one symbol, on the head.
 //!
 //! Contracts cite the definitions of `specs/Ans.antt`: states, pop and push, the words of a state, and the possible
 //! results of a step over a backend. Contracts describe words and heads as natural numbers. They describe the words

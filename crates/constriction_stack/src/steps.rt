@@ -1,4 +1,4 @@
-//! The arithmetic of a step, on a head and a backend.
+//! The arithmetic of encoding and decoding one symbol, on a head and a backend.
 
 ghost use Rattle.std.specs.Prelude.{◌≡◌, ◌+◌, ◌-◌, ◌*◌, ◌/◌, ◌%◌, ◌^◌, ◌<◌, ◌≤◌, IfSome};
 ghost use Rattle.constriction_base.specs.Steps.{IsStep, IsSizes};
@@ -8,7 +8,7 @@ ghost use Rattle.constriction_stack.specs.Ans.{PushesOnto, RefillsByReads, Refil
 use constriction_base::backends::{Holds, ReadWords, Stack, WriteWords};
 use constriction_words::{BitArray, Reciprocal, WordOf};
 
-/// Returns the head after decoding the symbol with the start `left` and the weight `p`, not yet renormalized.
+/// Returns the head after decoding the symbol of the interval `[left, left + p)`, before renormalization.
 #[inline]
 pub fn popped_head<State: BitArray>(head: State, left: State, p: State, precision: u32) -> State
     requires within { precision < State.BITS }
@@ -47,7 +47,7 @@ pub fn refilled<Word: WordOf<State>, State: BitArray, Backend: ReadWords<Word, S
     Ok(head.shifted_left(Word::BITS).plus(word.widen()))
 }
 
-/// Encodes the symbol with the start `left` and the weight `p` onto `head`, and returns the new head.
+/// Encodes the symbol of the interval `[left, left + p)` onto `head`, and returns the new head.
 ///
 /// If `head` has no room for the symbol, the call first asks the backend for room for one word, and then writes the low
 /// word of `head`.
@@ -88,8 +88,8 @@ pub fn pushed_onto<Word: WordOf<State>, State: BitArray, Backend: WriteWords<Wor
 
 /// Encodes a symbol onto `head`, which has room for the symbol, and returns the new head.
 ///
-/// With a reciprocal, the call computes the new head as `head + left + head / p * (2^precision - p)`. This needs the
-/// quotient but no remainder.
+/// With a reciprocal, the call computes the new head as `head + left + head / p * (2^precision - p)`. This formula
+/// needs the quotient but no remainder.
 #[inline]
 fn pushed<State: BitArray>(
     head: State,

@@ -42,7 +42,7 @@ impl<
 
     ghost fails = { λ _ _. ⊥ };
 
-    /// Turns the coder into a decoder with the same state, over a backend for reading. This never fails.
+    /// Turns the coder into a decoder with the same state, over a backend for reading. The call never fails.
     fn into_decoder(self) -> Result<AnsCoder<Word, State, Backend::IntoReadWords>, Infallible> {
         Ok(self.into_decoder())
     }
@@ -122,7 +122,7 @@ impl<'a, Word: WordOf<State> + 'a, State: BitArray> AnsCoder<
     ///
     /// # Errors
     ///
-    /// Returns `CompressedDataEndsWithZeroWord` exactly if the last word is zero.
+    /// Returns `CompressedDataEndsWithZeroWord` if and only if the last word is zero.
     ///
     /// # Examples
     ///
@@ -182,7 +182,7 @@ impl<Word: WordOf<State>, State: BitArray, Buf: Words<Word> + Drop> AnsCoder<
     ///
     /// # Errors
     ///
-    /// Returns the unchanged buffer, exactly if the first word is zero.
+    /// Returns the unchanged buffer if and only if the first word is zero.
     ///
     /// # Examples
     ///
@@ -216,7 +216,7 @@ impl<Word: WordOf<State>, State: BitArray, Buf: Words<Word> + Drop> AnsCoder<
     /// # Examples
     ///
     /// ```
-    /// // The same state as `from_binary_slice` makes from [5, 0].
+    /// // The same state as `from_binary_slice` creates from [5, 0].
     /// let coder = DefaultAnsCoder::from_reversed_binary([0u32, 5].as_slice());
     /// ```
     pub fn from_reversed_binary(binary: Buf) -> Self
@@ -242,15 +242,15 @@ impl<
 > AnsCoder<Word, State, FallibleIteratorReadWords<Iter>> {
     /// Creates a coder from an iterator over words in the reverse order of [`AnsCoder::into_compressed`].
     ///
-    /// The call takes words into the head until the head is full. Decoding takes the other words when it needs them.
-    /// The caller proves that the iterator's `next` may be called.
+    /// The call reads words into the head until the head is full or the iterator ends. Each decode then reads at most
+    /// one more word. The caller proves that the iterator's `next` may be called.
     ///
     /// # Errors
     ///
-    /// Returns the iterator as the reads left it, in exactly two cases:
+    /// Returns the iterator, with the items that are left, in two cases:
     ///
     /// - The first word is zero.
-    /// - An item that the call took is an `Err`.
+    /// - An item that the call reads is an `Err`.
     ///
     /// # Examples
     ///
@@ -278,12 +278,12 @@ impl<
 
     /// Creates a coder from an iterator over words in the reverse order of [`AnsCoder::into_binary`].
     ///
-    /// Every list of words is allowed. The call takes words into the head until the head is full. Decoding takes the
-    /// other words when it needs them. The caller proves that the iterator's `next` may be called.
+    /// Every list of words is allowed. The call reads words into the head until the head is full or the iterator
+    /// ends. Each decode then reads at most one more word. The caller proves that the iterator's `next` may be called.
     ///
     /// # Errors
     ///
-    /// If an item that the call takes is `Err(error)`, the call returns `error`. The iterator is consumed.
+    /// Returns `error` if an item that the call reads is `Err(error)`. The call consumes the iterator.
     pub fn from_reversed_binary_iter(binary: Iter) -> Result<Self, ReadError>
         requires sizes { IsSizes Word.BITS State.BITS }
         requires can { Iter.can_next binary }
@@ -307,8 +307,8 @@ impl<Word: WordOf<State>, State: BitArray, Backend: IntoReversed<Word>> AnsCoder
     /// Reverses the buffer below the head and keeps the state.
     ///
     /// The call turns a coder over a cursor into a coder over a reversed cursor, or the other way round. In a cursor,
-    /// the words below the head lie before the position, and the last of them is read first. In a reversed cursor, they
-    /// lie from the position on, in reading order.
+    /// the words below the head lie before the position, and the last of these words is read first. In a reversed
+    /// cursor, the words below the head start at the position, in reading order.
     pub fn into_reversed(self) -> AnsCoder<Word, State, Backend::IntoReversed>
         ensures state { result.state ≡ self.state }
         ensures turned { Backend.turns self.backend result.backend }
@@ -409,12 +409,12 @@ impl<Word: WordOf<State>, State: BitArray, Backend: Holds<Word, Stack> + Seek> S
         × (new.state ≡ state_of Word.number Backend.Holds old.state.head new.backend)
         × (new.backend ≡ old.backend → new ≡ old) };
 
-    /// Goes to a recorded position: seeks in the backend, and takes the recorded head.
+    /// Moves to a recorded position: seeks in the backend, and restores the recorded head.
     ///
     /// # Errors
     ///
-    /// Returns `Err(())` if the backend refuses the seek. The head is unchanged. If the backend is unchanged, so is the
-    /// coder.
+    /// Returns `Err(())` if the backend refuses the seek. The head is unchanged. If the refused seek leaves the backend
+    /// unchanged, the coder is unchanged too.
     ///
     /// # Examples
     ///

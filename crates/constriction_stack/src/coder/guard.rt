@@ -26,11 +26,11 @@ use std::fmt;
 
 /// A guard that keeps the words of a coder's head on the coder's backend until the guard is dropped.
 ///
-/// [`AnsCoder::get_compressed`] returns a guard with `SEALED` 0, and has an example. [`AnsCoder::get_binary`] returns a
-/// guard with `SEALED` 1.
+/// [`AnsCoder::get_compressed`] returns a guard with `SEALED` 0. See its documentation for an example.
+/// [`AnsCoder::get_binary`] returns a guard with `SEALED` 1.
 ///
-/// The drop reads back as many words as the guard wrote. It allocates no memory, and stops at the first read that
-/// fails. If a guard is forgotten instead of dropped, the words that it wrote stay on the backend, below the head.
+/// Dropping a guard removes the words that the guard wrote. The drop allocates no memory, and stops at the first read
+/// that fails. If the caller forgets a guard instead of dropping it, the words stay on the backend, below the head.
 pub struct CoderGuard<'a, Word: WordOf<State>, State: BitArray, Backend, const SEALED: usize>
 where
     Backend: WriteWords<Word> + ReadWords<Word, Stack>,
@@ -71,7 +71,7 @@ where
 {
     ghost use Rattle.constriction_stack.specs.Guarded.{lender, lent_back, written};
 
-    /// Removes the words that the guard wrote.
+    /// Removes from the backend the words that the guard wrote, unless a read fails.
     fn drop(self)
         ensures kept { (lent_back self.exit).now.state.head ≡ (lender self.entry).now.state.head }
         ensures back { NeverRefused Backend.reads →
@@ -122,9 +122,9 @@ where
 
     /// Writes the words of the head below its leading 1 to the backend, and returns how many words it wrote.
     ///
-    /// The head is unchanged. Returns `Frontend(())` exactly if the head is 0, or if its bit length minus 1 isn't a
-    /// multiple of `Word::BITS`. If the backend refuses room or a write, the call removes the words that it wrote,
-    /// unless a read fails.
+    /// The head is unchanged. The call returns `Frontend(())` if and only if the head is 0 or its bit length minus 1
+    /// isn't a multiple of `Word::BITS`. If the backend refuses room or a write, the call removes the words that it
+    /// wrote, unless a read fails.
     fn put_binary(&mut self) -> Result<usize, CoderError<(), Backend::WriteError>>
         ensures coder { IsCoder Word.number Backend.Holds Word.BITS State.BITS self.old }
         ensures shows { OnOk result (ShowsBinary Word.BITS self.old.state self.new.state) }
@@ -157,14 +157,14 @@ where
 
     /// Returns a guard that lends the words that [`AnsCoder::into_compressed`] would return.
     ///
-    /// While the guard lives, the backend holds the words below the head and then the words of the head. The head's
-    /// words are written lowest first, without leading zero words. The coder first asks the backend for room for the
-    /// head's words. A head of 0 has no words. Dropping the guard restores the coder, unless a read fails.
+    /// While the guard lives, the backend holds the words below the head and then the words of the head. The coder
+    /// first asks the backend for room for the head's words. It then writes these words, lowest first, without leading
+    /// zero words. A head of 0 has no words. Dropping the guard restores the coder, unless a read fails.
     ///
     /// # Errors
     ///
-    /// Returns the backend's error if the backend has no room for all words of the head, or refuses to write a word.
-    /// The coder then removes the words that it wrote, unless a read fails.
+    /// Returns the backend's error if the backend refuses room for the head's words, or refuses to write a word. The
+    /// coder then removes the words that it wrote, unless a read fails.
     ///
     /// # Examples
     ///
@@ -204,10 +204,10 @@ where
     ///
     /// # Errors
     ///
-    /// - `Frontend(())`: returned exactly if the head is 0, or if its bit length minus 1 isn't a multiple of
+    /// - `Frontend(())`: returned if and only if the head is 0 or its bit length minus 1 isn't a multiple of
     ///   `Word::BITS`. The coder is unchanged.
-    /// - `Backend(error)`: the backend has no room for all words of the head, or refuses to write a word. The coder
-    ///   then removes the words that it wrote, unless a read fails.
+    /// - `Backend(error)`: returned if the backend refuses room for the head's words, or refuses to write a word. The
+    ///   coder then removes the words that it wrote, unless a read fails.
     pub fn get_binary(
         &mut self,
     ) -> Result<CoderGuard<'_, Word, State, Backend, 1>, CoderError<(), Backend::WriteError>>

@@ -68,17 +68,17 @@ impl<
         usize::MAX
     }
 
-    /// Encodes a symbol with a model of `PRECISION` bits.
+    /// Encodes a symbol under a model of `PRECISION` bits.
     ///
     /// `PRECISION` is at most the number of bits of a word. The coder writes at most one word (the renormalization of
     /// rANS). It asks the backend for room for one word only if it has to write a word.
     ///
     /// # Errors
     ///
-    /// - `Frontend(ImpossibleSymbol)`: returned exactly if the symbol is impossible under the model. The coder is
+    /// - `Frontend(ImpossibleSymbol)`: returned if and only if the symbol is impossible under the model. The coder is
     ///   unchanged.
-    /// - `Backend(error)`: returned only if a word had to be written, and the backend refused room for it or refused
-    ///   the write. The head and the words are unchanged.
+    /// - `Backend(error)`: returned only if the coder has to write a word, and the backend refuses room for this word
+    ///   or refuses the write. The head and the words are unchanged.
     #[inline]
     fn encode_symbol<M>(
         &mut self,
@@ -117,7 +117,7 @@ impl<
 
     /// Returns whether the backend may be full.
     ///
-    /// If the call returns `false`, the next encode doesn't fail for lack of room.
+    /// If the call returns `false`, encoding the next symbol doesn't fail for lack of room.
     #[inline]
     fn maybe_full(&self) -> bool
         ensures value { result ≡ Backend.seems_full self.now.backend }
@@ -147,15 +147,15 @@ impl<
 
     ghost is_end_of_data = { λ _. ⊥ };
 
-    /// Decodes a symbol with a model of `PRECISION` bits.
+    /// Decodes a symbol under a model of `PRECISION` bits.
     ///
-    /// `PRECISION` is at most the number of bits of a word. The coder reads at most one word. It never runs out of
-    /// data: an empty coder decodes symbols without end.
+    /// `PRECISION` is at most the number of bits of a word. The coder reads at most one word. The coder never runs out
+    /// of data: an empty coder decodes symbols without end.
     ///
     /// # Errors
     ///
-    /// Returns `Backend(error)` only if a word had to be read and the read returned `error`. The head is unchanged. If
-    /// `Holds::is_list` holds for the backend, as for vectors and cursors, the words are unchanged too.
+    /// Returns `Backend(error)` only if the coder has to read a word and the read returns `error`. The head is
+    /// unchanged. If `Holds::is_list` holds for the backend, as for vectors and cursors, the words are unchanged too.
     #[inline]
     fn decode_symbol<M>(
         &mut self,
@@ -186,7 +186,7 @@ impl<
 
     /// Returns whether the head is 0.
     ///
-    /// The head is 0 after all symbols that were encoded onto an empty coder are decoded.
+    /// The head is 0 after the caller has decoded all symbols that it encoded onto an empty coder.
     #[inline]
     fn maybe_exhausted(&self) -> bool
         ensures value { IsTrue result ↔ (self.now.state.head ≡ 0) }

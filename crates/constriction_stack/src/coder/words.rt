@@ -43,10 +43,10 @@ impl<Word: WordOf<State>, State: BitArray, Backend: ReadWords<Word, Stack>> AnsC
     ///
     /// # Errors
     ///
-    /// Returns the backend as the reads left it, in exactly two cases:
+    /// Returns the backend as the reads left it, in two cases:
     ///
-    /// - The last of the compressed words, which is read first, is zero.
-    /// - A read returned an error.
+    /// - The last word, which the call reads first, is zero.
+    /// - A read returns an error.
     ///
     /// # Examples
     ///
@@ -105,12 +105,12 @@ impl<Word: WordOf<State>, State: BitArray, Backend: WriteWords<Word>> AnsCoder<
     /// Returns the backend, with all words of the coder on it.
     ///
     /// These are the words below the head, then the words of the head, lowest first, without leading zero words. The
-    /// coder first asks the backend for room for the head's words. If the head is 0, the backend is returned unchanged.
+    /// coder first asks the backend for room for the head's words. If the head is 0, the backend is unchanged.
     ///
     /// # Errors
     ///
-    /// Returns the backend's error if the backend has no room for all words of the head, or refuses to write a word.
-    /// The coder is consumed.
+    /// Returns the backend's error if the backend refuses room for the head's words, or refuses to write a word. Every
+    /// error consumes the coder.
     pub fn into_compressed(self) -> Result<Backend, Backend::WriteError>
     where
         Backend: Drop,
@@ -147,7 +147,7 @@ impl<Word: WordOf<State>, State: BitArray, Backend: ReadWords<Word, Stack>> AnsC
     ///
     /// # Errors
     ///
-    /// Returns the error of the read that failed. The backend is consumed.
+    /// Returns the error that the backend returned for a read. The call consumes the backend.
     ///
     /// # Examples
     ///
@@ -190,14 +190,14 @@ impl<Word: WordOf<State>, State: BitArray, Backend: WriteWords<Word>> AnsCoder<
     ///
     /// These are the words below the head, then the head's words below its leading 1, lowest first. Zero words directly
     /// below the leading 1 are included. The coder first asks the backend for room for the head's words. If the head is
-    /// 1, the backend is returned unchanged.
+    /// 1, the backend is unchanged.
     ///
     /// # Errors
     ///
     /// Every error consumes the coder.
     ///
-    /// - `None`: returned exactly if the head is 0, or if its bit length minus 1 isn't a multiple of `Word::BITS`.
-    /// - `Some(error)`: the backend has no room for all words of the head, or refuses to write a word.
+    /// - `None`: returned if and only if the head is 0 or its bit length minus 1 isn't a multiple of `Word::BITS`.
+    /// - `Some(error)`: returned if the backend refuses room for the head's words, or refuses to write a word.
     pub fn into_binary(self) -> Result<Backend, Option<Backend::WriteError>>
     where
         Backend: Drop,
@@ -231,7 +231,7 @@ impl<Word: WordOf<State>, State: BitArray, Backend: BoundedReadWords<Word, Stack
 > {
     /// Returns whether the total number of bits in all words of the coder fits a `usize`.
     ///
-    /// [`AnsCoder::num_words`], [`AnsCoder::num_bits`] and [`AnsCoder::num_valid_bits`] require this.
+    /// [`AnsCoder::num_words`], [`AnsCoder::num_bits`] and [`AnsCoder::num_valid_bits`] require that it fits.
     pub fn sizes_fit(&self) -> bool
         ensures { IsTrue result ↔ SizesFit Word.BITS self.now.state }
     {
@@ -245,7 +245,7 @@ impl<Word: WordOf<State>, State: BitArray, Backend: BoundedReadWords<Word, Stack
     /// Returns the number of words that [`AnsCoder::into_compressed`] returns.
     ///
     /// These are the words below the head, and the words of the head without leading zero words. The caller proves that
-    /// the number of their bits fits a `usize`, as [`AnsCoder::sizes_fit`] tests.
+    /// their total number of bits fits a `usize`, as [`AnsCoder::sizes_fit`] tests.
     pub fn num_words(&self) -> usize
         requires { SizesFit Word.BITS self.now.state }
         ensures { result ≡ length (exported Word.BITS self.now.state) }
@@ -265,9 +265,9 @@ impl<Word: WordOf<State>, State: BitArray, Backend: BoundedReadWords<Word, Stack
 
     /// Returns the number of bits that carry information.
     ///
-    /// These are the bits of the words below the head, and the bits of the head below its leading 1. For an empty
-    /// coder, the number is 0. The caller proves that [`AnsCoder::num_bits`] would fit a `usize`, as
-    /// [`AnsCoder::sizes_fit`] tests.
+    /// These are the bits of the words below the head, and the bits of the head below its leading 1. For a new coder,
+    /// the number is 0. The caller proves that [`AnsCoder::num_bits`] would fit a `usize`, as [`AnsCoder::sizes_fit`]
+    /// tests.
     pub fn num_valid_bits(&self) -> usize
         requires { SizesFit Word.BITS self.now.state }
         ensures { result ≡ valid_bit_count Word.BITS self.now.state }
@@ -339,8 +339,8 @@ impl<Word: WordOf<State>, State: BitArray, Backend: Holds<Word, Stack> + Words<W
     /// Returns an iterator over the backend's words, followed by the words of the head.
     ///
     /// The coder is unchanged. The words of the head come lowest first, without leading zero words. If the backend
-    /// lends its words in the order in which they were written, as vectors and slices do, these are the words that
-    /// [`AnsCoder::into_compressed`] would return.
+    /// lends its words in the order in which they were written, as vectors and slices do, the iterator returns the
+    /// words of [`AnsCoder::into_compressed`].
     pub fn iter_compressed(&self) -> AnsCompressedIter<'_, Word, State>
         ensures words { result ≡ map Word.number (Backend.lent self.now.backend)
             ++ reverse (digits_of (2 ^ Word.BITS) self.now.state.head) }
