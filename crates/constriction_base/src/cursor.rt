@@ -49,7 +49,7 @@ impl<Word: BitArray, Buf: Words<Word> + Drop> Model for Cursor<Word, Buf> {
 }
 
 impl<Word: BitArray, Buf: Words<Word> + Drop> Cursor<Word, Buf> {
-    /// Creates a cursor before the first word. Its stack is empty, and its queue holds all words of the buffer.
+    /// Creates a cursor at the beginning of `buf`. Its stack is empty, and its queue holds all words of `buf`.
     ///
     /// # Examples
     ///
@@ -67,7 +67,7 @@ impl<Word: BitArray, Buf: Words<Word> + Drop> Cursor<Word, Buf> {
         }
     }
 
-    /// Creates a cursor after the last word. Its stack holds all words of the buffer, and its queue is empty.
+    /// Creates a cursor at the end of `buf`. Its stack holds all words of `buf`, and its queue is empty.
     ///
     /// # Examples
     ///

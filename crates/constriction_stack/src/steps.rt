@@ -49,7 +49,7 @@ pub fn refilled<Word: WordOf<State>, State: BitArray, Backend: ReadWords<Word, S
 
 /// Encodes the symbol of the interval `[left, left + p)` onto `head`, and returns the new head.
 ///
-/// If `head` has no room for the symbol, the call first asks the backend for room for one word, and then writes the low
+/// If `head` has no room for the symbol, the call first asks the backend for room for one word. It then writes the low
 /// word of `head`.
 #[inline(always)]
 pub fn pushed_onto<Word: WordOf<State>, State: BitArray, Backend: WriteWords<Word>>(

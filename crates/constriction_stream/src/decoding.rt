@@ -30,7 +30,7 @@ pub trait Decode<const PRECISION: usize>: Code {
     /// The error of a step that the backend refuses.
     type BackendError;
 
-    /// Relates the coder before a step, the step, what the step returns, and the coder after the step.
+    /// Relates the coder before a step, the step, the step's result, and the coder after the step.
     ///
     /// With this relation, an implementor states what its coder does.
     ghost decodes: { Self → Step → Result (Unit {0}) (CoderError Self.FrontendError Self.BackendError)

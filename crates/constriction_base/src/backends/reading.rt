@@ -45,7 +45,7 @@ pub trait ReadWords<Word, S: Semantics>: Holds<Word, S> {
     /// of the iterator's items.
     type ReadError;
 
-    /// Relates the backend before a read, what the read returns, and the backend after the read.
+    /// Relates the backend before a read, the read's result, and the backend after the read.
     ghost reads: { Self → Result (Option Word) Self.ReadError → Self → Type 0 };
 
     /// The value that `maybe_exhausted` returns.

@@ -1,7 +1,7 @@
 //! Positions in a backend or in a coder.
 //!
 //! For vectors and cursors, `can_seek` and `seek_fails` exclude each other: a seek succeeds if and only if `can_seek`
-//! holds, and a refused seek changes nothing. Some coders read words after their backend has sought, or have two
+//! holds, and a refused seek changes nothing. Some coders read words after a seek of their backend, or have two
 //! backends. For these coders, `can_seek` and `seek_fails` may both hold for a position. `stays` states how a refused
 //! seek may change the value.
 

@@ -40,7 +40,7 @@ pub trait WriteWords<Word>: Holds<Word, Stack> {
     /// A vector's error means lack of memory. A cursor's error means lack of room.
     type WriteError;
 
-    /// Relates the backend before a write, the word, what the write returns, and the backend after the write.
+    /// Relates the backend before a write, the word, the write's result, and the backend after the write.
     ///
     /// The relation includes state that `words` and `room` don't capture, such as a cursor's position and a vector's
     /// capacity. Contracts of calls that write several words chain this relation: each write starts from the backend

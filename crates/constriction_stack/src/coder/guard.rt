@@ -26,8 +26,8 @@ use std::fmt;
 
 /// A guard that keeps the words of a coder's head on the coder's backend until the guard is dropped.
 ///
-/// [`AnsCoder::get_compressed`] returns a guard with `SEALED` 0. See its documentation for an example.
-/// [`AnsCoder::get_binary`] returns a guard with `SEALED` 1.
+/// [`AnsCoder::get_compressed`] returns a guard with `SEALED` 0. [`AnsCoder::get_binary`] returns a guard with `SEALED`
+/// 1. See [`AnsCoder::get_compressed`] for an example.
 ///
 /// Dropping a guard removes the words that the guard wrote. The drop allocates no memory, and stops at the first read
 /// that fails. If the caller forgets a guard instead of dropping it, the words stay on the backend, below the head.

@@ -339,8 +339,8 @@ impl<Word: WordOf<State>, State: BitArray, Backend: Holds<Word, Stack> + Words<W
     /// Returns an iterator over the backend's words, followed by the words of the head.
     ///
     /// The coder is unchanged. The words of the head come lowest first, without leading zero words. If the backend
-    /// lends its words in the order in which they were written, as vectors and slices do, the iterator returns the
-    /// words of [`AnsCoder::into_compressed`].
+    /// lends its words in the order in which they were written, the iterator returns the words of
+    /// [`AnsCoder::into_compressed`]. Vectors and slices lend their words in this order.
     pub fn iter_compressed(&self) -> AnsCompressedIter<'_, Word, State>
         ensures words { result ≡ map Word.number (Backend.lent self.now.backend)
             ++ reverse (digits_of (2 ^ Word.BITS) self.now.state.head) }
