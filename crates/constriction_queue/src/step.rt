@@ -55,9 +55,9 @@ pub struct Part<Word, State> {
     pub released: Option<HeldWords<Word>>,
 }
 
-/// Returns the part of an interval that belongs to the symbol with the start `left` and the weight `p`.
+/// Returns a symbol's part of an interval. The symbol has the quantiles `[left, left + p)`.
 ///
-/// The result also has the pending words that no later carry can change (`released`).
+/// The result also contains the pending words that no later carry can change (`released`).
 #[inline(always)]
 pub fn narrowed<Word: WordOf<State>, State: BitArray>(
     lower: State,
@@ -178,7 +178,7 @@ pub fn grow<Word: WordOf<State>, State: BitArray>(
     }
 }
 
-/// Encodes the symbol with the start `left` and the weight `p`, and returns the new interval and pending words.
+/// Encodes the symbol with the quantiles `[left, left + p)`, and returns the new interval and pending words.
 ///
 /// The call writes the words that no later carry can change. It returns the backend's error if the backend refuses room
 /// for these words or refuses a write.
