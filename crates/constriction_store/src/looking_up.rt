@@ -21,7 +21,7 @@ use constriction_words::{BitArray, WordOf};
 use std::alloc::Global;
 use thiserror::Error;
 
-/// The error of a look-up. [`Store::chunk`] has an example.
+/// The reason why a look-up fails. See [`Store::chunk`] for an example.
 #[derive(Debug, Clone, Copy, PartialEq, Eq, Error)]
 pub enum ChunkError {
     /// The store has no chunk with this number.
@@ -35,7 +35,7 @@ pub enum ChunkError {
     Memory,
 }
 
-/// Returns a decoder of `words` that is at the position `place` and in the state `state`.
+/// Returns a decoder of `words` at the position given by `place` (the number of words before it) and `state`.
 fn decoder_at<'a, Word: WordOf<State>, State: BitArray>(
     words: &'a [Word],
     place: usize,
@@ -111,10 +111,10 @@ where
     ///
     /// # Errors
     ///
-    /// - `NoSuchChunk` exactly if `i` is at least the number of chunks.
-    /// - `Invalid` if the words at the chunk's entry encode fewer symbols of the model than the entry states. For a
-    ///   store from [`Store::build`], the call never returns this error.
-    /// - `Memory` if there is no memory for the symbols.
+    /// - `NoSuchChunk`: returned if and only if `i` is at least the number of chunks.
+    /// - `Invalid`: the words at the chunk's entry encode fewer symbols of the model than the entry states. For a store
+    ///   from [`Store::build`], the call never returns this error.
+    /// - `Memory`: there is no memory for the symbols.
     ///
     /// Decoding stops at the first `Invalid` or `Memory`.
     ///
