@@ -155,7 +155,7 @@ impl<Word: WordOf<State>, State: BitArray, Backend: Holds<Word, Stack>> RangeEnc
     /// - The end of the interval is at least `2^State::BITS`.
     /// - The first pending word isn't all ones.
     /// - The length of the interval isn't `2^State::BITS - 1`, the length in an encoder without symbols.
-    /// - The number of pending words is at most `usize::MAX - 17`, so a `usize` also counts the words of a seal.
+    /// - The number of pending words is at most `usize::MAX - 17`, so adding the words of a seal doesn't overflow.
     pub fn parts_fit(state: RangeCoderState<Word, State>, situation: EncoderSituation<Word>) -> bool
         ensures { IsTrue result
             ↔ PartsFit Word.number Word.BITS State.BITS situation (lower_of state) (range_of state) }

@@ -110,7 +110,7 @@ pub fn narrowed<Word: WordOf<State>, State: BitArray>(
     }
 }
 
-/// The result of a renormalization: the interval, its pending words, and the word to be written, if there is one.
+/// The result of a renormalization: the interval, the pending words, and the word to write (`top`), if there is one.
 #[derive(Drop)]
 pub struct Shifted<Word, State> {
     pub lower: State,
@@ -121,7 +121,7 @@ pub struct Shifted<Word, State> {
 
 /// Renormalizes the interval: shifts it by one word if `range` is below `2^(State::BITS - Word::BITS)`.
 ///
-/// The word shifted out of `lower` has to be written (`top`), or it becomes pending.
+/// The word shifted out of `lower` becomes the word to write (`top`) or a pending word.
 #[inline(always)]
 pub fn grow<Word: WordOf<State>, State: BitArray>(
     lower: State,

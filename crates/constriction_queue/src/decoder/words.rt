@@ -130,7 +130,7 @@ impl<Word: WordOf<State>, State: BitArray, Backend: Holds<Word, Queue>> RangeDec
 > {
     /// Creates a decoder from an interval, a point, and a backend that holds the remaining words.
     ///
-    /// The point is the number that the last `State::BITS / Word::BITS` words read form.
+    /// The last `State::BITS / Word::BITS` words read form a number, the point.
     ///
     /// # Errors
     ///

@@ -62,7 +62,7 @@ impl<
 
     ghost never_full = { λ e impossible lack. lack };
 
-    /// Returns how many more symbols the encoder can encode.
+    /// Returns how many more symbols the caller may ask the encoder to encode.
     ///
     /// The number of pending words plus the number of words of a seal has to fit a `usize`. A seal has at most 16
     /// words, and each encode adds at most one pending word.
