@@ -68,7 +68,7 @@ enum Refusal {
     Memory,
 }
 
-/// Encodes the symbols of one chunk under `model`.
+/// Encodes the symbols of one chunk with `model`.
 fn encode_chunk<
     Word: WordOf<State>,
     State: BitArray,
@@ -152,10 +152,10 @@ impl<
 where
     M::Probability: WordOf<Word>,
 {
-    /// Builds a store of `chunks` under `model`.
+    /// Encodes `chunks` with `model`, and builds a store from the words.
     ///
-    /// A range encoder that starts empty encodes the chunks in order. Its seal is self-delimiting, so any words may
-    /// follow the store's words.
+    /// A new range encoder encodes the chunks in order. The seal is self-delimiting, so any words may follow the
+    /// store's words.
     ///
     /// # Errors
     ///

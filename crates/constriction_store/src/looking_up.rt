@@ -35,7 +35,9 @@ pub enum ChunkError {
     Memory,
 }
 
-/// Returns a decoder of `words` at the position given by `place` (the number of words before it) and `state`.
+/// Returns a decoder of `words` that starts at a position.
+///
+/// `place` is the number of words before the position, and `state` is the interval at the position.
 fn decoder_at<'a, Word: WordOf<State>, State: BitArray>(
     words: &'a [Word],
     place: usize,
@@ -58,7 +60,7 @@ fn decoder_at<'a, Word: WordOf<State>, State: BitArray>(
     }
 }
 
-/// Decodes `len` symbols under `model`.
+/// Decodes `len` symbols with `model`.
 fn decode_chunk<
     Word: WordOf<State>,
     State: BitArray,
@@ -106,8 +108,8 @@ where
     /// Decodes the symbols of chunk `i`.
     ///
     /// A decoder of the store's words seeks to the chunk's position, and decodes as many symbols as the chunk's entry
-    /// states. The decoder reads the words of the chunk, the `State::BITS / Word::BITS` words after them, and no other
-    /// words.
+    /// states. The symbols depend only on the words of the chunk, and on the `State::BITS / Word::BITS` words after
+    /// these words.
     ///
     /// # Errors
     ///

@@ -10,7 +10,7 @@ use constriction_queue::RangeCoderState;
 use constriction_words::{BitArray, WordOf};
 use thiserror::Error;
 
-/// The error of [`Store::from_parts`] for a position past the end of the words, or too many symbols in all chunks.
+/// The reason why [`Store::from_parts`] fails: a position is past the end of the words, or there are too many symbols.
 #[derive(Debug, Clone, Copy, PartialEq, Eq, Error)]
 #[error("bad index")]
 pub struct BadIndex;
