@@ -18,7 +18,7 @@ use std::marker::PhantomData;
 /// A quantizer that turns distributions into models of the integers in a range.
 ///
 /// The quantizer cuts a distribution halfway between neighbouring symbols. Every symbol of the range gets a weight
-/// above 0, however unlikely the symbol is. In this sense the quantizer leaks. Symbols outside the range are impossible.
+/// above 0, however unlikely the symbol is. In this sense the quantizer leaks. All other symbols are impossible.
 ///
 /// # Examples
 ///
@@ -97,9 +97,9 @@ impl<Probability: WordOf<u32>, const PRECISION: usize> LeakyQuantizer<Probabilit
 ///
 /// At a precision of `P` bits, each of the `n` symbols gets 1 of the `2^P` quantiles. The symbols share the other
 /// quantiles in proportion to their probabilities, up to rounding. Let `k` be a symbol minus the first symbol of the
-/// range. The interval of the symbol begins at `floor((2^P - n) * F / 2^32) + k`. Here `F` is the
-/// probability below the edge between the symbol and the symbol before it, in units of `2^-32`. For the first symbol,
-/// `F` is 0. The last interval ends at `2^P`, which is the value of the formula for `k = n` and `F = 2^32`.
+/// range. The interval of the symbol begins at `floor((2^P - n) * F / 2^32) + k`. Here `F` is the probability below the
+/// edge between the symbol and the symbol before it, in units of `2^-32`. For the first symbol, `F` is 0. The last
+/// interval ends at `2^P`, which is the value of the formula for `k = n` and `F = 2^32`.
 ///
 /// # Examples
 ///

@@ -1,8 +1,8 @@
 //! `UniformModel`: a model of equally likely symbols.
 //!
 //! Each weight is rounded down, and the last symbol gets the rest. An encode therefore needs no division, and a decode
-//! needs one division. The last symbol's weight exceeds the weight of each other symbol by less than the
-//! number of symbols.
+//! needs one division. The last symbol's weight exceeds the weight of each other symbol by less than the number of
+//! symbols.
 
 ghost use Rattle.std.specs.Prelude.{◌≡◌, ◌+◌, ◌/◌, ◌^◌, ◌<◌, ◌≤◌, ◌↔◌, IfOk, IsErrOf};
 ghost use Rattle.constriction_models.specs.Uniform.{even_start, uniform};

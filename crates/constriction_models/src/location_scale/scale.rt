@@ -16,7 +16,7 @@ use std::marker::PhantomData;
 /// # Examples
 ///
 /// ```
-/// // Standard deviations of 1, 2 and 4, as multiples of 2^-16.
+/// // Standard deviation 1, as a multiple of 2^-16.
 /// if let Some(scale) = Scale::<StandardNormal>::new(65536) {
 ///     // Mean 3.5: the same distribution as `Gaussian::new(229376, 65536)`.
 ///     scale.at(229376).cumulative(229376) // 2147483648, half of 2^32
