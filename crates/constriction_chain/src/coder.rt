@@ -22,7 +22,7 @@ use constriction_words::{BitArray, WordOf};
 use std::alloc::AllocError;
 use std::marker::Model;
 
-/// A coder that decodes each symbol from separate bits of the compressed words, with that symbol's model alone.
+/// A coder that decodes each symbol with its own model, from bits of the compressed words that no other symbol uses.
 ///
 /// A decode takes a quantile from the compressed words. The quantile lies in the interval of the symbol. The decode
 /// moves the offset, which is the quantile minus the interval's start, to the remainders. An encode takes the offset

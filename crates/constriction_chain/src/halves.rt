@@ -17,7 +17,7 @@ use constriction_words::{BitArray, Reciprocal, WordOf};
 
 /// Takes the next quantile off the compressed side. Returns the quantile and the new compressed head.
 ///
-/// `heads` has the compressed head and the remainders head. If the call needs a compressed word, it first asks the
+/// `heads` contains the compressed head and the remainders head. If the call needs a compressed word, it first asks the
 /// remainders for room for one word.
 #[inline(always)]
 pub fn take<Word: WordOf<State>, State: BitArray, C: ReadWords<Word, Stack>, R: WriteWords<Word>>(
@@ -38,8 +38,8 @@ pub fn take<Word: WordOf<State>, State: BitArray, C: ReadWords<Word, Stack>, R: 
 
 /// Moves the offset `quantile - left` into the remainders head `r`, and returns the new remainders head.
 ///
-/// `p` is the length of the quantile's interval. If the head gets above its window, the call writes a word of the head
-/// to `remainders`.
+/// `p` is the length of the quantile's interval. If the head rises above its window, the call writes the lowest word of
+/// the head to `remainders`.
 #[inline(always)]
 pub fn keep<Word: WordOf<State>, State: BitArray, R: WriteWords<Word>>(
     remainders: &mut R,
@@ -89,7 +89,7 @@ fn divided<State: BitArray>(
 
 /// Puts back the quantile that the remainders determine, and returns both new heads.
 ///
-/// The quantile lies in the interval of length `p` from `left` on.
+/// The quantile lies in the interval `[left, left + p)`.
 #[inline(always)]
 fn give_at<Word: WordOf<State>, State: BitArray, C: WriteWords<Word>, R: ReadWords<Word, Stack>>(
     compressed: &mut C,
@@ -130,8 +130,8 @@ fn give_at<Word: WordOf<State>, State: BitArray, C: WriteWords<Word>, R: ReadWor
 
 /// Puts back the quantile that the remainders determine, and returns both new heads.
 ///
-/// The quantile lies in the interval of length `p` from `left` on. The call branches once on whether there is a
-/// reciprocal. One path divides, and the other multiplies by the reciprocal.
+/// The quantile lies in the interval `[left, left + p)`. The call branches once on whether there is a reciprocal. One
+/// path divides, and the other multiplies by the reciprocal.
 #[inline(always)]
 pub fn give<Word: WordOf<State>, State: BitArray, C: WriteWords<Word>, R: ReadWords<Word, Stack>>(
     compressed: &mut C,

@@ -1,9 +1,9 @@
-//! The chain coder: each symbol depends on its own model alone.
+//! The chain coder: the model of one symbol never affects another decoded symbol.
 //!
 //! A [`coder::ChainCoder`] decodes every symbol from bits that no other symbol uses. A decode takes a quantile of
 //! `PRECISION` bits from the compressed words. It looks up the quantile's symbol, and moves the remaining information
 //! to a second stack of words, the remainders. If the model of one symbol changes, that symbol and the remainders may
-//! change, and no other symbol does. Bits-back coding and inference with entropy coders need this property. Encoding is
+//! change, but no other symbol. Bits-back coding and inference with entropy coders need this property. Encoding is
 //! the inverse: it takes the information back from the remainders and restores the bits.
 //!
 //! ```
@@ -23,7 +23,7 @@
 //! - [`coder`]: the coder, its steps, changes of precision, its words and its positions.
 //! - [`heads`]: the two numbers above the coder's words.
 //! - [`errors`]: the errors of the coder's calls.
-//! - `halves`: decoding in two halves, and encoding, on the heads and the backends.
+//! - `halves`: the two halves of a decode, and an encode, on the heads and the backends.
 //! - `steps`: the parts of a step, each on the compressed side or the remainders' side.
 //! - `moves`: moving words between the heads and a backend.
 //!

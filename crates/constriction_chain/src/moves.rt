@@ -23,7 +23,7 @@ pub fn is_below_power<State: BitArray>(r: State, less: u32) -> bool
 
 /// Reads words of `source` into a new remainders head until the head is in its window, and returns the head.
 ///
-/// Returns `None` if the first word is 0, or if there are too few words to reach the window.
+/// The call returns `None` if the first word is 0, or if there are too few words to reach the window.
 pub fn begin_window<Word: WordOf<State>, State: BitArray, B: ReadWords<Word, Stack>>(
     source: &mut B,
     precision: u32,

@@ -106,7 +106,7 @@ pub fn gain<Word: WordOf<State>, State: BitArray, R: WriteWords<Word>>(
 
 /// Returns whether a quantile of `precision` bits makes the compressed head `h` too long.
 ///
-/// A word then has to be written.
+/// In this case, putting the quantile back writes a word to the compressed backend.
 #[inline(always)]
 fn owes_word<Word: BitArray>(h: Word, precision: u32) -> bool
     requires { (1 ≤ precision) × (precision ≤ Word.BITS) }
@@ -172,7 +172,7 @@ pub fn give_quantile<Word: BitArray, C: WriteWords<Word>>(
 
 /// Returns whether the remainders head `r` is too low for an encode with an interval of length `p`.
 ///
-/// The encode then first needs a word of the remainders.
+/// In this case, the encode first reads a word of the remainders.
 #[inline(always)]
 fn is_short<Word: BitArray, State: BitArray>(r: State, p: State, precision: u32) -> bool
     requires { IsSized Word.BITS State.BITS precision }

@@ -34,8 +34,8 @@ pub struct BernoulliModel<Probability: WordOf<u32>, const PRECISION: usize> {
 impl<Probability: WordOf<u32>, const PRECISION: usize> BernoulliModel<Probability, PRECISION> {
     /// Creates the model in which `true` has the weight `weight`, and `false` has the rest of `2 ^ PRECISION`.
     ///
-    /// Returns `None` if either weight would be 0. The caller proves that `PRECISION` is at least 1 and at most
-    /// `Probability::BITS`.
+    /// The call returns `None` if and only if `weight` is 0 or at least `2 ^ PRECISION`. The caller proves that
+    /// `PRECISION` is at least 1 and at most `Probability::BITS`.
     ///
     /// # Examples
     ///

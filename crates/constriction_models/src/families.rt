@@ -80,7 +80,7 @@ pub type FamilyDistribution = OneOf<Gaussian, Laplace, Logistic>;
 impl Family {
     /// Returns the family's distribution with `location` and `scale`, or `None` if `scale` is 0.
     ///
-    /// Both are given in multiples of `2^-16`.
+    /// `location` and `scale` are in units of `2^-16`.
     #[inline]
     pub fn distribution(self, location: i64, scale: u32) -> Option<FamilyDistribution>
         ensures ok { IfSome result

@@ -17,7 +17,7 @@ use crate::location_scale::{LocationScale, StandardDistribution};
 #[derive(Clone, Copy)]
 pub struct StandardNormal;
 
-/// The normal distribution with a mean (the location) and a standard deviation (the scale).
+/// A normal distribution, given by its mean (the location) and its standard deviation (the scale).
 ///
 /// # Examples
 ///

@@ -1,13 +1,13 @@
 //! Functions given by a table of values, and interpolated linearly between the values.
 //!
 //! The division by the scale happens once, in `Scale::new`, which computes the `rate`. The values of the Gaussian are
-//! 1/128 of a standard deviation apart. A distance of 1/32 would cost 2e-6 bits a symbol more.
+//! 1/128 of a standard deviation apart. A distance of 1/32 would cost 2e-6 more bits per symbol.
 
 ghost use Rattle.std.specs.Prelude.{◌≡◌, ◌+◌, ◌-◌, ◌*◌, ◌/◌, ◌<◌, ◌≤◌, length, ℤ, pos, ◌+ℤ◌, ◌-ℤ◌};
 ghost use Rattle.constriction_models.specs.Interpolation.{AreValues, value_at, located};
 ghost use Rattle.constriction_models.specs.laws.Interpolating.{Fits};
 
-/// Returns the value at `place`, which is given in 65536ths of the table's spacing.
+/// Returns the interpolated value at `place`, which is in 65536ths of the table's spacing.
 #[inline(always)]
 fn value_at(values: &[u64], place: u64) -> u64
     requires values { AreValues values.now }
@@ -21,6 +21,8 @@ fn value_at(values: &[u64], place: u64) -> u64
 }
 
 /// Returns how far `place` lies above the first place of a table of width `wide` around `middle`.
+///
+/// The result and all arguments are in units of `2^-16`.
 #[inline(always)]
 fn far_above(wide: u64, middle: i64, place: i64) -> i128
     ensures { result ≡ place -ℤ middle +ℤ pos (wide / 2) }
@@ -48,7 +50,7 @@ pub fn located(values: &[u64], wide: u64, rate: u64, middle: i64, place: i64) ->
     value_at(values, far as u64 * rate / 68719476736)
 }
 
-/// Estimates where the table reaches the value `below`. The result is in 65536ths of the table's spacing.
+/// Estimates where a table reaches `below` (in units of `2^-32`). The result is in 65536ths of the table's spacing.
 #[inline(always)]
 fn place_of(places: &[u32], below: u64) -> u64
     requires { length places.now ≡ 1025 }

@@ -4,7 +4,7 @@ ghost use Rattle.std.specs.Prelude.{◌≡◌, ◌-◌, ◌^◌, ◌<◌};
 
 use constriction_words::{BitArray, WordOf};
 
-/// Returns the start and the length of the interval from `left` to below `end`, as values of type `Probability`.
+/// Returns the start and the length of the interval `[left, end)`, as values of type `Probability`.
 #[inline(always)]
 pub fn interval<Probability: WordOf<u32>>(
     left: u64,

@@ -17,9 +17,9 @@ use crate::location_scale::{LocationScale, StandardDistribution};
 #[derive(Clone, Copy)]
 pub struct StandardLaplace;
 
-/// The Laplace distribution with a location and a scale.
+/// A Laplace distribution, given by its location and its scale.
 ///
-/// Its density is proportional to `exp(-|x - location| / scale)`.
+/// The density at `x` is proportional to `exp(-|x - location| / scale)`.
 ///
 /// # Examples
 ///

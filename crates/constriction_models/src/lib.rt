@@ -1,12 +1,13 @@
 //! Entropy models that are computed in integer arithmetic, so that every machine computes the same table.
 //!
 //! A decoder needs exactly the encoder's table. A table computed in floating point may differ on another machine, and
-//! then the message is lost. All models of this crate are computed in integers, and each is proved to be a table.
+//! the decoder then returns wrong symbols. This crate computes all models in integers, and proves that each model's
+//! intervals partition the quantiles.
 //!
 //! - [`distribution`]: `CumulativeDistribution`, a cumulative distribution function in integers, with the law
 //!   `never_falls`.
 //! - [`quantizer`]: `LeakyQuantizer`, which cuts a distribution function halfway between symbols. It creates two
-//!   models: `LeakilyQuantizedDistribution`, and `IndexedDistribution`, which has symbols of type `usize` from 0 on.
+//!   models: `LeakilyQuantizedDistribution`, and `IndexedDistribution`, whose `usize` symbols are counted from 0.
 //! - [`location_scale`]: `LocationScale`, a standard distribution moved to a location and stretched by a scale;
 //!   `Scale`, which creates a `LocationScale` without a division.
 //! - [`gaussian`], [`laplace`], [`logistic`]: the distributions `Gaussian`, `Laplace` and `Logistic`.
@@ -16,7 +17,7 @@
 //! - [`uniform`], [`bernoulli`]: `UniformModel`, whose symbols have equal weights, and `BernoulliModel`, which has two
 //!   symbols.
 //! - [`counts`]: `weights_of_counts`, which computes weights in proportion to counts.
-//! - [`lookup`]: `ContiguousLookupDecoderModel`, a model with a row for each quantile.
+//! - [`lookup`]: `ContiguousLookupDecoderModel`, which finds a quantile's symbol with one look-up.
 //! - [`errors`]: `SupportError`, the error for too few symbols, or too many for the precision.
 #![tactic(auto)]
 

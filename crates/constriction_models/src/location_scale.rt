@@ -17,8 +17,8 @@ use std::marker::PhantomData;
 /// The table has the values at 2049 evenly spaced places, from half its width below 0 to half its width above 0. Below
 /// the first place, the distribution function is 0. From the last place on, it is `2^32`.
 ///
-/// An implementor proves that `table` returns the values and that `guesses` returns 1025 numbers. It also proves two
-/// laws:
+/// An implementor proves that `table` returns the values and that `guesses` returns 1025 numbers. An implementor also
+/// proves two laws:
 ///
 /// - `are_values`: there are 2049 values, they never fall, and the last is `2^32`.
 /// - `width_law`: the table is at least 1 and at most 64 scales wide.
@@ -42,7 +42,7 @@ pub trait StandardDistribution: Copy {
     fn table() -> &'static [u64]
         ensures { result.now ≡ values };
 
-    /// Returns approximate arguments at which the distribution function reaches 0, 1/1024, 2/1024, .., 1.
+    /// Returns estimates of the places at which the distribution function reaches 0, 1/1024, 2/1024, .., 1.
     ///
     /// Each number is the distance from the first of the 2049 places, in 65536ths of the table's spacing.
     /// Every list of 1025 numbers is allowed. Accurate numbers make decoding fast.
@@ -69,7 +69,7 @@ pub struct LocationScale<D: StandardDistribution> {
     scale: u32,
     /// `2^63 / (D::WIDTH * scale)`, rounded down.
     ///
-    /// A distance in multiples of `2^-16`, times `rate` and divided by `2^36`, is in 65536ths of the table's spacing.
+    /// Multiplying a distance in units of `2^-16` by `rate / 2^36` converts it to 65536ths of the table's spacing.
     rate: u64,
     standard: PhantomData<D>,
     ghost rated: { rate ≡ 9223372036854775808 / D.WIDTH / scale },
@@ -78,8 +78,8 @@ pub struct LocationScale<D: StandardDistribution> {
 impl<D: StandardDistribution> LocationScale<D> {
     /// Creates the distribution with `location` and `scale`, or returns `None` if `scale` is 0.
     ///
-    /// Both are given in multiples of `2^-16`. Each call divides once. If scales repeat, [`Scale::at`] saves the
-    /// division. The type has an example.
+    /// `location` and `scale` are in units of `2^-16`. Each call divides once. If scales repeat, [`Scale::at`] saves
+    /// the division. See the type's documentation for an example.
     #[inline]
     pub fn new(location: i64, scale: u32) -> Option<Self>
         ensures ok { IfSome result
@@ -96,7 +96,7 @@ impl<D: StandardDistribution> Clone for LocationScale<D> {
 
     ghost is_infallible = { λ _. Unit {0} };
 
-    /// Returns the same distribution. This never fails.
+    /// Returns the same distribution. The call never fails.
     fn clone(&self) -> Result<Self, AllocError> {
         Ok(*self)
     }

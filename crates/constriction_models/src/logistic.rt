@@ -17,9 +17,9 @@ use crate::logistic::table::{GUESSES, VALUES};
 #[derive(Clone, Copy)]
 pub struct StandardLogistic;
 
-/// The logistic distribution with a location and a scale.
+/// A logistic distribution, given by its location and its scale.
 ///
-/// Its distribution function is `1 / (1 + exp(-(x - location) / scale))`.
+/// The distribution function at `x` is `1 / (1 + exp(-(x - location) / scale))`.
 ///
 /// # Examples
 ///

@@ -14,7 +14,7 @@ use constriction_words::{BitArray, WordOf};
 use std::alloc::Global;
 use thiserror::Error;
 
-/// The error of building a lookup table from a model.
+/// The reason why a model can't be turned into a lookup table.
 ///
 /// # Examples
 ///
@@ -47,9 +47,9 @@ type Rows<P> = Vec<Row<P, <P as BitArray>::NonZero>>;
 
 /// A model of the symbols `0`, `1`, .. with a row for each quantile, so that one look-up finds a quantile's symbol.
 ///
-/// It has the same table as the model that it is built from. It stores the symbol and the interval of each quantile, in
-/// 6 bytes if probabilities are `u16`, and in 10 bytes if they are `u32`. At a precision of 12 bits, the model takes 24
-/// or 40 KiB.
+/// The lookup model has the same table as the model from which it is built. It stores the symbol and the interval of
+/// each quantile, in 6 bytes if probabilities are `u16`, and in 10 bytes if probabilities are `u32`. At a precision of
+/// 12 bits, the lookup model takes 24 or 40 KiB.
 ///
 /// # Examples
 ///
@@ -72,7 +72,7 @@ pub struct ContiguousLookupDecoderModel<
         symbols.items rows.items (2 ^ PRECISION) },
 }
 
-/// Returns the row of `quantile`, its symbol, and the end of its interval.
+/// Returns the row of `quantile`, and the symbol and the end of the interval that holds `quantile`.
 fn row_at<M: DecoderModel<PRECISION, Symbol = usize>, const PRECISION: usize>(
     model: &M,
     quantile: u32,
@@ -107,7 +107,7 @@ where
     ))
 }
 
-/// Returns the row and the symbol of each quantile of `model`, from quantile 0 on.
+/// Returns the row and the symbol of each quantile of `model`, in ascending order of the quantiles.
 fn rows_of<M: DecoderModel<PRECISION, Symbol = usize>, const PRECISION: usize>(
     alloc: Global,
     model: &M,
@@ -152,7 +152,7 @@ where
 {
     /// Creates the lookup table of a model. The caller proves that the precision is at most 16 bits.
     ///
-    /// The type has an example.
+    /// See the type's documentation for an example.
     ///
     /// # Errors
     ///

@@ -47,8 +47,8 @@ pub enum MixtureError {
 
 /// A mixture of distributions: the weighted mean of their distribution functions.
 ///
-/// At each place, the sum of the weighted distribution functions is divided by the sum of the weights, and rounded down
-/// once. The mixture borrows its components, so a list of components can be refilled for each symbol.
+/// At each place, the mixture divides the sum of the weighted distribution functions by the sum of the weights, and
+/// rounds down once. The mixture borrows its components, so a caller can refill one list of components for each symbol.
 ///
 /// # Examples
 ///
@@ -77,7 +77,7 @@ pub struct Mixture<'a, D: CumulativeDistribution> {
 }
 
 impl<'a, D: CumulativeDistribution> Mixture<'a, D> {
-    /// Creates the mixture of `components`. The type has an example.
+    /// Creates the mixture of `components`. See the type's documentation for an example.
     ///
     /// # Errors
     ///
@@ -161,7 +161,7 @@ impl<'a, D: CumulativeDistribution> Mixture<'a, D> {
         (0, 2147483648)
     }
 
-    /// Returns the sum of the weights of the components that come before component `k`, which lies at `place`.
+    /// Returns the sum of the weights of the components that come before component `k`, whose guess is `place`.
     ///
     /// Component `i` comes before component `k` if `places[i]` is below `place`, or if `places[i]` equals `place` and
     /// `i` is below `k`. Only the first 8 components count.
@@ -194,13 +194,13 @@ impl<'a, D: CumulativeDistribution> CumulativeDistribution for Mixture<'a, D> {
         self.mean(sum)
     }
 
-    /// Returns a place where the distribution function is about `below`, computed from the components' guesses.
+    /// Estimates the place at which the mixture reaches `below`, from the guesses of the components.
     ///
     /// The call follows one of two rules, in which one symbol is a distance of 65536.
     ///
     /// - If the least and the greatest guess lie more than 64 symbols apart, and there are at most 8 components, the
     ///   call assumes that the components don't overlap. The result is a guess of the component in which `below` falls.
-    ///   It is limited to the range from the least to the greatest guess.
+    ///   The call limits the result to the range from the least to the greatest guess.
     /// - Otherwise the result is the weighted mean of the guesses. In this mean, a guess more than 32768 symbols from
     ///   the first component's guess counts as a guess 32768 symbols from it.
     #[inline(always)]

@@ -15,10 +15,10 @@ use constriction_words::{BitArray, WordOf};
 pub use indexed::IndexedDistribution;
 use std::marker::PhantomData;
 
-/// A quantizer that cuts distributions halfway between the neighbouring symbols of a range.
+/// A quantizer that turns distributions into models of the integers in a range.
 ///
-/// Every symbol of the range gets a weight above 0, however unlikely the symbol is. In this sense the quantizer leaks.
-/// Symbols outside the range are impossible.
+/// The quantizer cuts a distribution halfway between neighbouring symbols. Every symbol of the range gets a weight
+/// above 0, however unlikely the symbol is. In this sense the quantizer leaks. All other symbols are impossible.
 ///
 /// # Examples
 ///
@@ -46,7 +46,8 @@ impl<Probability: WordOf<u32>, const PRECISION: usize> LeakyQuantizer<Probabilit
 
     /// Creates the quantizer of the symbols from `min` to `max`, both included.
     ///
-    /// The caller proves that `PRECISION` is at least 1 and at most `Probability::BITS`. The type has an example.
+    /// The caller proves that `PRECISION` is at least 1 and at most `Probability::BITS`. See the type's documentation
+    /// for an example.
     ///
     /// # Errors
     ///
@@ -95,10 +96,10 @@ impl<Probability: WordOf<u32>, const PRECISION: usize> LeakyQuantizer<Probabilit
 /// A distribution cut halfway between symbols: a model in which every symbol of a range has an interval.
 ///
 /// At a precision of `P` bits, each of the `n` symbols gets 1 of the `2^P` quantiles. The symbols share the other
-/// quantiles in proportion to their probabilities, up to rounding. Let `k` be how far a symbol lies above the first
-/// symbol of the range. The interval of the symbol begins at `floor((2^P - n) * F / 2^32) + k`. Here `F` is the
-/// probability below the edge between the symbol and the symbol before it, in units of `2^-32`. For the first symbol,
-/// `F` is 0. The last interval ends at `2^P`, which is the value of the formula for `k = n` and `F = 2^32`.
+/// quantiles in proportion to their probabilities, up to rounding. Let `k` be a symbol minus the first symbol of the
+/// range. The interval of the symbol begins at `floor((2^P - n) * F / 2^32) + k`. Here `F` is the probability below the
+/// edge between the symbol and the symbol before it, in units of `2^-32`. For the first symbol, `F` is 0. The last
+/// interval ends at `2^P`, which is the value of the formula for `k = n` and `F = 2^32`.
 ///
 /// # Examples
 ///
@@ -173,9 +174,9 @@ impl<
         (self.quantizer.min as i64 + k as i64) as i32
     }
 
-    /// Returns a guess of how far the symbol at `quantile` lies above the first symbol of the range.
+    /// Estimates how far the symbol at `quantile` lies above the first symbol of the range.
     ///
-    /// The guess may be wrong, and may lie above the last symbol.
+    /// The estimate may be wrong, and may lie above the last symbol.
     #[inline(always)]
     fn near(&self, quantile: u64) -> u64
         requires { quantile < 2 ^ PRECISION }
@@ -193,7 +194,7 @@ impl<
         symbol as u64
     }
 
-    /// Returns how far `symbol` lies above the first symbol of the range, or `None` if it isn't in the range.
+    /// Returns how far `symbol` lies above the first symbol of the range, or `None` if `symbol` isn't in the range.
     #[inline(always)]
     fn place(&self, symbol: i32) -> Option<u64>
         ensures { MatchOption result
@@ -283,7 +284,7 @@ impl<D: CumulativeDistribution, Probability: WordOf<u32>, const PRECISION: usize
     }
 }
 
-/// Returns `wanted` if it lies strictly between `low` and `high`, and otherwise their mean, rounded down.
+/// Returns `wanted` if it lies strictly between `low` and `high`, and otherwise the mean of both, rounded down.
 #[inline(always)]
 fn between(low: u64, high: u64, wanted: u64) -> u64
     requires { low + 1 < high }

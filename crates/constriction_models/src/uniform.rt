@@ -1,8 +1,8 @@
 //! `UniformModel`: a model of equally likely symbols.
 //!
-//! Each weight is rounded down, and the last symbol gets the rest. An encode therefore takes a product and no division,
-//! and a decode takes one division. The last symbol's weight exceeds the weight of each other symbol by less than the
-//! number of symbols.
+//! Each weight is rounded down, and the last symbol gets the rest. An encode therefore needs no division, and a decode
+//! needs one division. The last symbol's weight exceeds the weight of each other symbol by less than the number of
+//! symbols.
 
 ghost use Rattle.std.specs.Prelude.{◌≡◌, ◌+◌, ◌/◌, ◌^◌, ◌<◌, ◌≤◌, ◌↔◌, IfOk, IsErrOf};
 ghost use Rattle.constriction_models.specs.Uniform.{even_start, uniform};
@@ -14,9 +14,9 @@ use constriction_base::model::{DecoderModel, EncoderModel, EntropyModel};
 use constriction_words::{BitArray, WordOf};
 use std::marker::PhantomData;
 
-/// A model of the symbols `0`, `1`, .. with equal weights: each weight is `2 ^ PRECISION / count`, rounded down.
+/// A model of `count` symbols `0`, `1`, .. with equal weights: each weight is `2 ^ PRECISION / count`, rounded down.
 ///
-/// The last symbol also gets the remainder.
+/// The weight of the last symbol also includes the remainder.
 ///
 /// # Examples
 ///
@@ -40,7 +40,8 @@ pub struct UniformModel<Probability: WordOf<u32>, const PRECISION: usize> {
 impl<Probability: WordOf<u32>, const PRECISION: usize> UniformModel<Probability, PRECISION> {
     /// Creates the model of the symbols below `count`.
     ///
-    /// The caller proves that `PRECISION` is at least 1 and at most `Probability::BITS`. The type has an example.
+    /// The caller proves that `PRECISION` is at least 1 and at most `Probability::BITS`. See the type's documentation
+    /// for an example.
     ///
     /// # Errors
     ///

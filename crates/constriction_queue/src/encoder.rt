@@ -37,11 +37,11 @@ use std::marker::Model;
 /// The width of `State` is a whole number of words, at least two. Each symbol narrows the interval, and the encoder
 /// writes the words that all numbers of the interval have in common. An interval that passes the greatest number of
 /// `State` continues at 0. Then a later symbol may still add 1 to the next words to be written (a carry), so the
-/// encoder keeps them pending.
+/// encoder keeps these words pending.
 ///
 /// Contracts describe an encoder by an `Encoder`: the backend, the words written and pending, and the interval. The run
-/// of an encoder (`run_by`) replaces the interval's lower end by a whole number that grows by a word at each move. A
-/// run has no pending words and no carries.
+/// of an encoder (`run_by`) replaces the interval's lower end by a whole number, which each renormalization makes one
+/// word longer. A run has no pending words and no carries.
 ///
 /// # Examples
 ///
@@ -85,9 +85,9 @@ impl<Word: WordOf<State>, State: BitArray, Backend: Holds<Word, Stack>> Model
 }
 
 impl<Word: WordOf<State>, State: BitArray> RangeEncoder<Word, State, Vec<Word>> {
-    /// Creates an encoder without symbols.
+    /// Creates an empty encoder.
     ///
-    /// The call allocates nothing. The encoder takes memory for its words from `alloc` later.
+    /// The call allocates no memory. The encoder allocates memory from `alloc` when it writes words.
     #[inline]
     pub fn new(alloc: Global) -> Self
         requires { IsSizes Word.BITS State.BITS }
@@ -100,11 +100,11 @@ impl<Word: WordOf<State>, State: BitArray> RangeEncoder<Word, State, Vec<Word>> 
 }
 
 impl<Word: WordOf<State>, State: BitArray, A: Allocator> RangeEncoder<Word, State, Vec<Word, A>> {
-    /// Removes all symbols and pending words, and keeps the allocated memory.
+    /// Removes all symbols, written words and pending words, and keeps the allocated memory.
     ///
-    /// Pending words have to go too, because they would spoil the next export. For example, take 8-bit words and the
-    /// weights 127, 1, 127, 1. Encoding symbol 1 leaves the word 126 pending. After `clear`, an encoder that
-    /// encodes symbol 0 exports `[0]`. If the word 126 stayed pending, it would export `[126, 0]`.
+    /// The call removes the pending words too, because they would corrupt the next export. For example, take 8-bit
+    /// words and the weights 127, 1, 127, 1. Encoding symbol 1 leaves the word 126 pending. After `clear`, an encoder
+    /// that encodes symbol 0 exports `[0]`. If the word 126 stayed pending, the encoder would export `[126, 0]`.
     pub fn clear(&mut self)
         ensures run { run_by Word.BITS State.BITS self.new ≡ initial State.BITS }
         ensures held { self.new.held ≡ [] }
@@ -121,10 +121,10 @@ impl<Word: WordOf<State>, State: BitArray, Backend: Holds<Word, Stack>> RangeEnc
     State,
     Backend,
 > {
-    /// Creates an encoder without symbols that writes after the words of a backend.
+    /// Creates an encoder that writes after the words of a backend.
     ///
-    /// The backend's words stay before the encoder's own words. If the backend holds no words, the encoder starts in
-    /// the same state as an encoder that [`RangeEncoder::new`] creates.
+    /// The backend's words stay before the words that the encoder writes. If the backend holds no words, the encoder
+    /// starts in the same state as an encoder that [`RangeEncoder::new`] creates.
     ///
     /// # Examples
     ///
@@ -148,14 +148,14 @@ impl<Word: WordOf<State>, State: BitArray, Backend: Holds<Word, Stack>> RangeEnc
 
     /// Returns whether an interval and pending words fit together, as [`RangeEncoder::from_raw_parts`] requires.
     ///
-    /// The situation states the pending words. If no words are pending, the parts fit exactly if the end of the
-    /// interval, which is its lower end plus its length, is below `2^State::BITS`. If words are pending, the parts fit
-    /// exactly if all of these conditions hold:
+    /// `situation` describes the pending words. The end of the interval is its lower end plus its length. If no words
+    /// are pending, the parts fit if and only if the end is below `2^State::BITS`. If words are pending, the parts fit
+    /// if and only if all of these conditions hold:
     ///
     /// - The end of the interval is at least `2^State::BITS`.
     /// - The first pending word isn't all ones.
     /// - The length of the interval isn't `2^State::BITS - 1`, the length in an encoder without symbols.
-    /// - The number of pending words is at most `usize::MAX - 17`, so a `usize` also counts the words of a seal.
+    /// - The number of pending words is at most `usize::MAX - 17`, so adding the words of a seal doesn't overflow.
     pub fn parts_fit(state: RangeCoderState<Word, State>, situation: EncoderSituation<Word>) -> bool
         ensures { IsTrue result
             ↔ PartsFit Word.number Word.BITS State.BITS situation (lower_of state) (range_of state) }

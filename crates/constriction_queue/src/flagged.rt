@@ -37,8 +37,8 @@ use std::marker::Model;
 
 /// A decoder that uses a model of `P1` bits up to and including a flag symbol, and a model of `P2` bits after it.
 ///
-/// The module has an example. Contracts describe a `FlagSwitch` by a `Switch`: the decoder, the flag, and whether the
-/// flag was decoded.
+/// See the module's documentation for an example. Contracts describe a `FlagSwitch` by a `Switch`: the decoder, the
+/// flag, and whether the flag was decoded.
 #[derive(Debug, Drop)]
 pub struct FlagSwitch<
     Word: WordOf<State>,
@@ -86,7 +86,7 @@ impl<
         }
     }
 
-    /// Returns whether the flag was decoded.
+    /// Returns whether the switch has decoded the flag.
     pub fn switched(&self) -> bool
         ensures { result ≡ self.now.switched }
     {
@@ -115,13 +115,13 @@ impl<
 > FlagSwitch<Word, State, Backend, P1, P2> {
     /// Decodes the next symbol, with `first` up to and including the flag, and with `second` after it.
     ///
-    /// The flag itself is returned as a symbol.
+    /// The call returns the flag like any other symbol.
     ///
     /// # Errors
     ///
-    /// - `Frontend(InvalidData)`: returned exactly if the words don't encode a symbol of any model with the precision
-    ///   in use: `P1` bits up to and including the flag, and `P2` bits after it. The switch is unchanged.
-    /// - `Backend(error)`: returned only if a word had to be read and the read returned `error`. The result of
+    /// - `Frontend(InvalidData)`: returned if and only if the words don't encode a symbol of any model with the
+    ///   precision in use: `P1` bits up to and including the flag, and `P2` bits after it. The switch is unchanged.
+    /// - `Backend(error)`: returned only if the decoder had to read a word and the read returned `error`. The result of
     ///   `switched` is unchanged. The decoder is in the state in which the failed `decode_symbol` left it.
     pub fn next_symbol<M1, M2>(
         &mut self,
@@ -162,8 +162,8 @@ impl<
 ///
 /// # Errors
 ///
-/// Returns the error of the first `encode_symbol` that fails. Exactly the symbols before the refused symbol are
-/// encoded.
+/// Returns the error of the first `encode_symbol` that fails. The symbols before the refused symbol are encoded, and no
+/// other symbols.
 pub fn encode_flagged<
     Word: WordOf<State>,
     State: BitArray,

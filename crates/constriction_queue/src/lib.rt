@@ -25,13 +25,13 @@
 //! - [`as_written`]: backends that lend their words in the order in which they were written.
 //! - [`state`], [`situation`]: the interval and the pending words.
 //! - `step`, `seal`: the arithmetic of a step and of a seal.
-//! - `reading`: reading words, and the quantile that they stand for.
+//! - `reading`: reading words, and computing a quantile from the words read.
 //! - `writing`: writing words to a backend.
 //!
 //! Contracts cite the definitions of `specs/Range.antt` (runs, seals and reading) and of `specs/Calls.antt` (the
 //! possible results of a call over a backend). A run describes an encoder's interval by a range and an unbounded lower
-//! end. It has no pending words and no carries. `specs/Encoder.antt` and `specs/Decoder.antt` relate coders to runs.
-//! `specs/Flagged.antt` states which of two models each symbol has.
+//! end. A run has no pending words and no carries. `specs/Encoder.antt` and `specs/Decoder.antt` relate coders to runs.
+//! `specs/Flagged.antt` states which of two models encodes each symbol.
 #![tactic(auto)]
 
 pub mod as_written;

@@ -34,7 +34,7 @@ impl<Word> Default for EncoderSituation<Word> {
     }
 }
 
-/// Words that are ready to be written.
+/// Words that no later carry can change, so the encoder can write them.
 ///
 /// `count` is the number of words, and `first` is the first word. Each other word equals `others`.
 #[derive(Drop, Debug, Clone, Copy)]

@@ -57,7 +57,7 @@ impl<Word: WordOf<State>, State: BitArray> Default for RangeCoderState<Word, Sta
 
     ghost is_default = { λ state. (lower_of state ≡ 0) × (range_of state + 1 ≡ 2 ^ State.BITS) };
 
-    /// Returns the interval before the first symbol: all numbers but the greatest.
+    /// Returns the interval of a new coder: all numbers of `State` but the greatest.
     fn default() -> Self {
         RangeCoderState::start()
     }
@@ -66,13 +66,13 @@ impl<Word: WordOf<State>, State: BitArray> Default for RangeCoderState<Word, Sta
 impl<Word: WordOf<State>, State: BitArray> RangeCoderState<Word, State> {
     ghost use Rattle.constriction_queue.specs.States.{lower_of, range_of};
 
-    /// Creates the interval of `range` numbers from `lower` on.
+    /// Creates the interval `[lower, lower + range)`.
     ///
     /// Any `lower` is allowed. An interval that passes the greatest number of `State` continues at 0.
     ///
     /// # Errors
     ///
-    /// Returns `Err(())` exactly if `range` is below `2^(State::BITS - Word::BITS)`.
+    /// Returns `Err(())` if and only if `range` is below `2^(State::BITS - Word::BITS)`.
     pub fn new(lower: State, range: State) -> Result<Self, ()>
         ensures variant { IsOk result ↔ (2 ^ (State.BITS - Word.BITS) ≤ State.number range) }
         ensures lower { IfOk result (λ state. lower_of state ≡ State.number lower) }
@@ -88,7 +88,7 @@ impl<Word: WordOf<State>, State: BitArray> RangeCoderState<Word, State> {
         })
     }
 
-    /// Creates the interval of `range` numbers from `lower` on.
+    /// Creates the interval `[lower, lower + range)`.
     ///
     /// The caller proves that `range` is at least `2^(State::BITS - Word::BITS)`.
     #[inline]
@@ -104,7 +104,7 @@ impl<Word: WordOf<State>, State: BitArray> RangeCoderState<Word, State> {
         }
     }
 
-    /// Returns the interval of all numbers but the greatest.
+    /// Returns the interval of a new coder: all numbers of `State` but the greatest.
     #[inline]
     pub(crate) fn start() -> Self
         ensures lower { lower_of result ≡ 0 }

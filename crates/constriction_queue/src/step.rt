@@ -55,9 +55,9 @@ pub struct Part<Word, State> {
     pub released: Option<HeldWords<Word>>,
 }
 
-/// Returns the part of an interval that belongs to the symbol with the start `left` and the weight `p`.
+/// Returns a symbol's part of an interval. The symbol has the quantiles `[left, left + p)`.
 ///
-/// The result also has the pending words that no later carry can change (`released`).
+/// The result also contains the pending words that no later carry can change (`released`).
 #[inline(always)]
 pub fn narrowed<Word: WordOf<State>, State: BitArray>(
     lower: State,
@@ -110,7 +110,7 @@ pub fn narrowed<Word: WordOf<State>, State: BitArray>(
     }
 }
 
-/// The result of a renormalization: the interval, its pending words, and the word to be written, if there is one.
+/// The result of a renormalization: the interval, the pending words, and the word to write (`top`), if there is one.
 #[derive(Drop)]
 pub struct Shifted<Word, State> {
     pub lower: State,
@@ -121,7 +121,7 @@ pub struct Shifted<Word, State> {
 
 /// Renormalizes the interval: shifts it by one word if `range` is below `2^(State::BITS - Word::BITS)`.
 ///
-/// The word shifted out of `lower` has to be written (`top`), or it becomes pending.
+/// The word shifted out of `lower` becomes the word to write (`top`) or a pending word.
 #[inline(always)]
 pub fn grow<Word: WordOf<State>, State: BitArray>(
     lower: State,
@@ -178,7 +178,7 @@ pub fn grow<Word: WordOf<State>, State: BitArray>(
     }
 }
 
-/// Encodes the symbol with the start `left` and the weight `p`, and returns the new interval and pending words.
+/// Encodes the symbol with the quantiles `[left, left + p)`, and returns the new interval and pending words.
 ///
 /// The call writes the words that no later carry can change. It returns the backend's error if the backend refuses room
 /// for these words or refuses a write.

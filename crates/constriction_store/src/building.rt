@@ -25,7 +25,7 @@ use thiserror::Error;
 /// # Examples
 ///
 /// ```
-/// // under a table of two weights, symbols are 0 and 1
+/// // `table` has two weights, so the symbols are 0 and 1
 /// let chunks = [&[1, 0], &[2]]; // as a list of `Vec<usize>`
 /// Store::<u32, u64, _, 24>::build(alloc, chunks, table); // Err(ImpossibleSymbol { chunk: 1, index: 0 })
 /// ```
@@ -68,7 +68,7 @@ enum Refusal {
     Memory,
 }
 
-/// Encodes the symbols of one chunk under `model`.
+/// Encodes the symbols of one chunk with `model`.
 fn encode_chunk<
     Word: WordOf<State>,
     State: BitArray,
@@ -152,18 +152,18 @@ impl<
 where
     M::Probability: WordOf<Word>,
 {
-    /// Builds a store of `chunks` under `model`.
+    /// Encodes `chunks` with `model`, and builds a store from the words.
     ///
-    /// A range encoder that starts empty encodes the chunks in order. Its seal is self-delimiting, so any words may
-    /// follow the store's words.
+    /// A new range encoder encodes the chunks in order. The seal is self-delimiting, so any words may follow the
+    /// store's words.
     ///
     /// # Errors
     ///
-    /// - `TooLong` exactly if all chunks together have more than [`MOST_SYMBOLS`] symbols. The call checks this before
-    ///   it encodes a symbol.
-    /// - `ImpossibleSymbol` if the model has no entry for a symbol. The error's fields locate the first impossible
+    /// - `TooLong`: returned if and only if all chunks together have more than [`MOST_SYMBOLS`] symbols. The call
+    ///   counts the symbols before it encodes any.
+    /// - `ImpossibleSymbol`: the model has no entry for a symbol. The error's fields locate the first impossible
     ///   symbol.
-    /// - `Memory` if there is no memory for the words or the index.
+    /// - `Memory`: there is no memory for the words or the index.
     ///
     /// Encoding stops at the first `ImpossibleSymbol` or `Memory`. For an empty list of chunks, the call returns no
     /// error.

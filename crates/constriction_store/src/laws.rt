@@ -29,8 +29,8 @@ pub fn one_chunk_at_entry()
 
 /// A look-up depends only on the words of its chunk, and on the `s / w` words after them.
 ///
-/// If the list `others` has the same words at these positions, decoding `others` from the chunk's entry returns the
-/// same symbols.
+/// Here a word has `w` bits, and a state has `s` bits. If the list `others` has the same words at these positions,
+/// decoding `others` from the chunk's entry returns the same symbols.
 pub fn other_words_are_not_read()
     ensures { (w s : ℕ) (model : Model ℕ) (words others : List ℕ) (entry : Entry) (symbols : List ℕ) (last : Run) →
         IsSizes w s → AreWords w words → AreWords w others →
@@ -39,10 +39,10 @@ pub fn other_words_are_not_read()
         FindsAt w s others model entry symbols last }
 {}
 
-/// Looks up the chunks whose numbers `places` lists, and returns these chunks in the order of `places`.
+/// Looks up the chunks with the numbers in `places`, and returns the chunks in the order of `places`.
 ///
 /// Each returned chunk is the list of symbols that the store's words encode at the entry with the chunk's number. For a
-/// store from [`Store::build`], it equals the chunk with the same number in the argument of `build`.
+/// store from [`Store::build`], each returned chunk equals the chunk with the same number in the argument of `build`.
 ///
 /// # Errors
 ///
@@ -89,10 +89,10 @@ pub enum ThroughStore {
     LookUp(ChunkError),
 }
 
-/// Builds a store of `chunks`, and looks up the chunks whose numbers `places` lists.
+/// Builds a store of `chunks`, and looks up the chunks with the numbers in `places`.
 ///
-/// `places` may list the numbers in any order. Returns the store and the chunks looked up, in the order of `places`.
-/// Each chunk looked up equals the chunk of `chunks` with the same number.
+/// `places` may list the numbers in any order. The call returns the store, and the chunks looked up in the order of
+/// `places`. Each chunk looked up equals the chunk of `chunks` with the same number.
 ///
 /// # Errors
 ///
@@ -131,9 +131,9 @@ where
 
 /// Builds a store, takes it apart, and looks up chunks in a store built from the parts.
 ///
-/// Calls `build`, `into_parts` and `from_parts`, then calls `chunk` for each number in `places`. Returns the store
-/// built from the parts, and the chunks looked up, in the order of `places`. Each chunk looked up equals the chunk of
-/// `chunks` with the same number.
+/// The function calls `build`, `into_parts` and `from_parts`, and then `chunk` for each number in `places`. It returns
+/// the store built from the parts, and the chunks looked up in the order of `places`. Each chunk looked up equals the
+/// chunk of `chunks` with the same number.
 ///
 /// # Errors
 ///

@@ -28,10 +28,10 @@ use std::marker::Model;
 /// The largest number of symbols that a store can hold, in all chunks together.
 pub const MOST_SYMBOLS: usize = 1048576;
 
-/// Chunks of symbols under one model: the words of a range encoder, and an index of where each chunk begins.
+/// Encoded chunks of symbols: the words of a range encoder, an index of where each chunk begins, and the model.
 ///
 /// The width of `State` is a whole number of words, at least two. Contracts describe a store by a `Stored`: the values
-/// of its words, the entries of its index, and its model. [`Store::build`] and [`Store::chunk`] have examples.
+/// of its words, the entries of its index, and its model. See [`Store::build`] and [`Store::chunk`] for examples.
 #[derive(Drop)]
 pub struct Store<
     Word: WordOf<State>,
@@ -92,7 +92,7 @@ impl<
         self.index.len()
     }
 
-    /// Returns the words of all chunks.
+    /// Returns the words that encode all chunks.
     pub fn words(&self) -> &[Word]
         ensures { map Word.number result.now ≡ self.now.words }
     {

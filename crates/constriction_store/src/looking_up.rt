@@ -21,7 +21,7 @@ use constriction_words::{BitArray, WordOf};
 use std::alloc::Global;
 use thiserror::Error;
 
-/// The error of a look-up. [`Store::chunk`] has an example.
+/// The reason why a look-up fails. See [`Store::chunk`] for an example.
 #[derive(Debug, Clone, Copy, PartialEq, Eq, Error)]
 pub enum ChunkError {
     /// The store has no chunk with this number.
@@ -35,7 +35,9 @@ pub enum ChunkError {
     Memory,
 }
 
-/// Returns a decoder of `words` that is at the position `place` and in the state `state`.
+/// Returns a decoder of `words` that starts at a position.
+///
+/// `place` is the number of words before the position, and `state` is the interval at the position.
 fn decoder_at<'a, Word: WordOf<State>, State: BitArray>(
     words: &'a [Word],
     place: usize,
@@ -58,7 +60,7 @@ fn decoder_at<'a, Word: WordOf<State>, State: BitArray>(
     }
 }
 
-/// Decodes `len` symbols under `model`.
+/// Decodes `len` symbols with `model`.
 fn decode_chunk<
     Word: WordOf<State>,
     State: BitArray,
@@ -106,15 +108,15 @@ where
     /// Decodes the symbols of chunk `i`.
     ///
     /// A decoder of the store's words seeks to the chunk's position, and decodes as many symbols as the chunk's entry
-    /// states. The decoder reads the words of the chunk, the `State::BITS / Word::BITS` words after them, and no other
-    /// words.
+    /// states. The symbols depend only on the words of the chunk, and on the `State::BITS / Word::BITS` words after
+    /// these words.
     ///
     /// # Errors
     ///
-    /// - `NoSuchChunk` exactly if `i` is at least the number of chunks.
-    /// - `Invalid` if the words at the chunk's entry encode fewer symbols of the model than the entry states. For a
-    ///   store from [`Store::build`], the call never returns this error.
-    /// - `Memory` if there is no memory for the symbols.
+    /// - `NoSuchChunk`: returned if and only if `i` is at least the number of chunks.
+    /// - `Invalid`: the words at the chunk's entry encode fewer symbols of the model than the entry states. For a store
+    ///   from [`Store::build`], the call never returns this error.
+    /// - `Memory`: there is no memory for the symbols.
     ///
     /// Decoding stops at the first `Invalid` or `Memory`.
     ///

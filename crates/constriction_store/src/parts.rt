@@ -10,14 +10,14 @@ use constriction_queue::RangeCoderState;
 use constriction_words::{BitArray, WordOf};
 use thiserror::Error;
 
-/// The error of [`Store::from_parts`] for a position past the end of the words, or too many symbols in all chunks.
+/// The reason why [`Store::from_parts`] fails: a position is past the end of the words, or there are too many symbols.
 #[derive(Debug, Clone, Copy, PartialEq, Eq, Error)]
 #[error("bad index")]
 pub struct BadIndex;
 
-/// Returns whether no position in `index` is above `count`, and the total of symbols is at most [`MOST_SYMBOLS`].
+/// Returns whether the positions and the total number of symbols in `index` are within their limits.
 ///
-/// `count` is the number of words.
+/// Each position is at most `count`, the number of words. All chunks together have at most [`MOST_SYMBOLS`] symbols.
 fn index_fits<Word: WordOf<State>, State: BitArray>(
     count: usize,
     index: &[(usize, RangeCoderState<Word, State>, usize)],
@@ -40,14 +40,14 @@ impl<
     M: EncoderModel<PRECISION, Symbol = usize> + DecoderModel<PRECISION, Symbol = usize>,
     const PRECISION: usize,
 > Store<Word, State, M, PRECISION> {
-    /// Builds a store from words, an index and a model. The call needs no memory.
+    /// Builds a store from words, an index and a model. The call allocates no memory.
     ///
     /// The parts may come from [`Store::into_parts`], or from anywhere else.
     ///
     /// # Errors
     ///
-    /// Returns `BadIndex` exactly if an entry's position is past the end of `words`, or all chunks together have more
-    /// than [`MOST_SYMBOLS`] symbols.
+    /// Returns `BadIndex` if and only if an entry's position is past the end of `words`, or all chunks together have
+    /// more than [`MOST_SYMBOLS`] symbols.
     ///
     /// # Examples
     ///

@@ -23,8 +23,8 @@ impl<
     ///
     /// # Errors
     ///
-    /// Returns the error of the first symbol that fails, counted from the end of the list. The coder has encoded
-    /// exactly the symbols after the failing symbol in the list. The call takes no further item from
+    /// Returns the error of the first symbol that fails, counted from the end of the list. The coder has encoded the
+    /// symbols after the failing symbol in the list, and no other symbols. The call takes no further item from
     /// `symbols_and_models`.
     pub fn encode_symbols_reverse<S, M, I>(
         &mut self,
@@ -50,11 +50,11 @@ impl<
     ///
     /// # Errors
     ///
-    /// The call stops at the first failing item, counted from the end of the list. The coder has encoded exactly the
-    /// symbols after that item in the list.
+    /// The call stops at the first failing item, counted from the end of the list. The coder has encoded the symbols
+    /// after that item in the list, and no other symbols.
     ///
-    /// - `InvalidEntropyModel(error)` if the item is `Err(error)`.
-    /// - `CodingError(error)` if encoding the item's symbol fails with this error.
+    /// - `InvalidEntropyModel(error)`: the item is `Err(error)`.
+    /// - `CodingError(error)`: encoding the item's symbol returned `error`.
     pub fn try_encode_symbols_reverse<S, M, E, I>(
         &mut self,
         symbols_and_models: I,
@@ -81,8 +81,9 @@ impl<
     ///
     /// # Errors
     ///
-    /// Returns the error of the first symbol that fails, counted from the end of the list. The coder has encoded
-    /// exactly the symbols after the failing symbol in the list. The call takes no further item from `symbols`.
+    /// Returns the error of the first symbol that fails, counted from the end of the list. The coder has encoded the
+    /// symbols after the failing symbol in the list, and no other symbols. The call takes no further item from
+    /// `symbols`.
     ///
     /// # Examples
     ///

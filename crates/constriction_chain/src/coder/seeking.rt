@@ -47,7 +47,7 @@ impl<
 
     /// Returns the backends' positions and the heads.
     ///
-    /// The caller proves that `can_tell` holds for both backends. It always holds for vectors and cursors.
+    /// The caller proves that both backends can return their positions (`can_tell`). Vectors and cursors always can.
     fn pos(
         &self,
     ) -> (
@@ -87,7 +87,7 @@ impl<
         ⊎ (C.sought old.compressed position.0.compressed new.compressed
         × R.stays old.remainders position.0.remainders new.remainders)) };
 
-    /// Goes to a recorded position. The compressed backend seeks first, and the remainders' backend seeks second.
+    /// Moves the coder to a recorded position. The compressed backend seeks first, and then the remainders' backend.
     ///
     /// # Errors
     ///

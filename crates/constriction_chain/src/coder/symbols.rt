@@ -1,6 +1,7 @@
 //! The two steps of the coder: decoding a symbol from the compressed words, and encoding it back.
 //!
-//! The trait `Encode` encodes lists of symbols in their order, and `EncodeReverse` encodes them from last to first.
+//! Other methods of the trait `Encode` encode lists of symbols from first to last, and the methods of `EncodeReverse`
+//! encode lists from last to first.
 //!
 //! A decode may write a word without reading one. It then doesn't ask for room, because the write is its only backend
 //! call.
@@ -47,22 +48,22 @@ impl<
 
     /// Decodes a symbol from the compressed words, with a model of the coder's precision.
     ///
-    /// The coder reads at most one compressed word and writes at most one word to the remainders. A compressed word is
-    /// needed if fewer bits than the precision are left over. Before it reads that word, the coder asks the remainders
-    /// for room for one word.
+    /// The coder reads at most one compressed word and writes at most one word to the remainders. The coder needs a
+    /// compressed word if fewer than `PRECISION` bits are left over. Before it reads that word, it asks the remainders'
+    /// backend for room for one word.
     ///
     /// # Errors
     ///
-    /// After each error the heads are unchanged, and the remainders have at least as much room as before the call.
+    /// After an error, the heads are unchanged, and the remainders have at least as much room as before the call.
     ///
-    /// - `Frontend(OutOfCompressedData)` if a compressed word is needed and none is left. If `is_list` of the
+    /// - `Frontend(OutOfCompressedData)`: the coder needs a compressed word, and none is left. If `is_list` of the
     ///   compressed backend holds, the state is unchanged.
-    /// - `Backend(Compressed(error))` if a compressed word is needed and its read fails with this error. If `is_list`
-    ///   of the compressed backend holds, the compressed words are unchanged.
-    /// - `Backend(Remainders(error))` if a compressed word is needed and the remainders refuse room for one word. The
-    ///   state is unchanged.
-    /// - `Backend(Remainders(error))` if the remainders refuse to write a word. The compressed backend has lost at most
-    ///   one word. It has lost none if `makes_room` of the remainders' backend holds.
+    /// - `Backend(Compressed(error))`: the coder needs a compressed word, and the read returns `error`. If `is_list` of
+    ///   the compressed backend holds, the compressed words are unchanged.
+    /// - `Backend(Remainders(error))`: the coder needs a compressed word, and the remainders' backend refuses room for
+    ///   one word. The state is unchanged.
+    /// - `Backend(Remainders(error))`: the remainders' backend refuses to write a word. The compressed backend has lost
+    ///   at most one word. It has lost none if `makes_room` of the remainders' backend holds.
     #[inline(always)]
     fn decode_symbol<M>(
         &mut self,
@@ -142,25 +143,26 @@ impl<
         usize::MAX
     }
 
-    /// Encodes a symbol with a model of the coder's precision. This is the inverse of decoding it.
+    /// Encodes a symbol with a model of the coder's precision. Encoding is the inverse of decoding.
     ///
     /// The coder reads at most one word of the remainders and writes at most one compressed word. If it has to write a
     /// word, it first asks the compressed backend for room for one word.
     ///
     /// # Errors
     ///
-    /// After each error the heads are unchanged, and the compressed words have at least as much room as before the
+    /// After an error, the heads are unchanged, and the compressed backend has at least as much room as before the
     /// call.
     ///
-    /// - `Frontend(ImpossibleSymbol)` exactly if the symbol is impossible under the model. The coder is unchanged.
-    /// - `Frontend(OutOfRemainders)` if a word of the remainders is needed and none is left. If `is_list` of the
+    /// - `Frontend(ImpossibleSymbol)`: returned if and only if the symbol is impossible under the model. The coder is
+    ///   unchanged.
+    /// - `Frontend(OutOfRemainders)`: the coder needs a word of the remainders, and none is left. If `is_list` of the
     ///   remainders' backend holds, the state is unchanged.
-    /// - `Backend(Remainders(error))` if a word of the remainders is needed and its read fails with this error. If
+    /// - `Backend(Remainders(error))`: the coder needs a word of the remainders, and the read returns `error`. If
     ///   `is_list` of the remainders' backend holds, the remainders are unchanged.
-    /// - `Backend(Compressed(error))` if a word has to be written and the compressed backend refuses room for it. The
-    ///   state is unchanged.
-    /// - `Backend(Compressed(error))` if the compressed backend refuses to write that word, which happens only if
-    ///   `makes_room` of that backend doesn't hold. The remainders have lost at most one word.
+    /// - `Backend(Compressed(error))`: the coder has to write a word, and the compressed backend refuses room for it.
+    ///   The state is unchanged.
+    /// - `Backend(Compressed(error))`: the compressed backend refuses to write that word. This happens only if
+    ///   `makes_room` of the compressed backend doesn't hold. The remainders have lost at most one word.
     #[inline(always)]
     fn encode_symbol<M>(
         &mut self,

@@ -10,14 +10,13 @@ use std::marker::PhantomData;
 
 /// A scale of a family of distributions, stored with its reciprocal.
 ///
-/// The scale is a multiple of `2^-16`. `Scale::new` divides, and `Scale::at` doesn't. If a program's scales repeat or
-/// come from a table, it can keep values of this type. It then creates the distribution of each symbol without a
-/// division.
+/// The scale is a multiple of `2^-16`. `Scale::new` divides, and `Scale::at` doesn't. A program whose scales repeat or
+/// come from a table can keep values of this type. It then creates the distribution of each symbol without a division.
 ///
 /// # Examples
 ///
 /// ```
-/// // Standard deviations of 1, 2 and 4, as multiples of 2^-16.
+/// // Standard deviation 1, as a multiple of 2^-16.
 /// if let Some(scale) = Scale::<StandardNormal>::new(65536) {
 ///     // Mean 3.5: the same distribution as `Gaussian::new(229376, 65536)`.
 ///     scale.at(229376).cumulative(229376) // 2147483648, half of 2^32
@@ -37,7 +36,7 @@ impl<D: StandardDistribution> Scale<D> {
 
     /// Creates a scale, or returns `None` if `scale` is 0.
     ///
-    /// The scale is given in multiples of `2^-16`. The type has an example.
+    /// `scale` is in units of `2^-16`. See the type's documentation for an example.
     #[inline]
     pub fn new(scale: u32) -> Option<Self>
         ensures ok { IfSome result (λ s. scale_number s ≡ scale) }
@@ -53,7 +52,7 @@ impl<D: StandardDistribution> Scale<D> {
         })
     }
 
-    /// Returns the scale in multiples of `2^-16`.
+    /// Returns the scale in units of `2^-16`.
     ///
     /// # Examples
     ///
@@ -71,7 +70,7 @@ impl<D: StandardDistribution> Scale<D> {
 
     /// Returns the distribution with `location` and this scale.
     ///
-    /// `location` is given in multiples of `2^-16`. The type has an example.
+    /// `location` is in units of `2^-16`. See the type's documentation for an example.
     #[inline]
     pub fn at(self, location: i64) -> LocationScale<D>
         ensures { ⟦<LocationScale<D> as CumulativeDistribution>⟧.below result
@@ -91,7 +90,7 @@ impl<D: StandardDistribution> Clone for Scale<D> {
 
     ghost is_infallible = { λ _. Unit {0} };
 
-    /// Returns the same scale. This never fails.
+    /// Returns the same scale. The call never fails.
     fn clone(&self) -> Result<Self, AllocError> {
         Ok(*self)
     }

@@ -37,7 +37,7 @@ pub struct IndexedDistribution<
 impl<Probability: WordOf<u32>, const PRECISION: usize> LeakyQuantizer<Probability, PRECISION> {
     ghost use Rattle.constriction_models.specs.Quantizers.{first_symbol, symbol_count};
 
-    /// Cuts `distribution` halfway between the symbols of the range, and returns a model with symbols from 0 on.
+    /// Cuts `distribution` halfway between the symbols of the range, and returns a model with symbols counted from 0.
     ///
     /// Symbol `k` of the model stands for the symbol `first + k`, where `first` is the first symbol of the range.
     pub fn quantize_indexed<D: CumulativeDistribution>(

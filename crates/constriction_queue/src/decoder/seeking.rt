@@ -43,14 +43,15 @@ where
         ⊎ ((moved : Backend) × (e : Backend.ReadError) × Backend.sought old.bulk position.0 moved
         × RefusesPoint Word.number Backend.ReadWords.own Word.BITS State.BITS moved e new.bulk)) };
 
-    /// Goes to a position that an encoder recorded: seeks in the backend, and takes the recorded interval.
+    /// Moves the decoder to a position that an encoder recorded.
     ///
-    /// At the position, the decoder reads as many words as a `State` has. They form the new point.
+    /// The decoder seeks in the backend, and reads `State::BITS / Word::BITS` words there, which form the new point. It
+    /// then continues with the recorded interval.
     ///
     /// # Errors
     ///
-    /// Returns `Err(())` if the backend refuses the seek, or refuses a read. The interval and the point are unchanged.
-    /// If a read was refused, the backend has already moved.
+    /// Returns `Err(())` if the backend refuses the seek or a read fails. The interval and the point are unchanged. If
+    /// a read failed, the backend has already moved.
     ///
     /// # Examples
     ///

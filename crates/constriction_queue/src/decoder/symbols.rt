@@ -1,4 +1,4 @@
-//! The step of the decoder: decoding one symbol.
+//! Decoding one symbol with a range decoder.
 
 ghost use Rattle.std.specs.Prelude.{◌≡◌, ◌↔◌, ◌≤◌, ◌^◌, Err, IsTrue};
 ghost use Rattle.std.specs.Bool.{OnFalse};
@@ -21,10 +21,10 @@ use constriction_stream::decoding::Decode;
 use constriction_words::{BitArray, WordOf};
 use thiserror::Error;
 
-/// The error of a decoder itself, as opposed to an error of its backend.
+/// An error that the decoder itself detects, as opposed to an error that its backend returns.
 #[derive(Debug, Clone, Copy, PartialEq, Eq, Error)]
 pub enum DecoderFrontendError {
-    /// The words don't encode a symbol of any model with this precision.
+    /// The words don't encode a symbol of any model with the precision of the decode.
     #[error("Tried to decode from compressed data that is invalid for the employed entropy model.")]
     InvalidData,
 }
@@ -72,11 +72,11 @@ impl<
     ///
     /// # Errors
     ///
-    /// - `Frontend(InvalidData)`: returned exactly if the words don't encode a symbol of any model with this precision.
-    ///   The decoder is unchanged.
-    /// - `Backend(error)`: returned only if a word had to be read and the read returned `error`. The interval and the
-    ///   point are unchanged. If `Holds::is_list` holds for the backend, as for vectors and cursors, the words are
-    ///   unchanged too.
+    /// - `Frontend(InvalidData)`: returned if and only if the words don't encode a symbol of any model with this
+    ///   precision. The decoder is unchanged.
+    /// - `Backend(error)`: returned only if the decoder had to read a word and the read returned `error`. The interval
+    ///   and the point are unchanged. If `Holds::is_list` holds for the backend, as for cursors, the words are also
+    ///   unchanged.
     #[inline]
     fn decode_symbol<M>(
         &mut self,
@@ -121,12 +121,12 @@ impl<
 
     /// Returns whether all encoded symbols may have been decoded.
     ///
-    /// The call returns `true` exactly if the backend's `maybe_exhausted` returns `true` and one of these conditions
-    /// holds:
+    /// The call returns `true` if and only if the backend's `maybe_exhausted` returns `true` and one of these
+    /// conditions holds:
     ///
-    /// - The length of the interval is `2^State::BITS - 1`, as it is if no symbol was decoded.
-    /// - The distance of the point from the interval's lower end is below `2^(State::BITS - Word::BITS + 1) - 1`, as it
-    ///   is after a seal.
+    /// - The length of the interval is `2^State::BITS - 1`, as in a decoder that has decoded no symbol.
+    /// - The distance of the point from the interval's lower end is below `2^(State::BITS - Word::BITS + 1) - 1`, as in
+    ///   a decoder that has decoded all symbols of an encoder.
     #[inline]
     fn maybe_exhausted(&self) -> bool
         ensures value { IsTrue result ↔ MayBeExhausted Word.BITS State.BITS Backend.seems_exhausted self.now }

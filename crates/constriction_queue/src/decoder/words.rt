@@ -18,14 +18,14 @@ impl<Word: WordOf<State>, State: BitArray, Backend: ReadWords<Word, Queue>> Rang
     State,
     Backend,
 > {
-    /// Creates a decoder over a backend, and reads as many words as a `State` has.
+    /// Creates a decoder over a backend, and reads the first `State::BITS / Word::BITS` words.
     ///
     /// If the backend has fewer words, the decoder stops reading at the first read that finds no word. It uses zero
     /// words for the missing words.
     ///
     /// # Errors
     ///
-    /// Returns the error of the read that failed. The backend is consumed.
+    /// Returns the error that the backend returned for a read. The call consumes the backend.
     ///
     /// # Examples
     ///
@@ -58,7 +58,7 @@ impl<Word: WordOf<State>, State: BitArray, Backend: ReadWords<Word, Queue>> Rang
     ///
     /// # Errors
     ///
-    /// Returns the error of the read that failed. Reads from a cursor never fail.
+    /// Returns the error that the backend returned for a read. Reads from a cursor never fail.
     ///
     /// # Examples
     ///
@@ -83,11 +83,11 @@ impl<Word: WordOf<State>, State: BitArray, Backend: ReadWords<Word, Queue>> Rang
         Self::with_backend(compressed.into_read_words())
     }
 
-    /// Creates a decoder that borrows words.
+    /// Creates a decoder that reads borrowed words.
     ///
     /// # Errors
     ///
-    /// Returns the error of the read that failed. Reads from a cursor never fail.
+    /// Returns the error that the backend returned for a read. Reads from a cursor never fail.
     ///
     /// # Examples
     ///
@@ -113,8 +113,8 @@ impl<Word: WordOf<State>, State: BitArray, Backend: ReadWords<Word, Queue>> Rang
 
     /// Returns whether all encoded symbols may have been decoded.
     ///
-    /// At every precision, `maybe_exhausted` of the trait `Decode` returns the same. Its description states the exact
-    /// conditions.
+    /// At every precision, `maybe_exhausted` of the trait `Decode` returns the same value. See its documentation for
+    /// the conditions.
     #[inline]
     pub fn maybe_exhausted(&self) -> bool
         ensures { IsTrue result ↔ MayBeExhausted Word.BITS State.BITS Backend.seems_exhausted self.now }
@@ -130,11 +130,11 @@ impl<Word: WordOf<State>, State: BitArray, Backend: Holds<Word, Queue>> RangeDec
 > {
     /// Creates a decoder from an interval, a point, and a backend that holds the remaining words.
     ///
-    /// The point is the number formed by the last words read. It consists of as many words as a `State` has.
+    /// The last `State::BITS / Word::BITS` words read form a number, the point.
     ///
     /// # Errors
     ///
-    /// Returns `bulk` exactly if the point doesn't lie in the interval.
+    /// Returns `bulk` if and only if the point doesn't lie in the interval.
     ///
     /// # Examples
     ///
@@ -184,7 +184,7 @@ impl<Word: WordOf<State>, State: BitArray, Backend: Holds<Word, Queue>> RangeDec
         (bulk, state, distance.wrapping_plus(state.lower()))
     }
 
-    /// Returns the backend. It holds the words that the decoder has not read yet.
+    /// Returns the backend, which holds the words that the decoder has not read yet.
     #[inline]
     pub fn bulk(&self) -> &Backend
         ensures backend { result.now ≡ self.now.bulk }

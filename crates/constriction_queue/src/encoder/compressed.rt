@@ -17,15 +17,15 @@ impl<Word: WordOf<State>, State: BitArray, Backend: WriteWords<Word>> RangeEncod
     State,
     Backend,
 > {
-    /// Returns the backend with the encoder's words: the words written, the pending words, and a seal.
+    /// Writes the pending words and a seal, and returns the backend, which then holds all words of the encoder.
     ///
-    /// The seal consists of the words that end the data. If no symbol was encoded, there is no seal. The encoder first
-    /// asks the backend for room for all words that it still has to write.
+    /// The seal is the one or two words that end the data. If no symbol was encoded, there is no seal. The encoder
+    /// first asks the backend for room for all words that it still has to write.
     ///
     /// # Errors
     ///
-    /// Returns the backend's error if the backend has no room for these words, or refuses to write a word. The encoder
-    /// is consumed.
+    /// Returns the backend's error if the backend refuses room for these words, or refuses to write a word. The call
+    /// consumes the encoder.
     pub fn into_compressed(self) -> Result<Backend, Backend::WriteError>
     where
         Backend: Drop,
@@ -50,7 +50,7 @@ impl<Word: WordOf<State>, State: BitArray, Backend: WriteWords<Word>> RangeEncod
     /// Returns whether the backend may be full.
     ///
     /// If the call returns `false` and no words are pending, the next encode doesn't fail for lack of room. At every
-    /// precision, `maybe_full` of the trait `Encode` returns the same.
+    /// precision, `maybe_full` of the trait `Encode` returns the same value.
     #[inline]
     pub fn maybe_full(&self) -> bool
         ensures { result ≡ Backend.seems_full self.now.bulk }
@@ -58,21 +58,21 @@ impl<Word: WordOf<State>, State: BitArray, Backend: WriteWords<Word>> RangeEncod
         self.bulk.maybe_full()
     }
 
-    /// Returns the backend with the encoder's words and a seal that any words may follow.
+    /// Writes the pending words and a seal that any words may follow, and returns the backend.
     ///
     /// The seal is self-delimiting: every list that begins with the returned words decodes to the encoded symbols. The
     /// seal is one word, followed by the least number of zero words for which this holds. There are at most
     /// `State::BITS / Word::BITS - 1` zero words. If no symbol was encoded, there is no seal.
     ///
-    /// If `State` is two words wide, [`RangeEncoder::into_compressed`] returns the same words. For a wider `State`, the
-    /// words of `into_compressed` are sure to decode to the symbols only if no word follows them.
+    /// If `State` is two words wide, [`RangeEncoder::into_compressed`] returns the same words. For a wider `State`,
+    /// words that follow the words of `into_compressed` may change the decoded symbols.
     ///
     /// Before it writes any word, the encoder asks the backend for room for all words that it still has to write.
     ///
     /// # Errors
     ///
-    /// Returns the backend's error if the backend has no room for these words, or refuses to write a word. The encoder
-    /// is consumed.
+    /// Returns the backend's error if the backend refuses room for these words, or refuses to write a word. The call
+    /// consumes the encoder.
     ///
     /// # Examples
     ///
@@ -144,7 +144,7 @@ impl<Word: WordOf<State>, State: BitArray, Backend: BoundedReadWords<Word, Stack
         Word::BITS as usize * self.num_words()
     }
 
-    /// Returns whether the encoder has no symbols and its backend has no words.
+    /// Returns whether no symbol was encoded and the backend holds no words.
     pub fn is_empty(&self) -> bool
         ensures { IsTrue result ↔ ((self.now.range + 1 ≡ 2 ^ State.BITS) × (self.now.words ≡ [])) }
     {

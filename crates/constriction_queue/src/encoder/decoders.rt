@@ -23,11 +23,11 @@ impl<
     ///
     /// # Errors
     ///
-    /// Every error consumes the encoder.
+    /// The call consumes the encoder, also if it returns an error.
     ///
-    /// - `Write(error)`: the backend has no room for the words that are still to be written, or refuses to write a
-    ///   word.
-    /// - `Read(error)`: a read of the decoder's first words fails.
+    /// - `Write(error)`: the backend refuses room for the words that the encoder still has to write, or refuses to
+    ///   write a word.
+    /// - `Read(error)`: a read of the decoder's first `State::BITS / Word::BITS` words fails.
     pub fn into_decoder(
         self,
     ) -> Result<

@@ -16,8 +16,8 @@ use std::fmt;
 
 /// A guard that keeps an encoder's pending words and seal in the encoder's vector until the guard is dropped.
 ///
-/// [`RangeEncoder::get_compressed`] returns a guard, and has an example. Dropping a guard allocates nothing. If a guard
-/// is forgotten instead of dropped, the words that it wrote stay in the vector.
+/// [`RangeEncoder::get_compressed`] returns a guard. See there for an example. Dropping a guard allocates no memory. If
+/// the caller forgets a guard instead of dropping it, the words that the guard wrote stay in the vector.
 pub struct EncoderGuard<'a, Word: WordOf<State>, State: BitArray, A: Allocator = Global> {
     pub(crate) inner: &'a mut RangeEncoder<Word, State, Vec<Word, A>>,
     pub(crate) count: usize,

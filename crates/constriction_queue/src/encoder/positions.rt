@@ -25,7 +25,7 @@ impl<Word: WordOf<State>, State: BitArray, Backend: CountsWords<Word>> Pos
 
     ghost can_tell = { λ encoder. (run_by Word.BITS State.BITS encoder).moves < 2 ^ 64 };
 
-    /// Returns the number of words written and pending, and the interval.
+    /// Returns the encoder's position: the number of words written and pending, and the interval.
     ///
     /// A decoder of the words that the encoder exports later can seek to this position. The caller proves that the
     /// number of words written and pending fits a `usize`. [`RangeEncoder::pos_fits`] tests this.

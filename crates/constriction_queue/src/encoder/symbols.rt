@@ -1,4 +1,4 @@
-//! The step of the encoder: encoding one symbol. The trait `Encode` encodes lists of symbols.
+//! Encoding one symbol with a range encoder. Other methods of the trait `Encode` encode lists of symbols.
 
 ghost use Rattle.std.specs.Prelude.{◌≡◌, ◌+◌, ◌≤◌, ◌<◌, []};
 ghost use Rattle.std.specs.Bool.{OnFalse};
@@ -62,10 +62,10 @@ impl<
 
     ghost never_full = { λ e impossible lack. lack };
 
-    /// Returns how many more symbols the encoder can encode.
+    /// Returns how many more symbols the caller may ask the encoder to encode.
     ///
-    /// The pending words limit this number. Their count plus the words of a seal has to fit a `usize`. A seal has at
-    /// most 16 words, and a step adds at most one pending word.
+    /// The number of pending words plus the number of words of a seal has to fit a `usize`. A seal has at most 16
+    /// words, and each encode adds at most one pending word.
     #[inline]
     fn symbols_left(&self) -> usize {
         match self.situation {
@@ -76,17 +76,17 @@ impl<
 
     /// Encodes the next symbol with a model of `PRECISION` bits.
     ///
-    /// `PRECISION` is at most the number of bits of a word. If the step has to write words, the encoder first asks the
-    /// backend for room for all of them. It then writes them, and updates its interval last. The caller proves that
-    /// `symbols_left` is at least 1.
+    /// `PRECISION` is at most the number of bits of a word. If the encoder has to write words, it first asks the
+    /// backend for room for all of them. It then writes the words, and updates its interval last. The caller proves
+    /// that `symbols_left` is at least 1.
     ///
     /// # Errors
     ///
-    /// - `Frontend(ImpossibleSymbol)`: returned exactly if the symbol is impossible under the model. The encoder is
-    ///   unchanged.
-    /// - `Backend(error)`: returned only if words had to be written, and the backend refused room for them or refused a
-    ///   write. The interval and the pending words are unchanged. The backend keeps the words that it took before it
-    ///   refused. If the backend is a vector, it is unchanged.
+    /// - `Frontend(ImpossibleSymbol)`: returned if and only if the symbol is impossible under the model. The encoder
+    ///   is unchanged.
+    /// - `Backend(error)`: returned only if the encoder had to write words, and the backend refused room for the words
+    ///   or refused a write. The interval and the pending words are unchanged. The backend keeps the words that it took
+    ///   before it refused. If the backend is a vector, its words are unchanged.
     #[inline]
     fn encode_symbol<M>(
         &mut self,

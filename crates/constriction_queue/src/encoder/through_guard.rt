@@ -96,8 +96,9 @@ impl<'a, Word: WordOf<State>, State: BitArray, A: Allocator> IntoSeekReadWords<W
 impl<Word: WordOf<State>, State: BitArray, A: Allocator> RangeEncoder<Word, State, Vec<Word, A>> {
     ghost use Rattle.constriction_queue.specs.Guarded.{lender, written, SealLacksRoom};
 
-    /// Returns a decoder of the words that [`RangeEncoder::into_compressed`] would return, through a guard.
+    /// Returns a decoder that borrows the encoder and reads the encoder's words.
     ///
+    /// These are the words that [`RangeEncoder::into_compressed`] would return. The decoder holds them in a guard.
     /// Dropping the decoder restores the encoder, and an error leaves the encoder unchanged. The contract of this call
     /// states neither fact; tests check both. The contract of [`RangeEncoder::with_compressed`] states both for that
     /// call.
