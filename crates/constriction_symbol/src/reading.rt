@@ -36,16 +36,16 @@ pub trait ReadBitStream<S: Semantics> {
     ///
     /// # Errors
     ///
-    /// Returns the stream's error if the source of the bits refuses the read. If `is_list` holds, the unread bits are
-    /// then unchanged.
+    /// Returns the stream's error if the read from the source of the bits fails. If `is_list` holds, the unread bits
+    /// are then unchanged.
     fn read_bit(&mut self) -> Result<Option<bool>, Self::ReadError>
         ensures { gives self.old (item_of_answer result) self.new };
 
-    /// Reads the bits of a codeword, and returns its symbol.
+    /// Reads the bits of a codeword, and returns the codeword's symbol.
     ///
     /// # Errors
     ///
-    /// After each error, the bits read so far stay read.
+    /// After an error, the stream continues after the last bit read.
     ///
     /// - `Frontend(OutOfCompressedData)` if the bits end before a codeword is complete.
     /// - `Frontend(InvalidCodeword(error))` if no codeword begins with the bits read.
@@ -109,7 +109,7 @@ impl<Word: BitArray, B: ReadWords<Word, Stack> + Drop> ReadBitStream<Stack>
 
     ghost gives = { PopsBit Word.BITS Word.number B.is_list B.reads };
 
-    /// Removes the last bit and returns it, or returns `None` if there are no bits.
+    /// Removes the last bit and returns it, or returns `None` if the stack is empty.
     ///
     /// If the word outside the backend has no bit left, the call first reads the next word from the backend.
     #[inline]

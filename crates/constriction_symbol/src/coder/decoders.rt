@@ -22,7 +22,7 @@ impl<
     /// # Errors
     ///
     /// Returns the backend's error if there are bits outside the backend, and the backend refuses the word of these
-    /// bits. The coder is consumed.
+    /// bits. The call consumes the coder even if it fails.
     pub fn into_decoder(self) -> Result<QueueDecoder<Word, B::IntoReadWords>, B::WriteError>
     where
         B: Drop,

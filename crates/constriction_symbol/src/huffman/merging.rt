@@ -1,11 +1,11 @@
-//! Huffman's algorithm: joining the two trees of least weight until one tree is left.
+//! Huffman's algorithm, which joins the two trees of least weight until one tree is left.
 //!
-//! A leaf is the tree of one symbol, and a union is a tree that a merge joined. The leaves are sorted, and no union
+//! A leaf is the tree of one symbol, and a union is a tree that a merge created. The leaves are sorted, and no union
 //! weighs less than an earlier union. So the least tree is the first leaf or the first union that is left. If both have
 //! the same weight, the leaf is the lesser, because leaves have lower indices than unions.
 //!
-//! Weights are collected before the merge, because the merge requires that their sum fits. Collecting lent weights may
-//! fail with `Memory` at each weight.
+//! The constructors collect the weights before the merge, because the merge requires that the sum of the weights fits
+//! their type. Collecting lent weights may fail with `Memory` at each weight.
 
 ghost use Rattle.constriction_symbol.specs.Huffman.{IsPairLe, keys_from};
 ghost use Rattle.constriction_symbol.specs.Merging.{ArePairs, FitTree, MakeNoTree, all_keys, key_of, keys_of};
@@ -117,12 +117,12 @@ fn merge_all<P: BitArray>(alloc: Global, weights: &[P]) -> Result<Vec<[usize; 2]
 ///
 /// # Errors
 ///
-/// Checked in this order:
+/// The call checks for errors in this order:
 ///
 /// - `Empty` if there is no weight.
 /// - `TooManySymbols` if there are more than `most` weights.
 /// - `WeightOverflow` if the sum of the weights doesn't fit their type.
-/// - `Memory` if there is no memory.
+/// - `Memory` if there is no memory for the merge.
 pub fn merged_pairs<P: BitArray, E>(
     alloc: Global,
     weights: &[P],
