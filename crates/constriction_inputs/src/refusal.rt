@@ -37,8 +37,7 @@ pub enum Refusal {
     NoMemory,
     /// The words or the numbers that the caller passed aren't a state of the coder.
     ///
-    /// A call also returns this error if the words don't encode as many symbols as the caller asks for, or if the next
-    /// bits begin with no codeword.
+    /// A call also returns this error if it finds that the words don't encode the symbols that the caller asks for.
     #[error("invalid data")]
     InvalidData,
     /// The words end before the call has decoded all symbols.
