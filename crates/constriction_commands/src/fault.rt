@@ -26,7 +26,7 @@ pub enum Fault {
     Unreadable,
     /// A write of the output fails.
     Unwritable,
-    /// A byte is neither a digit nor a blank, or a number is too large for its type.
+    /// A byte is neither a digit nor a blank, a number is too large for its type, or a symbol count is above `2^24`.
     BadNumber,
     /// The second line of a decoding command's input is blank.
     NoCount,

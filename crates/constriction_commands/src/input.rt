@@ -86,7 +86,7 @@ fn is_blank(byte: u8) -> bool
     byte == b' ' || byte == b'\t' || byte == b'\r'
 }
 
-/// Returns `10 * so_far` plus the digit `byte`, or `None` if `byte` is no digit or the sum is above `greatest`.
+/// Returns `10 * so_far` plus the digit `byte`, or `None` if `byte` isn't a digit or the sum exceeds `greatest`.
 fn with_digit(so_far: u64, byte: u8, greatest: u64) -> Option<u64>
     ensures { result ≡ with_digit greatest so_far byte }
 {

@@ -23,7 +23,8 @@ pub enum Refusal {
     /// - A Huffman tree has no weights or too many, or the sum of its weights doesn't fit their type.
     #[error("wrong weights")]
     WrongWeights,
-    /// An interval is empty or ends past `2 ^ PRECISION`, or a range has too few or too many symbols.
+    /// An interval is empty or ends past `2 ^ PRECISION`. Or a range has fewer than two or more than `2 ^ PRECISION`
+    /// symbols.
     #[error("wrong interval")]
     WrongInterval,
     /// A number of words in use, or a position, is past the end of its buffer. Or the lengths of two lists don't match.

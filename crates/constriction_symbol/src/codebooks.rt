@@ -52,8 +52,8 @@ pub trait EncoderCodebook: Codebook {
     /// # Errors
     ///
     /// - `Frontend(ImpossibleSymbol)` if and only if the symbol has no codeword. The call emits nothing.
-    /// - `Backend(error)` if `emit` returns this error. The call emits the codeword's bits up to and including
-    ///   the bit that `emit` refused.
+    /// - `Backend(error)` if `emit` returns this error. The call emits the codeword's bits up to and including the bit
+    ///   that `emit` refused.
     /// - `Backend(E::from(AllocError))` if the call needs memory and there is none. The call emits nothing.
     fn encode_symbol_prefix<E: From<AllocError>, F: FnMut(bool) -> Result<(), E>>(
         &self,

@@ -16,10 +16,10 @@ use std::marker::PhantomData;
 
 /// A stream of bits that decodes symbols.
 ///
-/// An implementor defines the list of unread bits (`unread`), and what a read may return (`gives`). It also defines
-/// whether reads return the bits of that list (`is_list`). It proves that each call follows these definitions. If
-/// `is_list` holds, it also proves that each read returns the first unread bit, `None` if no bit is unread, or an
-/// error.
+/// An implementor defines the list of unread bits (`unread`), what a read may return (`gives`), and whether reads
+/// return the bits of the list (`is_list`). The implementor proves that each call follows these definitions. If
+/// `is_list` holds, the implementor also proves that each read returns the first unread bit, `None` if no bit is
+/// unread, or an error.
 pub trait ReadBitStream<S: Semantics> {
     type ReadError;
 
@@ -74,6 +74,8 @@ pub trait ReadBitStream<S: Semantics> {
     }
 
     /// Returns a lazy iterator that decodes `amt` symbols with one codebook. The iterator continues after an error.
+    ///
+    /// See [`DecodeSymbols`] for an example.
     final fn decode_iid_symbols<'a, C>(
         &'a mut self,
         amt: usize,

@@ -45,7 +45,7 @@ pub trait SuffixCodebook: Codebook {
 ///
 /// # Errors
 ///
-/// Returns the backend's error if the word outside the backend is full and the backend refuses it.
+/// Returns the backend's error if the word outside the backend is full and the backend refuses this word.
 #[inline]
 fn put<Word: BitArray, B: WriteWords<Word>>(
     stack: &mut StackCoder<Word, B>,

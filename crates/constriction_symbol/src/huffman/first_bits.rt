@@ -34,7 +34,7 @@ fn most_of(nodes: usize) -> u32
     if count < MOST { count } else { MOST }
 }
 
-/// Returns the place that `bit` (0 or 1) leads to from `place`, or `place` itself if it is a symbol.
+/// Returns the place that `bit` (0 or 1) leads to from `place`, or `place` itself if `place` is a symbol.
 fn place_below(nodes: &[[usize; 2]], place: Place, bit: usize) -> Place
     requires tree { HoldsTree nodes.now (tree_of_pairs nodes.now) }
     requires place { (bits : List Bool) × (length bits < 32) × IsPlace nodes.now bits place }

@@ -87,8 +87,8 @@ fn take_least<P: BitArray>(
 
 /// Merges the two trees of least weight until one tree is left. At first, each weight is a tree.
 ///
-/// Returns the indices of the two trees of each merge, first merge first. The tree of `weights[i]` has index `i`. Each
-/// merge gives its tree the next index, starting at `weights.len()`.
+/// Returns the indices of the two trees of each merge, in the order of the merges. The tree of `weights[i]` has index
+/// `i`. The trees that merges create have the next indices, starting at `weights.len()`.
 fn merge_all<P: BitArray>(alloc: Global, weights: &[P]) -> Result<Vec<[usize; 2]>, AllocError>
     requires some { 0 < length weights.now }
     requires total { sum_by P.number weights.now < 2 ^ P.BITS }
@@ -113,7 +113,7 @@ fn merge_all<P: BitArray>(alloc: Global, weights: &[P]) -> Result<Vec<[usize; 2]
     Ok(pairs)
 }
 
-/// Returns the indices of the two trees that each merge joins, first merge first, for at most `most` weights.
+/// Returns the indices of the two trees that each merge joins, in order of the merges, for at most `most` weights.
 ///
 /// # Errors
 ///
