@@ -1,6 +1,7 @@
 //! The program `constriction`, which encodes and decodes lists of numbers.
 //!
-//! It reads lines of numbers from standard input, and writes lines of numbers to standard output.
+//! The program's only argument names a command. The program reads lines of numbers from standard input, and writes
+//! lines of numbers to standard output.
 #![tactic(auto)]
 
 use constriction_commands::cli;

@@ -22,7 +22,7 @@ use std::io;
 use std::io::{ErrorKind, Read, Write};
 use std::process::ExitCode;
 
-/// The usage line, for arguments that aren't one known command.
+/// The usage line, which the program writes if the arguments don't name exactly one command.
 const USAGE: &[u8] =
     b"usage: constriction <ans-encode|ans-decode|range-encode|range-decode|chain-split|golomb|huffman|store>\n";
 
@@ -47,7 +47,7 @@ fn arguments(alloc: Global, given: io::Result<Args>) -> Result<Vec<String>, Faul
     }
 }
 
-/// Writes the usage line to `faults`. Returns exit status 2, even if the line can't be written.
+/// Writes the usage line to `faults`. Returns exit status 2, even if the write fails.
 fn refuse<E: Write>(faults: &mut E) -> u8
     ensures status { result ≡ 2 }
     ensures line { BeginsLine E.contents faults.old faults.new usage_line }
@@ -56,7 +56,7 @@ fn refuse<E: Write>(faults: &mut E) -> u8
     2
 }
 
-/// Writes the line of `fault` to `faults`. Returns exit status 1, even if the line can't be written.
+/// Writes the line of `fault` to `faults`. Returns exit status 1, even if the write fails.
 fn report<E: Write>(fault: &Fault, faults: &mut E) -> u8
     ensures status { result ≡ 1 }
     ensures line { BeginsLine E.contents faults.old faults.new (fault_line fault.now) }
@@ -88,15 +88,16 @@ fn answer_to<R: Read, O: Write>(
 
 /// Runs the command that the arguments name, and returns the exit status.
 ///
-/// The arguments don't contain the program's name. The status is one of these:
+/// `args` doesn't contain the program's name. The exit status is one of these:
 ///
-/// - 0 if the answer was written.
+/// - 0 if the call wrote the whole answer to `output`.
 /// - 1 if a fault stopped the run. The call then writes the fault's line ([`crate::fault::Fault::line`]) to `faults`.
-/// - 2 if there isn't exactly one argument, or if it names no command. The call then writes the usage line to `faults`.
+/// - 2 if there isn't exactly one argument, or if the argument names no command. The call then writes the usage line
+///   to `faults`.
 ///
-/// The status is the same if the line can't be written to `faults`.
+/// A failed write to `faults` doesn't change the exit status.
 ///
-/// `input` and `output` decide whether a read or a write fails. So no clause states when the line on `faults` is
+/// The system decides whether a read, a write or an allocation fails. So no clause states when the line on `faults` is
 /// `cannot read input`, `cannot write output` or `out of memory`.
 pub fn run<R: Read, O: Write, E: Write>(
     alloc: Global,
@@ -129,8 +130,8 @@ pub fn run<R: Read, O: Write, E: Write>(
 
 /// Runs the program with the arguments that the system passes, and returns the exit status.
 ///
-/// `given` begins with the program's name. The call passes the arguments after that name to [`run`], and returns the
-/// status that `run` returns. There are two exceptions:
+/// The first item of `given` is the program's name. The call passes the arguments after the name to [`run`], and
+/// returns the status that `run` returns. There are two exceptions:
 ///
 /// - If there is no memory for the arguments, the status is 1, and the line on `faults` is `out of memory`.
 /// - If an argument isn't UTF-8, the status is 2, and the line on `faults` is the usage line.

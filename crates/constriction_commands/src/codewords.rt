@@ -9,7 +9,7 @@ use constriction_symbol::codebooks::EncoderCodebook;
 use constriction_symbol::writing::WriteBitStream;
 use std::alloc::{AllocError, Global};
 
-/// A list of bits, to which codewords are written bit by bit.
+/// A stream of bits that collects the bits of codewords in a list.
 #[derive(Drop)]
 struct Bits {
     list: Vec<bool>,

@@ -1,4 +1,4 @@
-//! The commands, each in its own file. To add a command, add its variant, its name and its answer here.
+//! The commands, each in its own file. To add a command, add its variant, its name and its call of `answer` here.
 
 mod ans_decode;
 mod ans_encode;
@@ -30,7 +30,7 @@ pub enum Command {
 }
 
 impl Command {
-    /// Returns the command that the single argument names.
+    /// Returns the command whose name is the only argument.
     ///
     /// Returns `None` if the argument names no command, or if there isn't exactly one argument.
     pub fn parse(args: &[String]) -> Option<Command>

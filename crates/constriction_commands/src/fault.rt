@@ -22,34 +22,40 @@ use std::alloc::{AllocError, AllocFailed};
 /// ```
 #[derive(Debug, Drop, Clone, PartialEq, Eq)]
 pub enum Fault {
+    /// A read of the input fails.
     Unreadable,
+    /// A write of the output fails.
     Unwritable,
-    /// A byte is neither a digit nor a blank, or a number is too large for its type.
+    /// A byte is neither a digit nor a blank, a number is too large for its type, or a symbol count is above `2^24`.
     BadNumber,
     /// The second line of a decoding command's input is blank.
     NoCount,
+    /// The first line of the input has no weights.
     NoWeights,
+    /// The weights don't add up to `2^24`.
     WrongTotal,
-    /// There are more weights than a Huffman tree can have, or more symbols than a store can hold.
+    /// There are more than `2^62 - 1` weights for a Huffman tree, or more than `2^20` symbols for a store.
     TooManySymbols,
     /// The sum of the weights of a Huffman tree has more than 64 bits.
     WeightOverflow,
+    /// A symbol to encode is impossible.
     Encoder(DefaultEncoderFrontendError),
     /// The last compressed word is 0.
     ZeroWord(CompressedDataEndsWithZeroWord),
-    /// No chain coder has these words: there are too few words, or the last word is 0.
+    /// No chain coder has these words: there is no word, the only word is below `2^8`, or the last word is 0.
     NoChain,
-    /// The words ended before a chain coder had decoded all symbols.
+    /// The words end before a chain coder has decoded all symbols.
     OutOfData(chain::DecoderFrontendError),
-    /// The words of a range coder don't encode the number of symbols to decode.
+    /// The words of a range coder don't encode as many symbols as the input asks for.
     InvalidData(DecoderFrontendError),
     /// The index of a chunk to look up is past the last chunk.
     NoSuchChunk,
+    /// There is no memory.
     OutOfMemory,
 }
 
 impl Fault {
-    /// Returns the line that the program writes to standard error for this fault. It ends with a line feed.
+    /// Returns the line that the program writes to standard error for this fault. The line ends with a line feed.
     pub fn line(&self) -> &'static [u8]
         ensures { result.now ≡ fault_line self.now }
     {

@@ -9,7 +9,7 @@ ghost use Rattle.constriction_commands.specs.Lines.{first_line, second_line};
 
 use crate::input::split_line;
 
-/// Returns the first two lines of `text`.
+/// Returns the first two lines of `text` without their line feeds.
 fn two_lines(text: &[u8]) -> (&[u8], &[u8])
     ensures first { result.0.now ≡ first_line text.now }
     ensures second { result.1.now ≡ second_line text.now }

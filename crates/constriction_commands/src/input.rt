@@ -29,7 +29,7 @@ pub fn read_all<R: Read>(alloc: Global, input: &mut R) -> Result<Vec<u8>, Fault>
 
 /// Returns the first line of `text` without its line feed, and the text after that line feed.
 ///
-/// A text without a line feed is one line, and the text after it is empty.
+/// A text without a line feed is one line, and the text after the line is empty.
 pub fn split_line(text: &[u8]) -> (&[u8], &[u8])
     ensures first { result.0.now ≡ first_line text.now }
     ensures rest { result.1.now ≡ after_line text.now }
@@ -49,6 +49,7 @@ pub trait Number: Copy {
 
     ghost number: { Self → ℕ };
 
+    /// Converts `value` to this type. The caller proves that `value` is at most `GREATEST`.
     fn from_value(value: u64) -> Self
         requires { value ≤ GREATEST }
         ensures { number result ≡ value };
@@ -85,7 +86,7 @@ fn is_blank(byte: u8) -> bool
     byte == b' ' || byte == b'\t' || byte == b'\r'
 }
 
-/// Returns `10 * so_far` plus the digit `byte`, or `None` if `byte` is no digit or the sum is above `greatest`.
+/// Returns `10 * so_far` plus the digit `byte`, or `None` if `byte` isn't a digit or the sum exceeds `greatest`.
 fn with_digit(so_far: u64, byte: u8, greatest: u64) -> Option<u64>
     ensures { result ≡ with_digit greatest so_far byte }
 {
@@ -100,8 +101,8 @@ fn with_digit(so_far: u64, byte: u8, greatest: u64) -> Option<u64>
 ///
 /// # Errors
 ///
-/// - `BadNumber` only if the line isn't a list of numbers that fit the type `N`.
-/// - `OutOfMemory` if there is no memory.
+/// - `BadNumber` if the line isn't a list of numbers that fit the type `N`.
+/// - `OutOfMemory` if there is no memory for the numbers.
 pub fn parse_numbers<N: Number>(alloc: Global, line: &[u8]) -> Result<Vec<N>, Fault>
     ensures ok { IfOk result (λ numbers. numbers_of N.GREATEST line.now ≡ Some (map N.number numbers.items)) }
     ensures bad { IsErrOf result BadNumber → numbers_of N.GREATEST line.now ≡ None }
@@ -132,8 +133,8 @@ pub fn parse_numbers<N: Number>(alloc: Global, line: &[u8]) -> Result<Vec<N>, Fa
 ///
 /// # Errors
 ///
-/// - `BadNumber` only if a line isn't a list of numbers that fit the type `N`.
-/// - `OutOfMemory` if there is no memory.
+/// - `BadNumber` if a line isn't a list of numbers that fit the type `N`.
+/// - `OutOfMemory` if there is no memory for the numbers.
 pub fn parse_lines<N: Number>(alloc: Global, text: &[u8]) -> Result<Vec<Vec<N>>, Fault>
     ensures ok { IfOk result (λ lists. number_lists_of N.GREATEST text.now
         ≡ Some (map (λ list. map N.number list.items) lists.items)) }

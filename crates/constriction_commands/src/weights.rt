@@ -13,7 +13,7 @@ use std::alloc::Global;
 /// The precision of the weights, in bits.
 pub const PRECISION: usize = 24;
 
-/// The type of a table of the symbols 0, 1, .., which is made from one weight for each symbol.
+/// A table of the symbols 0, 1, .., with one weight for each symbol.
 pub type Table = WeightTable<u32, PRECISION>;
 
 /// Builds the table of the symbols 0, 1, .. with the weights `weights`.
@@ -22,7 +22,7 @@ pub type Table = WeightTable<u32, PRECISION>;
 ///
 /// - `NoWeights` if there is no weight.
 /// - `WrongTotal` if the weights don't add up to `2^24`.
-/// - `OutOfMemory` if there is no memory.
+/// - `OutOfMemory` if there is no memory for the table.
 pub fn make_table(alloc: Global, weights: &[u32]) -> Result<Table, Fault>
     ensures ok { IfOk result (λ table. ⟦<Table as EntropyModel<PRECISION>>⟧.table table ≡ table_of weights.now) }
     ensures total { OnOk result (Total weights.now) }

@@ -20,9 +20,9 @@ use std::alloc::{AllocError, Global};
 
 /// Returns a row of three weights for each interval, and a list that has the number 1 for each row.
 ///
-/// `lefts` has the start of each interval, and `ps` has its length. The first list returned has the rows one after
-/// another. In the table of each row, symbol 1 has the interval. So encoding the second list under the rows encodes the
-/// intervals.
+/// Interval `i` starts at quantile `lefts[i]` and has `ps[i]` quantiles. The first list returned has the rows one after
+/// another. In the table of each row, symbol 1 has the interval. So a coder that encodes the second list with the rows
+/// as models encodes the intervals.
 ///
 /// # Errors
 ///
@@ -73,7 +73,7 @@ pub fn rows_by_intervals<P: BitArray, const PRECISION: usize>(
 
 /// Returns the row of three weights of a single interval.
 ///
-/// Returns `None` if `lefts` or `ps` doesn't have exactly one item, or if these items make no interval below
+/// Returns `None` if `lefts` or `ps` doesn't have exactly one item, or if the interval is empty or ends past
 /// `2 ^ PRECISION`. In the row's table, symbol 1 has the interval. The call needs no memory.
 #[inline]
 pub fn row_of_one<P: BitArray, const PRECISION: usize>(lefts: &[P], ps: &[P]) -> Option<[P; 3]>
@@ -95,7 +95,7 @@ pub fn row_of_one<P: BitArray, const PRECISION: usize>(lefts: &[P], ps: &[P]) ->
     }
 }
 
-/// Returns whether the interval from `left` of length `p` isn't empty and ends at most at `2 ^ PRECISION`.
+/// Returns whether the interval `[left, left + p)` isn't empty, and `left + p` is at most `2 ^ PRECISION`.
 fn is_interval<P: BitArray, const PRECISION: usize>(left: P, p: P) -> bool
     requires { (1 ≤ PRECISION) × (PRECISION ≤ P.BITS) }
     ensures { IsTrue result ↔ IsIntervalWithin PRECISION (P.number left) (P.number p) }
@@ -107,7 +107,9 @@ fn is_interval<P: BitArray, const PRECISION: usize>(left: P, p: P) -> bool
     !last.minus(left).is_below(p.minus(P::unit()))
 }
 
-/// Returns whether each start in `lefts` and its length in `ps` make an interval of the numbers below `2 ^ PRECISION`.
+/// Returns whether no interval `[lefts[i], lefts[i] + ps[i])` is empty or ends past `2 ^ PRECISION`.
+///
+/// The caller proves that the two lists have the same length.
 fn are_intervals<P: BitArray, const PRECISION: usize>(lefts: &[P], ps: &[P]) -> bool
     requires sizes { (1 ≤ PRECISION) × (PRECISION ≤ P.BITS) }
     requires counted { length lefts.now ≡ length ps.now }
@@ -121,7 +123,7 @@ fn are_intervals<P: BitArray, const PRECISION: usize>(lefts: &[P], ps: &[P]) -> 
     true
 }
 
-/// Returns the number of quantiles above the interval from `left` of length `p`.
+/// Returns the number of quantiles above the interval `[left, left + p)`, which is `2 ^ PRECISION - left - p`.
 fn above<P: BitArray, const PRECISION: usize>(left: P, p: P) -> P
     requires sizes { (1 ≤ PRECISION) × (PRECISION ≤ P.BITS) }
     requires interval { IsIntervalWithin PRECISION (P.number left) (P.number p) }

@@ -28,8 +28,8 @@ pub use weights::Weights;
 /// The models of a list of symbols, with one model for each symbol.
 ///
 /// A caller selects an index of the list with `turn_to`, and `model` then returns the model at that index. So an
-/// implementor can keep one model in memory, and change it at each `turn_to`. The implementor defines the list of all
-/// tables (`tables`). It proves that the model that `model` returns has the table at the selected index.
+/// implementor can keep one model in memory, and change the model at each `turn_to`. The implementor defines the list
+/// of all tables (`tables`). It proves that the model that `model` returns has the table at the selected index.
 pub trait ModelList<P: BitArray, const PRECISION: usize>: Drop {
     /// The type of the models.
     type Model: EncoderModel<PRECISION, Symbol = usize, Probability = P>
@@ -54,13 +54,13 @@ pub trait ModelList<P: BitArray, const PRECISION: usize>: Drop {
             ≡ get_or (tables self.now) (turned_to self.now) (Self.Model.table result.now) };
 }
 
-/// A caller's arguments, which make the models of a list of symbols.
+/// A caller's arguments that describe the models of a list of symbols.
 ///
-/// An implementor is one form of these arguments. Its definition `coded` states which arguments are valid, and which
-/// models the valid arguments make. The implementor proves three facts:
+/// An implementor is one form of these arguments. The implementor's definition `coded` states which arguments are
+/// valid, and which models valid arguments describe. The implementor proves three facts:
 ///
-/// - `check` refuses exactly the arguments that aren't valid.
-/// - `know` decides whether each model has an entry for its symbol.
+/// - `check` returns an error if and only if the arguments aren't valid.
+/// - `know` returns whether each model has an entry for its symbol.
 /// - `list` returns the models.
 pub trait Models<P: BitArray, const PRECISION: usize> {
     /// The type of the list of models.
@@ -69,12 +69,12 @@ pub trait Models<P: BitArray, const PRECISION: usize> {
     // The symbols with their models, and which arguments are valid.
     ghost coded: { Self → List ℕ → Coded };
 
-    /// Checks that the caller's arguments make a model for each symbol. The call needs no memory.
+    /// Checks that the caller's arguments describe a model for each symbol. The call needs no memory.
     ///
     /// # Errors
     ///
     /// The call checks for `WrongLength`, `WrongInterval` and `WrongWeights`, in this order. [`Refusal`] lists the
-    /// cases of each error. `coded` states which cases an implementor has. The call fails exactly in these cases.
+    /// cases of each error. `coded` states which cases an implementor has. The call fails in no other case.
     fn check(&self, symbols: &[usize]) -> Result<(), Refusal>
         requires { (1 ≤ PRECISION) × (PRECISION ≤ P.BITS) }
         ensures { AsksFit PRECISION (coded self.now symbols.now) (Else Never) result };
@@ -86,7 +86,7 @@ pub trait Models<P: BitArray, const PRECISION: usize> {
         requires { AreFit PRECISION (coded self.now symbols.now) }
         ensures { IsTrue result ↔ AreKnown (items PRECISION (coded self.now symbols.now)) };
 
-    /// Returns the models of the symbols, or `None` if there is no memory for them.
+    /// Returns the models of the symbols, or `None` if there is no memory for the models.
     ///
     /// `divides` is true if the caller's coder divides by weights, as the stack coder and the chain coder do when they
     /// encode. Then the models may keep the reciprocals of the weights. The caller proves that `check` would succeed.
@@ -98,7 +98,7 @@ pub trait Models<P: BitArray, const PRECISION: usize> {
             (Self.List.tables list)) };
 }
 
-/// A list of models for symbols that all have the same model. It keeps that model once.
+/// A list of models for symbols that all have the same model. The list stores the model once.
 ///
 /// # Examples
 ///
@@ -139,7 +139,7 @@ impl<
     }
 }
 
-/// A list of models that keeps a separate model for each symbol.
+/// A list of models that stores a separate model for each symbol.
 ///
 /// # Examples
 ///

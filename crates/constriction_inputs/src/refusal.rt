@@ -14,7 +14,7 @@ pub enum Refusal {
     /// A model has no entry for its symbol.
     #[error("impossible symbol")]
     ImpossibleSymbol,
-    /// The numbers that the caller passed make no model, no weights or no Huffman tree. The cases are:
+    /// The caller's weights, counts or parameters don't describe a model or a Huffman tree. The cases are:
     ///
     /// - The weights of a table don't add up to `2 ^ PRECISION`.
     /// - No family has the caller's family number, or a scale is 0.
@@ -23,7 +23,8 @@ pub enum Refusal {
     /// - A Huffman tree has no weights or too many, or the sum of its weights doesn't fit their type.
     #[error("wrong weights")]
     WrongWeights,
-    /// An interval is empty or ends past `2 ^ PRECISION`, or a range has too few or too many symbols.
+    /// An interval is empty or ends past `2 ^ PRECISION`. Or a range has fewer than two or more than `2 ^ PRECISION`
+    /// symbols.
     #[error("wrong interval")]
     WrongInterval,
     /// A number of words in use, or a position, is past the end of its buffer. Or the lengths of two lists don't match.
@@ -32,15 +33,15 @@ pub enum Refusal {
     /// The buffer is too short. The number in the variant is the number of words that the buffer has to hold.
     #[error("no space: {0} words are needed")]
     NoSpace(usize),
-    /// There is no memory.
+    /// There is no memory, or the number of words that a buffer has to hold doesn't fit a `usize`.
     #[error("out of memory")]
     NoMemory,
-    /// No state of a coder has the words or the numbers that the caller passed.
+    /// The words or the numbers that the caller passed aren't a state of the coder.
     ///
-    /// A call also returns this error if the words don't encode as many symbols as the caller asks for.
+    /// A call also returns this error if it finds that the words don't encode the symbols that the caller asks for.
     #[error("invalid data")]
     InvalidData,
-    /// The words ended before all symbols were decoded.
+    /// The words end before the call has decoded all symbols.
     #[error("out of data")]
     OutOfData,
 }

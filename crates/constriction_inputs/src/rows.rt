@@ -15,9 +15,9 @@ use std::alloc::{AllocError, Global};
 
 /// A model of the symbols `0`, `1`, .. that borrows their weights.
 ///
-/// The intervals lie in the order of the list. The length of each interval is its symbol's weight. A symbol of weight 0
-/// and a number past the end of the list have no interval. Each look-up adds up the weights from the beginning of the
-/// list.
+/// The intervals are in the order of the symbols. The length of each interval is its symbol's weight. A symbol of
+/// weight 0 and a symbol past the end of the list have no interval. Each look-up adds up the weights from the beginning
+/// of the list.
 ///
 /// # Examples
 ///
@@ -35,9 +35,9 @@ pub struct Row<'a, P: BitArray, const PRECISION: usize> {
 }
 
 impl<'a, P: BitArray, const PRECISION: usize> Row<'a, P, PRECISION> {
-    /// Creates the model of `weights`, or returns `None` if they don't add up to `2 ^ PRECISION`.
+    /// Creates the model of `weights`, or returns `None` if the weights don't add up to `2 ^ PRECISION`.
     ///
-    /// [`Row`] has an example.
+    /// See [`Row`] for an example.
     pub fn new(weights: &'a [P]) -> Option<Self>
         requires { (1 ≤ PRECISION) × (PRECISION ≤ P.BITS) }
         ensures ok { IfSome result
@@ -53,7 +53,7 @@ impl<'a, P: BitArray, const PRECISION: usize> Row<'a, P, PRECISION> {
         }
     }
 
-    /// Creates the model of `weights` without adding them up. The caller proves that their sum is `2 ^ PRECISION`.
+    /// Creates the model of `weights` without a check. The caller proves that the weights add up to `2 ^ PRECISION`.
     pub fn of_total(weights: &'a [P]) -> Self
         requires sizes { (1 ≤ PRECISION) × (PRECISION ≤ P.BITS) }
         requires total { IsTotal PRECISION (map P.number weights.now) }
@@ -69,7 +69,7 @@ impl<'a, P: BitArray, const PRECISION: usize> Row<'a, P, PRECISION> {
 ///
 /// # Errors
 ///
-/// Returns `AllocError` if there is no memory.
+/// Returns `AllocError` if there is no memory for the list of models.
 pub fn total_rows<'a, P: BitArray, const PRECISION: usize>(
     alloc: Global,
     weights: &'a [P],

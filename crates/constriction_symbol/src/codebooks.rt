@@ -26,7 +26,7 @@ pub trait Codebook: Drop {
     /// The codeword of a symbol in reading order (its prefix form). It is `None` if the symbol has no codeword.
     ghost codeword: { Self → Self.Symbol → Option (List Bool) };
 
-    /// Holds for two symbols that mean the same.
+    /// Holds if two symbols mean the same.
     ghost is_same: { Self → Self.Symbol → Self.Symbol → Type 0 };
 
     // Symbols that mean the same have the same codeword.
@@ -51,10 +51,10 @@ pub trait EncoderCodebook: Codebook {
     ///
     /// # Errors
     ///
-    /// - `Frontend(ImpossibleSymbol)` exactly if the symbol has no codeword. Nothing was emitted.
-    /// - `Backend(error)` if `emit` returns this error. `emit` got the codeword's bits up to and including the bit that
-    ///   it refused.
-    /// - `Backend(error)`, made from an `AllocError`, if memory is needed and not available. Nothing was emitted.
+    /// - `Frontend(ImpossibleSymbol)` if and only if the symbol has no codeword. The call emits nothing.
+    /// - `Backend(error)` if `emit` returns this error. The call emits the codeword's bits up to and including the bit
+    ///   that `emit` refused.
+    /// - `Backend(E::from(AllocError))` if the call needs memory and there is none. The call emits nothing.
     fn encode_symbol_prefix<E: From<AllocError>, F: FnMut(bool) -> Result<(), E>>(
         &self,
         symbol: &Self::Symbol,
@@ -80,8 +80,9 @@ pub trait EncoderCodebook: Codebook {
 
     /// Returns the whole codeword of the symbol in one word, and the codeword's length in bits.
     ///
-    /// The codeword is in the lowest bits of the word, first bit highest. So a coder can write it with one shift. The
-    /// default implementation returns `None`. A symbol for which the call returns `None` may still have a codeword.
+    /// The codeword is in the lowest bits of the word, and its first bit is the highest of them. The codeword's length
+    /// is at least 1 and below `Word::BITS`. So a coder can write the codeword with one shift. The default
+    /// implementation returns `None`. A symbol for which the call returns `None` may still have a codeword.
     #[inline]
     fn codeword_at_once<Word: BitArray>(&self, symbol: &Self::Symbol) -> Option<(Word, u32)>
         ensures { IfSome result (λ found.
@@ -99,7 +100,7 @@ pub trait BitOrder: Semantics {
     /// Converts a codeword in the lowest `count` bits of a word to writing order.
     ///
     /// In `bits` the codeword's first bit is the highest of the `count` bits. In the result the bit to write first is
-    /// the lowest.
+    /// the lowest. The caller proves that `count` is at most `Word::BITS`, and that all higher bits of `bits` are 0.
     fn in_order<Word: BitArray>(bits: Word, count: u32) -> Word
         requires within { count ≤ Word.BITS }
         requires small { Word.number bits < 2 ^ count }
@@ -171,7 +172,7 @@ impl BitOrder for Stack {
     }
 }
 
-/// The reason why a codebook can't decode a symbol from the bits.
+/// The reason why a codebook can't decode a symbol from a stream of bits.
 #[derive(Debug, Drop, Error)]
 #[error_bound(InvalidCodeword: Display)]
 pub enum SymbolCodeError<InvalidCodeword> {
@@ -195,9 +196,9 @@ impl<InvalidCodeword> SymbolCodeError<InvalidCodeword> {
 /// A codebook for decoding, which reads symbols from bits.
 ///
 /// An implementor defines after which bits the codebook reads another bit (`reads_on`), and which bits are invalid
-/// (`is_invalid`). It proves two laws. The codebook reads on only while no codeword is complete. Invalid bits don't
-/// begin with a codeword, even if more bits are appended to them. So if the bits begin with a codeword, a decode
-/// returns the codeword's symbol and reads exactly the codeword's bits.
+/// (`is_invalid`). The implementor proves two laws. The codebook reads on only while no codeword is complete. Invalid
+/// bits don't begin with a codeword, whatever bits follow them. So if the bits begin with a codeword, a decode returns
+/// the codeword's symbol and reads exactly the codeword's bits.
 pub trait DecoderCodebook: Codebook {
     /// The error for bits that begin with no codeword.
     type InvalidCodeword;
@@ -208,11 +209,11 @@ pub trait DecoderCodebook: Codebook {
     /// Holds if the codebook stops after these bits with this error.
     ghost is_invalid: { Self → List Bool → Self.InvalidCodeword → Type 0 };
 
-    /// Reads the bits of the next codeword, and returns its symbol.
+    /// Reads the bits of the next codeword, and returns the codeword's symbol.
     ///
     /// # Errors
     ///
-    /// After each error, the bits read so far stay read.
+    /// After an error, the source continues after the last bit read.
     ///
     /// - `Frontend(OutOfCompressedData)` if the bits end before a codeword is complete.
     /// - `Frontend(InvalidCodeword(error))` if no codeword begins with the bits read.
@@ -229,9 +230,9 @@ pub trait DecoderCodebook: Codebook {
 
     /// Looks up the codeword that the `count` highest bits of `bits` begin with. The highest bit comes first.
     ///
-    /// Returns the codeword's symbol and length, but only if the length is below `count`. So a coder can drop the
-    /// codeword's bits with one shift. The default implementation returns `None`. Bits for which the call returns
-    /// `None` may still begin with a codeword.
+    /// Returns the codeword's symbol, and the codeword's length in bits. The length is at least 1 and below `count`. So
+    /// a coder can drop the codeword's bits with one shift. The default implementation returns `None`. Bits for which
+    /// the call returns `None` may still begin with a codeword. The caller proves that `count` is at most `Word::BITS`.
     #[inline]
     fn symbol_at_once<Word: BitArray>(&self, bits: Word, count: u32) -> Option<(Self::Symbol, u32)>
         requires { count ≤ Word.BITS }

@@ -1,8 +1,8 @@
 //! Bit coders: lists of bits that are stored in words and grow at their end.
 //!
-//! A queue is read from its beginning, a stack from its end.
+//! A queue returns its bits from the first to the last. A stack returns its bits from the last to the first.
 //!
-//! - [`words`]: importing and exporting words.
+//! - [`words`]: import and export of words.
 //! - [`decoders`]: conversion of a coder to a reader of its bits.
 //! - [`equality`]: equality of coders.
 //! - [`guard`]: guards that lend a coder's compressed words.
@@ -27,10 +27,10 @@ use smallvec::SmallVec;
 use std::alloc::{AllocError, Global};
 use std::marker::{Model, PhantomData};
 
-/// A list of bits that is stored in words of type `Word`.
+/// A list of bits that is stored in words of type `Word`: a [`StackCoder`], or a [`QueueEncoder`].
 ///
-/// Bits fill a word from its lowest bit to its highest. The coder writes a full word to the backend when the next bit
-/// is appended, not earlier.
+/// Bits fill a word from its lowest bit to its highest. The coder writes a full word to the backend only when the
+/// caller appends the next bit.
 ///
 /// Contracts describe the coder by a `BitsValue`: all bits, the bits of the word outside the backend, and the backend.
 ///
@@ -57,15 +57,15 @@ pub type StackCoder<Word, B = Vec<Word>> = SymbolCoder<Word, Stack, B>;
 /// A [`QueueDecoder`](crate::queue::QueueDecoder) over the encoder's words reads the bits from first to last.
 pub type QueueEncoder<Word, B = Vec<Word>> = SymbolCoder<Word, Queue, B>;
 
-/// A stack of bits over 32-bit words.
+/// A stack of bits that is stored in 32-bit words.
 pub type DefaultStackCoder<B = Vec<u32>> = StackCoder<u32, B>;
 
-/// A queue of bits over 32-bit words, for writing.
+/// A queue of bits, for writing, that is stored in 32-bit words.
 pub type DefaultQueueEncoder<B = Vec<u32>> = QueueEncoder<u32, B>;
 
 /// A stack of bits for one codeword.
 ///
-/// The first `2 * usize::BITS` bits need no allocation: one word is stored inside the backend, and one outside it.
+/// The first `2 * usize::BITS` bits need no allocation: one word is inline in the backend, and one is outside it.
 pub type SmallBitStack = StackCoder<usize, SmallVec<usize, 1>>;
 
 impl<Word: BitArray, S: Semantics, B: Holds<Word, Stack>> Model for SymbolCoder<Word, S, B> {
@@ -81,7 +81,7 @@ impl<Word: BitArray, S: Semantics, B: Holds<Word, Stack>> Model for SymbolCoder<
 }
 
 impl<Word: BitArray, S: Semantics> SymbolCoder<Word, S, Vec<Word>> {
-    /// Creates a coder without bits.
+    /// Creates an empty coder.
     ///
     /// The call allocates nothing. Later the coder allocates memory for its words from `alloc`.
     #[inline]
@@ -98,7 +98,7 @@ impl<Word: BitArray, S: Semantics> SymbolCoder<Word, S, Vec<Word>> {
 }
 
 impl<Word: BitArray> StackCoder<Word, Vec<Word>> {
-    /// Creates a stack without bits, with memory for `bit_capacity` bits and the 1 that an export appends.
+    /// Creates an empty stack, with memory for `bit_capacity` bits and the 1 that an export appends.
     ///
     /// # Errors
     ///
@@ -117,7 +117,7 @@ impl<Word: BitArray> StackCoder<Word, Vec<Word>> {
 }
 
 impl<Word: BitArray> QueueEncoder<Word, Vec<Word>> {
-    /// Creates a queue without bits, with memory for `bit_capacity` bits. A capacity of 0 needs no memory.
+    /// Creates an empty queue, with memory for `bit_capacity` bits. A capacity of 0 needs no memory.
     ///
     /// # Errors
     ///
@@ -138,9 +138,10 @@ impl<Word: BitArray> QueueEncoder<Word, Vec<Word>> {
 
 /// The constructor of a [`SmallBitStack`].
 ///
-/// It is a trait because an inherent `StackCoder::new` would be ambiguous beside `SymbolCoder::new` for vectors.
+/// The constructor is in a trait, because an inherent `StackCoder::new` would be ambiguous beside `SymbolCoder::new`
+/// for vectors.
 pub trait NewSmallStack {
-    /// Creates a stack without bits.
+    /// Creates an empty stack.
     ///
     /// The first `2 * usize::BITS` bits need no allocation. The stack allocates memory for further words from `alloc`.
     fn new(alloc: Global) -> Self;
@@ -168,7 +169,7 @@ impl<Word: BitArray, S: Semantics, B: BoundedReadWords<Word, Stack>> SymbolCoder
         self.backend.remaining() <= (usize::MAX - last) / Word::BITS as usize
     }
 
-    /// Returns the number of bits. The caller proves that it fits a `usize` (see [`SymbolCoder::len_fits`]).
+    /// Returns the number of bits. The caller proves that this number fits a `usize` (see [`SymbolCoder::len_fits`]).
     pub fn len(&self) -> usize
         requires { length self.now.bits < 0x1_0000_0000_0000_0000 }
         ensures { result ≡ length self.now.bits }
@@ -176,7 +177,7 @@ impl<Word: BitArray, S: Semantics, B: BoundedReadWords<Word, Stack>> SymbolCoder
         self.backend.remaining() * Word::BITS as usize + self.last.count() as usize
     }
 
-    /// Returns whether there are no bits.
+    /// Returns whether the coder has no bits.
     pub fn is_empty(&self) -> bool
         ensures { IsTrue result ↔ (self.now.bits ≡ []) }
     {
@@ -203,7 +204,7 @@ impl<Word: BitArray, S: Semantics, B: WriteWords<Word>> SymbolCoder<Word, S, B> 
 }
 
 impl<Word: BitArray, B: ReadWords<Word, Stack>> StackCoder<Word, B> {
-    /// Removes the last bit and returns it, or returns `None` if there are no bits.
+    /// Removes the last bit and returns it, or returns `None` if the stack is empty.
     ///
     /// If the word outside the backend has no bit left, the call first reads the next word from the backend.
     ///
@@ -218,7 +219,7 @@ impl<Word: BitArray, B: ReadWords<Word, Stack>> StackCoder<Word, B> {
     }
 }
 
-/// Iterates over the bits, from last to first. The iteration continues after an error of the backend.
+/// Iterates over the bits, from last to first. The iteration continues after the backend returns an error.
 impl<Word: BitArray, B: ReadWords<Word, Stack> + Drop> Iterator for StackCoder<Word, B> {
     type Item = Result<bool, B::ReadError>;
 
@@ -249,7 +250,7 @@ impl<Word: BitArray, S: Semantics, B: Holds<Word, Stack> + Clone> Clone
     ///
     /// # Errors
     ///
-    /// Returns `AllocError` only if cloning the backend fails.
+    /// Returns `AllocError` if cloning the backend fails.
     fn clone(&self) -> Result<Self, AllocError> {
         let backend = self.backend.clone()?;
         Ok(SymbolCoder {

@@ -1,6 +1,6 @@
 //! Functions that pass zeros, or the bits of a word, to `emit`.
 //!
-//! Each function stops at the first error of `emit`, and returns the error as `Backend`.
+//! Each function stops when `emit` returns an error, and returns `Backend(error)`.
 
 ghost use Rattle.std.specs.Prelude.{◌≤◌, ◌∷◌, ◌++◌, true, false, [], replicate, reverse};
 ghost use Rattle.constriction_symbol.specs.Bits.{bits_of};
@@ -49,7 +49,7 @@ pub fn emit_down<Word: BitArray, E, F: FnMut(bool) -> Result<(), E>>(
     Ok(())
 }
 
-/// Emits the lowest `count` bits of `word`, lowest first, or all its bits and then zeros up to `count` bits.
+/// Emits the lowest `count` bits of `word`, lowest first. If `count` exceeds `Word::BITS`, the further bits are zeros.
 pub fn emit_up<Word: BitArray, E, F: FnMut(bool) -> Result<(), E>>(
     word: Word,
     count: u32,
@@ -90,7 +90,7 @@ pub fn emit_lone<E, F: FnMut(bool) -> Result<(), E>>(
     emit_zeros(count, emit)
 }
 
-/// Passes `bit` to `emit`. If `emit` returns an error, the call returns this error as `Backend(error)`.
+/// Passes `bit` to `emit`. If `emit` returns an error, the call returns `Backend(error)`.
 pub fn emit_bit<E, F: FnMut(bool) -> Result<(), E>>(
     bit: bool,
     emit: &mut F,

@@ -172,15 +172,15 @@ impl<N: BitArray> DecoderCodebook for ExpGolomb<N> {
     ghost invalid_law = { λ c bits e invalid rest n code tail.
         known_invalid N.BITS (N.number n) bits rest code tail (N.number_law n) invalid };
 
-    /// Reads the bits of a codeword, and returns its number.
+    /// Reads the bits of a codeword, and returns the codeword's number.
     ///
     /// # Errors
     ///
-    /// After each error, the bits read so far stay read. Below, `B` is `N::BITS`.
+    /// After an error, the source continues after the last bit read. Below, `B` is `N::BITS`.
     ///
-    /// - `Frontend(InvalidCodeword(..))` exactly if `B + 1` zeros come first, or `B` zeros, a 1, and `B` bits that
-    ///   aren't all 0. All of these bits were read.
-    /// - `Frontend(OutOfCompressedData)` exactly if the bits end before a codeword is complete.
+    /// - `Frontend(InvalidCodeword(..))` if the call reads `B + 1` zeros, or `B` zeros, a 1, and `B` bits that aren't
+    ///   all 0.
+    /// - `Frontend(OutOfCompressedData)` if the bits end before a codeword is complete.
     /// - `Backend(error)` if the source returns this error in place of a bit.
     #[inline]
     fn decode_symbol<E, I: Iterator<Item = Result<bool, E>>>(
@@ -215,7 +215,7 @@ impl<N: BitArray> DecoderCodebook for ExpGolomb<N> {
     /// Decodes the codeword that the `count` highest bits of `bits` begin with.
     ///
     /// Returns the number, and the length of its codeword in bits. Returns `None` for the greatest number of type `N`,
-    /// and for codewords of `count` bits or more.
+    /// for codewords of `count` bits or more, and for bits that begin with no codeword.
     #[inline]
     fn symbol_at_once<Word: BitArray>(&self, bits: Word, count: u32) -> Option<(N, u32)> {
         let zeros = Word::BITS - bits.bit_length();

@@ -18,8 +18,8 @@ use std::marker::PhantomData;
 
 /// An iterator that decodes one symbol for each codebook.
 ///
-/// The iterator is lazy: it decodes a symbol only when `next` is called. It continues after an error. When the iterator
-/// is dropped, the stream is positioned after the symbols returned so far. [`ReadBitStream::decode_symbols`] and
+/// The iterator is lazy: each call of `next` decodes one symbol. The iterator continues after an error. Dropping the
+/// iterator leaves the stream positioned after the symbols returned so far. [`ReadBitStream::decode_symbols`] and
 /// [`ReadBitStream::decode_iid_symbols`] return this iterator.
 ///
 /// # Examples
@@ -35,7 +35,7 @@ pub struct DecodeSymbols<'a, Stream, I, S: Semantics> {
     pub bit_stream: &'a mut Stream,
     /// The codebooks of the symbols still to come.
     pub codebooks: I,
-    /// The order in which the stream is read.
+    /// The order in which the stream returns its bits.
     pub semantics: PhantomData<S>,
 }
 

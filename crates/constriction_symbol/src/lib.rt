@@ -1,9 +1,9 @@
 //! Symbol codes: bits packed in words, and codebooks, which assign a list of bits to each symbol.
 //!
 //! A bit coder holds a list of bits in words. A codebook assigns a codeword, which is a list of bits, to each of its
-//! symbols. No codeword is a prefix of another, so codewords need no separators. Encoding a symbol appends its
-//! codeword. A queue returns the symbols in the order of writing. A stack returns the last symbol first. One stream can
-//! mix codebooks.
+//! symbols. No codeword is a prefix of another, so codewords need no separators. Encoding a symbol appends the symbol's
+//! codeword. A queue returns the symbols in the order in which the caller encoded them. A stack returns the last symbol
+//! first. One stream can mix codebooks.
 //!
 //! ```
 //! let mut encoder = DefaultQueueEncoder::new(alloc);
@@ -17,7 +17,7 @@
 //! # Modules
 //!
 //! - [`codebooks`]: the traits of codebooks, and the error of a decode.
-//! - [`coder`]: `SymbolCoder`, which is a queue for writing or a stack; import and export of words; guards.
+//! - [`coder`]: `SymbolCoder`, a queue for writing or a stack of bits; import and export of words; guards.
 //! - [`queue`]: `QueueDecoder`, which reads the bits of words.
 //! - [`writing`], [`reading`]: streams of bits that encode and decode symbols, with list calls.
 //! - [`reversed`]: emits the prefix form of codewords that a codebook finds from the last bit to the first.
@@ -33,7 +33,7 @@
 //! - `specs/Codewords.antt`: emitting, writing and reading codewords.
 //! - `specs/Golomb.antt`: Exp-Golomb codewords.
 //! - `specs/Huffman.antt`: the tree that results from merging the weights, and the tree's codewords.
-//! - `specs/Merging.antt`: which weights make a tree, and the error for other weights.
+//! - `specs/Merging.antt`: the weights from which a tree can be built, and the errors for other weights.
 #![tactic(auto)]
 
 pub mod codebooks;

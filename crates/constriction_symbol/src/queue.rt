@@ -32,7 +32,7 @@ pub struct QueueDecoder<Word: BitArray, B: Holds<Word, Queue>> {
     pub(crate) last: WordBits<Word>,
 }
 
-/// A decoder for the bits of 32-bit words.
+/// A decoder for the bits of a backend's 32-bit words.
 pub type DefaultQueueDecoder<B = Cursor<u32, Vec<u32>>> = QueueDecoder<u32, B>;
 
 impl<Word: BitArray, B: Holds<Word, Queue>> Model for QueueDecoder<Word, B> {
@@ -86,8 +86,8 @@ impl<Word: BitArray, B: ReadWords<Word, Queue>> QueueDecoder<Word, B> {
 
     /// Returns whether the unread bits may all be padding.
     ///
-    /// Returns `true` exactly if the unread bits of the word read last are all 0, and the backend's `maybe_exhausted`
-    /// returns `true`.
+    /// Returns `true` if and only if the unread bits of the word read last are all 0, and the backend's
+    /// `maybe_exhausted` returns `true`.
     pub fn maybe_exhausted(&self) -> bool
         ensures { IsTrue result ↔ (AreZeros self.now.last × IsTrue (B.seems_exhausted self.now.backend)) }
     {
@@ -95,7 +95,7 @@ impl<Word: BitArray, B: ReadWords<Word, Queue>> QueueDecoder<Word, B> {
     }
 }
 
-/// Iterates over the bits, from first to last. The iteration continues after an error of the backend.
+/// Iterates over the bits, from first to last. The iteration continues after the backend returns an error.
 impl<Word: BitArray, B: ReadWords<Word, Queue> + Drop> Iterator for QueueDecoder<Word, B> {
     type Item = Result<bool, B::ReadError>;
 
@@ -125,7 +125,7 @@ impl<Word: BitArray, B: Holds<Word, Queue> + Clone> Clone for QueueDecoder<Word,
     ///
     /// # Errors
     ///
-    /// Returns `AllocError` only if cloning the backend fails.
+    /// Returns `AllocError` if cloning the backend fails.
     fn clone(&self) -> Result<Self, AllocError> {
         let backend = self.backend.clone()?;
         Ok(QueueDecoder {

@@ -16,10 +16,10 @@ use std::marker::PhantomData;
 
 /// A stream of bits that decodes symbols.
 ///
-/// An implementor defines the list of unread bits (`unread`), and what a read may return (`gives`). It also defines
-/// whether reads return the bits of that list (`is_list`). It proves that each call follows these definitions. If
-/// `is_list` holds, it also proves that each read returns the first unread bit, `None` if no bit is unread, or an
-/// error.
+/// An implementor defines the list of unread bits (`unread`), what a read may return (`gives`), and whether reads
+/// return the bits of the list (`is_list`). The implementor proves that each call follows these definitions. If
+/// `is_list` holds, the implementor also proves that each read returns the first unread bit, `None` if no bit is
+/// unread, or an error.
 pub trait ReadBitStream<S: Semantics> {
     type ReadError;
 
@@ -36,16 +36,16 @@ pub trait ReadBitStream<S: Semantics> {
     ///
     /// # Errors
     ///
-    /// Returns the stream's error if the source of the bits refuses the read. If `is_list` holds, the unread bits are
-    /// then unchanged.
+    /// Returns the stream's error if the read from the source of the bits fails. If `is_list` holds, the unread bits
+    /// are then unchanged.
     fn read_bit(&mut self) -> Result<Option<bool>, Self::ReadError>
         ensures { gives self.old (item_of_answer result) self.new };
 
-    /// Reads the bits of a codeword, and returns its symbol.
+    /// Reads the bits of a codeword, and returns the codeword's symbol.
     ///
     /// # Errors
     ///
-    /// After each error, the bits read so far stay read.
+    /// After an error, the stream continues after the last bit read.
     ///
     /// - `Frontend(OutOfCompressedData)` if the bits end before a codeword is complete.
     /// - `Frontend(InvalidCodeword(error))` if no codeword begins with the bits read.
@@ -74,6 +74,8 @@ pub trait ReadBitStream<S: Semantics> {
     }
 
     /// Returns a lazy iterator that decodes `amt` symbols with one codebook. The iterator continues after an error.
+    ///
+    /// See [`DecodeSymbols`] for an example.
     final fn decode_iid_symbols<'a, C>(
         &'a mut self,
         amt: usize,
@@ -109,7 +111,7 @@ impl<Word: BitArray, B: ReadWords<Word, Stack> + Drop> ReadBitStream<Stack>
 
     ghost gives = { PopsBit Word.BITS Word.number B.is_list B.reads };
 
-    /// Removes the last bit and returns it, or returns `None` if there are no bits.
+    /// Removes the last bit and returns it, or returns `None` if the stack is empty.
     ///
     /// If the word outside the backend has no bit left, the call first reads the next word from the backend.
     #[inline]

@@ -1,11 +1,11 @@
 //! Emits codewords in prefix form, given a codebook that finds them from the last bit to the first.
 //!
-//! A codebook that climbs from the leaf of a tree to its root finds the bits in this order. [`reversed_codeword`] emits
-//! the prefix form of its codewords.
+//! A codebook that climbs from a leaf to the root of a tree finds the bits in this order. [`reversed_codeword`] emits
+//! the prefix form of such a codebook's codewords.
 //!
 //! A [`SmallBitStack`] reverses the bits. This stack holds two words of bits without allocating: the first word is
-//! inline in its small vector, the second word is outside the backend. The trait [`NewSmallStack`] has its constructor,
-//! because a second `StackCoder::new` would be ambiguous.
+//! inline in the small vector, and the second word is outside the backend. The stack's constructor is in the trait
+//! [`NewSmallStack`], because a second `StackCoder::new` would be ambiguous.
 
 ghost use Rattle.constriction_symbol.specs.Bits.{PutsBit};
 ghost use Rattle.constriction_symbol.specs.Codewords.{Emits, EmitsCodeword, formed};
@@ -28,8 +28,8 @@ pub trait SuffixCodebook: Codebook {
     ///
     /// # Errors
     ///
-    /// - `Frontend(ImpossibleSymbol)` exactly if the symbol has no codeword. Nothing was emitted.
-    /// - `Backend(error)` if `emit` returns this error. `emit` got the bits up to and including the bit that it
+    /// - `Frontend(ImpossibleSymbol)` if and only if the symbol has no codeword. The call emits nothing.
+    /// - `Backend(error)` if `emit` returns this error. The call emits the bits up to and including the bit that `emit`
     ///   refused.
     fn emit_suffix<E, F: FnMut(bool) -> Result<(), E>>(
         &self,
@@ -45,7 +45,7 @@ pub trait SuffixCodebook: Codebook {
 ///
 /// # Errors
 ///
-/// Returns the backend's error if the word outside the backend is full and the backend refuses it.
+/// Returns the backend's error if the word outside the backend is full and the backend refuses this word.
 #[inline]
 fn put<Word: BitArray, B: WriteWords<Word>>(
     stack: &mut StackCoder<Word, B>,
@@ -71,7 +71,7 @@ fn put_small(stack: &mut SmallBitStack, bit: bool) -> Result<(), AllocError>
     put(stack, bit)
 }
 
-/// Pops the last bit of a small stack, or returns `None` if there are no bits.
+/// Pops the last bit of a small stack, or returns `None` if the stack is empty.
 #[inline]
 fn take_small(stack: &mut SmallBitStack) -> Option<bool>
     ensures { MatchOption result (stack.old.bits ≡ []) (λ bit. stack.old.bits ≡ stack.new.bits ++ bit ∷ []) }
@@ -116,11 +116,11 @@ fn emit_taken<E, F: FnMut(bool) -> Result<(), E>>(
 ///
 /// # Errors
 ///
-/// - `Frontend(ImpossibleSymbol)` exactly if the symbol has no codeword. Nothing was emitted.
-/// - `Backend(error)` if `emit` returns this error. `emit` got the codeword's bits up to and including the bit that it
-///   refused.
-/// - `Backend(error)`, made from an `AllocError`, if there is no memory for a codeword of more than `2 * usize::BITS`
-///   bits. Nothing was emitted. Shorter codewords need no memory.
+/// - `Frontend(ImpossibleSymbol)` if and only if the symbol has no codeword. The call emits nothing.
+/// - `Backend(error)` if `emit` returns this error. The call emits the codeword's bits up to and including the bit that
+///   `emit` refused.
+/// - `Backend(E::from(AllocError))` if there is no memory for a codeword of more than `2 * usize::BITS` bits. The call
+///   emits nothing. Shorter codewords need no memory.
 ///
 /// # Examples
 ///

@@ -1,4 +1,4 @@
-//! Adding and removing bits of a coder, which are in the words of its backend and in the word outside the backend.
+//! Adds bits to a coder and removes them. The bits are in the backend's words and in the word outside the backend.
 
 ghost use Rattle.constriction_base.specs.Backends.{IsWrite};
 ghost use Rattle.constriction_base.specs.Iterators.{item_of_answer};
@@ -12,7 +12,8 @@ use constriction_words::BitArray;
 
 /// Appends `bit` to `last`, the word outside the backend.
 ///
-/// If `last` is full, the call first writes it to the backend, and `bit` begins the next word.
+/// If `last` is full, the call first writes `last` to the backend, and `bit` begins the next word. If the backend
+/// refuses the word, the call returns the backend's error, and `last` is unchanged.
 #[inline]
 pub fn put_last<Word: BitArray, B: WriteWords<Word>>(
     backend: &mut B,
@@ -37,8 +38,10 @@ pub fn put_last<Word: BitArray, B: WriteWords<Word>>(
 
 /// Appends the lowest `count` bits of `bits` to `last`, lowest first.
 ///
-/// If not all of them fit, the first bits fill `last`. The call writes the full word to the backend, and the remaining
-/// bits begin the next word. The caller proves that `0 < count < Word::BITS`, and that all higher bits of `bits` are 0.
+/// If `last` has no room for all of them, the first bits fill `last`. The call then writes the full word to the
+/// backend, and the remaining bits begin the next word. If the backend refuses the word, the call returns the backend's
+/// error, and `last` stays full. The caller proves that `0 < count < Word::BITS`, and that all higher bits of `bits`
+/// are 0.
 #[inline]
 pub fn put_bits<Word: BitArray, B: WriteWords<Word>>(
     backend: &mut B,
@@ -59,7 +62,7 @@ pub fn put_bits<Word: BitArray, B: WriteWords<Word>>(
     put_across(backend, last, bits, count)
 }
 
-/// Appends the lowest `count` bits of `bits`, which don't all fit in `last`.
+/// Appends the lowest `count` bits of `bits` to `last`, which has no room for all of them.
 #[inline]
 fn put_across<Word: BitArray, B: WriteWords<Word>>(
     backend: &mut B,

@@ -1,4 +1,4 @@
-//! Reading bits from an iterator of `Result`s of bits.
+//! Reads bits from an iterator of `Result`s of bits.
 
 ghost use Rattle.constriction_symbol.specs.Codewords.{GivesBits, StopsWithin};
 ghost use Rattle.constriction_symbol.specs.Taking.{CountsZeros, GivesNumber};
@@ -41,6 +41,10 @@ pub fn next_bit<V, E, I: Iterator<Item = Result<bool, E>>>(
 ///
 /// If more than `most` zeros come first, the call reads `most + 1` zeros and returns `None`. The caller proves that
 /// `most` is below 1000.
+///
+/// # Errors
+///
+/// Returns the errors of [`next_bit`].
 #[inline]
 pub fn count_zeros<V, E, I: Iterator<Item = Result<bool, E>>>(
     source: &mut I,
@@ -68,6 +72,10 @@ pub fn count_zeros<V, E, I: Iterator<Item = Result<bool, E>>>(
 /// Reads `count` bits, highest first, and returns `start * 2^count` plus the number that has these bits.
 ///
 /// The caller proves that the type `N` has room for the result: `(start + 1) * 2^count <= 2^N::BITS`.
+///
+/// # Errors
+///
+/// Returns the errors of [`next_bit`].
 #[inline]
 pub fn read_bits<V, N: BitArray, E, I: Iterator<Item = Result<bool, E>>>(
     source: &mut I,

@@ -1,4 +1,4 @@
-//! `TopBits`: the highest bits of a word, last bit highest. Appending or removing a bit shifts the word by one.
+//! `TopBits`: a list of bits in the highest bits of a word. Appending or removing a bit shifts the word by one bit.
 
 ghost use Rattle.constriction_symbol.specs.Bits.{TopWord, bits_of};
 ghost use Rattle.std.specs.Prelude.{IsTrue, List, MatchOption, [], if◌then◌else◌, length, take};
@@ -9,8 +9,8 @@ use std::marker::Model;
 
 /// A list of at most `Word::BITS` bits.
 ///
-/// The bits are the highest bits of `word`, last bit highest. The lowest `room` bits of `word` are unspecified.
-/// Contracts describe a `TopBits` by this list.
+/// The list is in the highest bits of `word`. The last bit of the list is the highest bit of `word`. The lowest `room`
+/// bits of `word` are unspecified. Contracts describe a `TopBits` by this list.
 #[derive(Debug, Drop)]
 pub struct TopBits<Word: BitArray> {
     word: Word,
@@ -82,7 +82,7 @@ impl<Word: BitArray> TopBits<Word> {
         Word::BITS - self.room as u32
     }
 
-    /// Returns whether there are no bits.
+    /// Returns whether the list is empty.
     #[inline]
     pub fn is_empty(&self) -> bool
         ensures { IsTrue result ↔ (self.now ≡ []) }
@@ -90,7 +90,7 @@ impl<Word: BitArray> TopBits<Word> {
         self.room == Word::BITS as usize
     }
 
-    /// Returns whether there is no room for another bit.
+    /// Returns whether the list is full, with `Word::BITS` bits.
     #[inline]
     pub fn is_full(&self) -> bool
         ensures full { IsTrue result ↔ (length self.now ≡ Word.BITS) }
@@ -99,7 +99,9 @@ impl<Word: BitArray> TopBits<Word> {
         self.room == 0
     }
 
-    /// Returns the bits as the lowest bits of a word, last bit highest. All other bits of the word are 0.
+    /// Returns a word that has the list in its lowest bits.
+    ///
+    /// The list's last bit is the highest of these bits. All other bits of the word are 0.
     #[inline]
     pub fn word(&self) -> Word
         ensures bits { bits_of (length self.now) (Word.number result) ≡ self.now }
@@ -114,7 +116,9 @@ impl<Word: BitArray> TopBits<Word> {
         }
     }
 
-    /// Returns the bits as the highest bits of a word, last bit highest. All other bits are unspecified.
+    /// Returns a word that has the list in its highest bits.
+    ///
+    /// The list's last bit is the highest bit of the word. All bits below the list are unspecified.
     #[inline]
     pub fn top_word(&self) -> Word
         ensures bits { bits_of (length self.now) (Word.number result / 2 ^ (Word.BITS - length self.now)) ≡ self.now }
@@ -133,7 +137,7 @@ impl<Word: BitArray> TopBits<Word> {
         self.room -= 1;
     }
 
-    /// Removes the last bit and returns it. The caller proves that there is a bit.
+    /// Removes the last bit and returns it. The caller proves that the list isn't empty.
     #[inline]
     pub fn pop(&mut self) -> bool
         requires { 0 < length self.old }
@@ -146,7 +150,7 @@ impl<Word: BitArray> TopBits<Word> {
         bit
     }
 
-    /// Returns the number of bits for which there is room.
+    /// Returns the number of bits that the list has room for.
     #[inline]
     pub fn room(&self) -> u32
         ensures { result + length self.now ≡ Word.BITS }
@@ -197,7 +201,7 @@ impl<Word: BitArray> TopBits<Word> {
     }
 }
 
-/// Returns `word` as the highest `count` bits of a word. The caller proves that `word` is below `2^count`.
+/// Returns a word with `word` in its highest `count` bits. The caller proves that `word` is below `2^count`.
 fn at_top<Word: BitArray>(word: Word, count: u32) -> Word
     requires within { count < Word.BITS }
     requires small { Word.number word < 2 ^ count }

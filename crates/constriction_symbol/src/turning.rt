@@ -1,4 +1,4 @@
-//! Reversing the bits of a word, and converting a number to another word type.
+//! Reverses the bits of a word, and converts a number to another word type.
 //!
 //! `BitArray` has no operation for these two tasks, so the functions loop over the bits. The compiler turns a loop of
 //! up to about twenty iterations into a few masks and shifts, or a move. So each function loops over one quarter

@@ -1,4 +1,4 @@
-//! `WordBits`: the bits of a word, which are removed from the lowest to the highest.
+//! `WordBits`: a list of bits of a word. Calls remove the bits from the lowest to the highest.
 
 ghost use Rattle.constriction_symbol.specs.Bits.{AreZeros, bits_of, top_bits};
 ghost use Rattle.std.specs.Prelude.{IsTrue, List, [], drop, length, reverse, ◌<◌, ◌≤◌, ◌∷◌, ◌^◌, ◌↔◌, ◌≡◌};
@@ -8,7 +8,7 @@ use crate::turning::turned;
 use constriction_words::BitArray;
 use std::marker::Model;
 
-/// A list of at most `Word::BITS` bits, which are removed from the first to the last.
+/// A list of at most `Word::BITS` bits. Calls remove the bits from the first to the last.
 ///
 /// The bits are stored in reverse order, so that the first bit is the highest of the stored word. Contracts describe
 /// a `WordBits` by this list.
@@ -65,7 +65,7 @@ impl<Word: BitArray> WordBits<Word> {
         self.turned.count()
     }
 
-    /// Returns whether there are no bits.
+    /// Returns whether the list is empty.
     #[inline]
     pub fn is_empty(&self) -> bool
         ensures { IsTrue result ↔ (self.now ≡ []) }
@@ -73,7 +73,9 @@ impl<Word: BitArray> WordBits<Word> {
         self.turned.is_empty()
     }
 
-    /// Returns the bits as the lowest bits of a word, first bit highest. All other bits of the word are 0.
+    /// Returns a word that has the list in its lowest bits.
+    ///
+    /// The list's first bit is the highest of these bits. All other bits of the word are 0.
     #[inline]
     pub fn turned_word(&self) -> Word
         ensures bits { reverse (bits_of (length self.now) (Word.number result)) ≡ self.now }
@@ -83,7 +85,9 @@ impl<Word: BitArray> WordBits<Word> {
         TopBits::word(&self.turned)
     }
 
-    /// Returns the bits as the highest bits of a word, first bit highest. All other bits are unspecified.
+    /// Returns a word that has the list in its highest bits.
+    ///
+    /// The list's first bit is the highest bit of the word. All bits below the list are unspecified.
     #[inline]
     pub fn turned_top(&self) -> Word
         ensures bits { top_bits Word.BITS (length self.now) (Word.number result) ≡ self.now }
@@ -92,7 +96,7 @@ impl<Word: BitArray> WordBits<Word> {
         self.turned.top_word()
     }
 
-    /// Removes the first bit and returns it. The caller proves that there is a bit.
+    /// Removes the first bit and returns it. The caller proves that the list isn't empty.
     #[inline]
     pub fn take_first(&mut self) -> bool
         requires { 0 < length self.old }

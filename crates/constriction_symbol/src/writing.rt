@@ -2,7 +2,7 @@
 //!
 //! In contracts, `PutsLast`, `PutsBits`, `ClosesStack` and `ClosesQueue` of `specs/Bits.antt` say which word each write
 //! passes to the backend. Their argument `write` is `IsWrite`, which relates the backend before a write, the word, the
-//! answer, and the backend after the write.
+//! write's result, and the backend after the write.
 
 ghost use Rattle.constriction_base.specs.Backends.{IsWrite};
 ghost use Rattle.constriction_symbol.specs.Bits.{PutsBit, PutsOnto};
@@ -41,7 +41,7 @@ pub trait WriteBitStream<S: BitOrder> {
     ///
     /// # Errors
     ///
-    /// Returns the stream's error if there is no room for the bit. The bits are then unchanged.
+    /// Returns the stream's error if the stream refuses the bit. The bits are then unchanged.
     fn write_bit(&mut self, bit: bool) -> Result<(), Self::WriteError>
         ensures bits { PutsBit (bits self.old) bit result (bits self.new) }
         ensures puts { puts self.old bit result self.new };
@@ -50,10 +50,10 @@ pub trait WriteBitStream<S: BitOrder> {
     ///
     /// # Errors
     ///
-    /// - `Frontend(ImpossibleSymbol)` exactly if the symbol has no codeword. The stream is unchanged.
-    /// - `Backend(error)` if the write of a bit fails with this error. Exactly the codeword's bits before that bit were
-    ///   written.
-    /// - `Backend(error)`, made from an `AllocError`, if the codebook needs memory and there is none. The stream is
+    /// - `Frontend(ImpossibleSymbol)` if and only if the symbol has no codeword. The stream is unchanged.
+    /// - `Backend(error)` if the write of a bit fails with this error. The call has written exactly the codeword's bits
+    ///   before that bit.
+    /// - `Backend(Self::WriteError::from(AllocError))` if the codebook needs memory and there is none. The stream is
     ///   unchanged.
     fn encode_symbol<C: EncoderCodebook>(
         &mut self,
@@ -153,7 +153,7 @@ trait BitSink {
     ///
     /// # Errors
     ///
-    /// Returns the receiver's error if there is no room for the bit. The bits are then unchanged.
+    /// Returns the receiver's error if the receiver refuses the bit. The bits are then unchanged.
     fn put_bit(&mut self, bit: bool) -> Result<(), Self::Refusal>
         ensures bits { PutsBit (bits self.old) bit result (bits self.new) }
         ensures puts { puts self.old bit result self.new };

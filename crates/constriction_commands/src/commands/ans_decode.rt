@@ -18,7 +18,7 @@ use constriction_stack::coder::words::CompressedDataEndsWithZeroWord;
 use constriction_stream::decoding::Decode;
 use std::alloc::Global;
 
-/// Decodes `count` symbols under `model`. Returns `OutOfMemory` if there is no memory for the symbols.
+/// Decodes `count` symbols with `model`. Returns `OutOfMemory` if there is no memory for the symbols.
 fn decode<M: DecoderModel<PRECISION, Symbol = usize, Probability = u32>>(
     alloc: Global,
     model: &M,
@@ -41,7 +41,7 @@ fn decode<M: DecoderModel<PRECISION, Symbol = usize, Probability = u32>>(
     Ok(symbols)
 }
 
-/// Decodes the words in the input `text`, and returns a line of the symbols.
+/// Decodes the words in the input `text`, and returns the symbols as a line of numbers.
 ///
 /// Line 1 of the input has the weights. Line 2 has the number of symbols, followed by the words.
 pub fn answer(alloc: Global, text: &[u8]) -> Result<Vec<u8>, Fault>

@@ -17,7 +17,7 @@ use constriction_stack::DefaultAnsCoder;
 use constriction_stream::encoding::Encode;
 use std::alloc::Global;
 
-/// Encodes `symbols` so that the first symbol is decoded first, and returns the words.
+/// Encodes `symbols` with `model`, and returns the words. A decoder returns the first symbol first.
 ///
 /// Returns a fault if a symbol is impossible, or if there is no memory.
 fn encode<M: EncoderModel<PRECISION, Symbol = usize, Probability = u32>>(
@@ -43,7 +43,7 @@ fn encode<M: EncoderModel<PRECISION, Symbol = usize, Probability = u32>>(
     Ok(coder.into_compressed()?)
 }
 
-/// Encodes the symbols in the input `text`, and returns a line of the words.
+/// Encodes the symbols in the input `text`, and returns the words as a line of numbers.
 ///
 /// Line 1 of the input has the weights, and line 2 has the symbols.
 pub fn answer(alloc: Global, text: &[u8]) -> Result<Vec<u8>, Fault>

@@ -18,7 +18,9 @@ use constriction_chain::{BackendError, DefaultChainCoder};
 use constriction_stream::decoding::Decode;
 use std::alloc::{AllocError, Global};
 
-/// Creates a chain coder from `words`. Returns `NoChain` if there are too few words, or if the last word is 0.
+/// Creates a chain coder from `words`.
+///
+/// Returns `NoChain` if there is no word, if the only word is below `2^8`, or if the last word is 0.
 fn coder_of(alloc: Global, words: Vec<u32>) -> Result<DefaultChainCoder, Fault>
     ensures ok { IfOk result (λ coder. IsChainOf (map (λ word. word % 2 ^ 32) words.items) coder.state) }
     ensures err { IfErr result (λ fault. (fault ≡ NoChain) × IsNoChain (map (λ word. word % 2 ^ 32) words.items)) }
@@ -30,7 +32,7 @@ fn coder_of(alloc: Global, words: Vec<u32>) -> Result<DefaultChainCoder, Fault>
     }
 }
 
-/// Decodes `count` symbols under `model`.
+/// Decodes `count` symbols with `model`.
 ///
 /// Returns `OutOfData` if a decode needs a word and none is left, or `OutOfMemory` if there is no memory.
 fn decode<M: DecoderModel<PRECISION, Symbol = usize, Probability = u32>>(
@@ -56,7 +58,7 @@ fn decode<M: DecoderModel<PRECISION, Symbol = usize, Probability = u32>>(
     Ok(symbols)
 }
 
-/// Returns three lines: `symbols`, `prefix` and `suffix`.
+/// Returns three lines of numbers, with `symbols`, `prefix` and `suffix`.
 fn three_lines(
     alloc: Global,
     symbols: &[usize],
@@ -73,10 +75,10 @@ fn three_lines(
     Ok(lines)
 }
 
-/// Decodes the words in the input `text`, and returns three lines.
+/// Decodes the words in the input `text`, and returns three lines of numbers.
 ///
 /// Line 1 of the input has the weights. Line 2 has the number of symbols, followed by the words. The lines returned
-/// have the symbols, the words that no decode used, and the words of the remainders.
+/// have the symbols, the words that no decode used, and the words of the remainders, in this order.
 pub fn answer(alloc: Global, text: &[u8]) -> Result<Vec<u8>, Fault>
     ensures ok { IfOk result (λ answer. IsChainSplit text.now answer.items) }
     ensures err { IfErr result (ChainSplitFails text.now) }

@@ -40,7 +40,7 @@ fn line_of_codewords(alloc: Global, numbers: &[u32]) -> Result<Vec<u8>, AllocErr
     Ok(line)
 }
 
-/// Encodes `numbers` to a queue of bits, and returns the queue's words.
+/// Encodes `numbers` into a queue of bits, and returns the queue's words.
 fn queue_of(alloc: Global, numbers: &[u32]) -> Result<Vec<u32>, AllocError>
     ensures { IfOk result
         (λ words. IsQueueWords 32 (flat_map golomb numbers.now) (map (λ word. word % 2 ^ 32) words.items)) }
@@ -49,7 +49,7 @@ fn queue_of(alloc: Global, numbers: &[u32]) -> Result<Vec<u32>, AllocError>
     for number in numbers {
         match coder.encode_symbol(number, ExpGolomb::<u32>::new()) {
             Ok(()) => {}
-            // Each number has a codeword, so there was no memory.
+            // Each number has a codeword, so the error means that there is no memory.
             Err(_) => return Err(AllocError),
         }
     }

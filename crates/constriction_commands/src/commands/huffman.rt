@@ -13,7 +13,8 @@ use std::alloc::{AllocError, Global};
 
 /// Builds the Huffman tree of the symbols 0, 1, .. with the weights `weights`.
 ///
-/// Returns a fault if there are no weights or too many, if their sum has more than 64 bits, or if there is no memory.
+/// Returns a fault if there are no weights or more than `2^62 - 1`, if the sum of the weights has more than 64 bits, or
+/// if there is no memory.
 fn make_tree(alloc: Global, weights: &[usize]) -> Result<EncoderHuffmanTree, Fault>
     ensures ok { IfOk result (λ tree. IsHuffman weights.now (book_of tree)) }
     ensures err { IfErr result (TreeFails weights.now) }
@@ -60,7 +61,7 @@ fn line_of_codewords(alloc: Global, tree: &EncoderHuffmanTree) -> Result<Vec<u8>
     Ok(line)
 }
 
-/// Builds the Huffman tree of the weights in the input `text`, and returns a line of its codewords.
+/// Builds the Huffman tree of the weights in the input `text`, and returns a line of the tree's codewords.
 ///
 /// Line 1 of the input has the weights of the symbols 0, 1, .. in order. The line returned has the codewords in the
 /// same order, as binary digits. A hyphen stands for the empty codeword.

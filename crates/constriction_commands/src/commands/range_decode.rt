@@ -32,9 +32,10 @@ fn decoder_of(words: &[u32]) -> Decoder<'_>
     }
 }
 
-/// Decodes `count` symbols under `model` from `words`. After the last word, the decoder reads zero words.
+/// Decodes `count` symbols with `model` from `words`. After the last word, the decoder reads words of value 0.
 ///
-/// Returns `InvalidData` if the words encode fewer symbols, or `OutOfMemory` if there is no memory for the symbols.
+/// Returns `InvalidData` if a decode finds no valid quantile in the words. Returns `OutOfMemory` if there is no memory
+/// for the symbols.
 fn decode<M: DecoderModel<PRECISION, Symbol = usize, Probability = u32>>(
     alloc: Global,
     model: &M,
@@ -60,7 +61,7 @@ fn decode<M: DecoderModel<PRECISION, Symbol = usize, Probability = u32>>(
     Ok(symbols)
 }
 
-/// Decodes the words in the input `text`, and returns a line of the symbols.
+/// Decodes the words in the input `text`, and returns the symbols as a line of numbers.
 ///
 /// Line 1 of the input has the weights. Line 2 has the number of symbols, followed by the words.
 pub fn answer(alloc: Global, text: &[u8]) -> Result<Vec<u8>, Fault>

@@ -1,8 +1,8 @@
 //! The command `range-encode`, which encodes symbols with a range coder.
 //!
-//! The code returns the fault `out of memory` if there are more than `2^64 - 18` symbols, which is the most that the
-//! encoder can count. No machine has the memory for so many symbols. But the language guarantees only that the length
-//! of a list is below `2^64`, so the case needs a fault.
+//! The encoder can count at most `2^64 - 18` symbols. If there are more, the command returns the fault `out of memory`.
+//! No machine has the memory for so many symbols. But the language guarantees only that the length of a list is below
+//! `2^64`, so the case needs a fault.
 
 ghost use Rattle.std.specs.Prelude.{◌≡◌, ◌%◌, ◌^◌, map, IfOk, IfErr};
 ghost use Rattle.constriction_base.specs.Models.{items_of};
@@ -21,7 +21,7 @@ use constriction_queue::DefaultRangeEncoder;
 use constriction_stream::encoding::Encode;
 use std::alloc::Global;
 
-/// Encodes `symbols` so that the first symbol is decoded first, and returns the words.
+/// Encodes `symbols` with `model`, and returns the words. A decoder returns the first symbol first.
 ///
 /// Returns a fault if a symbol is impossible, or if there is no memory.
 fn encode<M: EncoderModel<PRECISION, Symbol = usize, Probability = u32>>(
@@ -49,7 +49,7 @@ fn encode<M: EncoderModel<PRECISION, Symbol = usize, Probability = u32>>(
     Ok(coder.into_compressed()?)
 }
 
-/// Encodes the symbols in the input `text`, and returns a line of the words.
+/// Encodes the symbols in the input `text`, and returns the words as a line of numbers.
 ///
 /// Line 1 of the input has the weights, and line 2 has the symbols.
 pub fn answer(alloc: Global, text: &[u8]) -> Result<Vec<u8>, Fault>

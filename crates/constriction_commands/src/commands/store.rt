@@ -21,9 +21,10 @@ use std::alloc::Global;
 /// A store of 32-bit words.
 type Chunks = Store<u32, u64, Table, PRECISION>;
 
-/// Builds the store of `chunks` under `table`.
+/// Builds the store of `chunks` with the model `table`.
 ///
-/// Returns a fault if there are too many symbols, if a symbol is impossible, or if there is no memory.
+/// Returns a fault if the chunks have more than `2^20` symbols in total, if a symbol is impossible, or if there is no
+/// memory.
 fn store_of(alloc: Global, chunks: &[Vec<usize>], table: Table) -> Result<Chunks, Fault>
     ensures words { IfOk result (λ store. AreWordsOf (entries table) (lists_of chunks.now) store.words) }
     ensures held { IfOk result (λ store. HoldsChunks 32 64 (model_of store.model) store.words store.index
@@ -72,7 +73,7 @@ fn push_chunks(
 ///
 /// Line 1 of the input has the weights. Line 2 has the indices of the chunks to look up. The index of the first chunk
 /// is 0. Each further line has the symbols of one chunk. The first line returned has the words of the store. Each
-/// further line has the symbols of one chunk that was looked up, in the order of line 2.
+/// further line returned has the symbols of one chunk that the call looked up, in the order of line 2.
 pub fn answer(alloc: Global, text: &[u8]) -> Result<Vec<u8>, Fault>
     ensures ok { IfOk result (λ answer. IsStored text.now answer.items) }
     ensures err { IfErr result (StoreFails text.now) }

@@ -17,8 +17,8 @@ pub type Given = (Table, Vec<usize>, Vec<Vec<usize>>);
 ///
 /// Returns a fault in each of these cases:
 ///
-/// - A line isn't a list of numbers.
-/// - The weights don't make a table.
+/// - A line isn't a list of numbers that fit their type.
+/// - There are no weights, or the weights don't add up to `2^24`.
 /// - There is no memory.
 pub fn table_and_chunks(alloc: Global, text: &[u8]) -> Result<Given, Fault>
     ensures ok { IfOk result (λ given. GivesChunks text.now (⟦<Table as EntropyModel<PRECISION>>⟧.table given.0)

@@ -14,8 +14,8 @@ use std::alloc::Global;
 ///
 /// Returns a fault in each of these cases:
 ///
-/// - A line isn't a list of numbers.
-/// - The weights don't make a table.
+/// - A line isn't a list of numbers that fit their type.
+/// - There are no weights, or the weights don't add up to `2^24`.
 /// - There is no memory.
 pub fn table_and_symbols(alloc: Global, text: &[u8]) -> Result<(Table, Vec<usize>), Fault>
     ensures ok { IfOk result

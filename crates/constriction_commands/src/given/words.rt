@@ -13,7 +13,7 @@ use std::alloc::Global;
 
 /// The greatest count of symbols.
 ///
-/// The count is parsed as a 32-bit number, like the words. A greater count is a `bad number`, even if it fits 32 bits.
+/// [`table_and_words`] parses the count as a 32-bit number, like the words. A count above `MOST` is a `bad number`.
 const MOST: u32 = 16_777_216;
 
 /// Removes the first number from `numbers`, and returns it as the count of symbols.
@@ -42,9 +42,9 @@ fn take_count(numbers: &mut Vec<u32>) -> Result<u32, Fault>
 ///
 /// Returns a fault in each of these cases:
 ///
-/// - A line isn't a list of numbers.
+/// - A line isn't a list of numbers that fit their type.
 /// - The count is missing or above `MOST`.
-/// - The weights don't make a table.
+/// - There are no weights, or the weights don't add up to `2^24`.
 /// - There is no memory.
 pub fn table_and_words(alloc: Global, text: &[u8]) -> Result<(Table, u32, Vec<u32>), Fault>
     ensures ok { IfOk result

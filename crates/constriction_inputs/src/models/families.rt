@@ -24,14 +24,14 @@ pub type FamilyModel<P, const PRECISION: usize> = IndexedDistribution<
 
 /// Models of one family of distributions. Each symbol has its own location and scale, in multiples of `2^-16`.
 ///
-/// Item `i` of `locations` and item `i` of `scales` belong to symbol `i` of the list to encode or decode. A symbol is
-/// passed as its index in the range of integers from `min` to `max`. The index 0 stands for `min`. `family` is 0 for
-/// `Gaussian`, 1 for `Laplace` and 2 for `Logistic`.
+/// Item `i` of `locations` and item `i` of `scales` belong to symbol `i` of the list to encode or decode. The caller
+/// passes each symbol as an index into the range of integers from `min` to `max`. Index 0 stands for `min`. `family` is
+/// 0 for `Gaussian`, 1 for `Laplace` and 2 for `Logistic`.
 ///
 /// # Examples
 ///
 /// ```
-/// // Two symbols from -127 to 128 under Gaussian distributions of mean 0 and 3.5.
+/// // Two symbols from -127 to 128: Gaussians of means 0 and 3.5, and standard deviations 1 and 2.25.
 /// let families = Families::new(0, -127, 128, &[0, 229376], &[65536, 147456]);
 /// ```
 #[derive(Clone, Copy, Drop)]
@@ -79,7 +79,7 @@ impl<'a, P: WordOf<u32>, const PRECISION: usize> Models<P, PRECISION> for Famili
 }
 
 impl<'a> Families<'a> {
-    /// Collects the arguments for models of a family. The call doesn't check the arguments.
+    /// Creates a `Families` from its five fields, without checking them. See [`Families`] for an example.
     #[inline]
     pub fn new(family: u32, min: i32, max: i32, locations: &'a [i64], scales: &'a [u32]) -> Self
         ensures numbers { (result.family ≡ family) × (result.min ≡ min) × (result.max ≡ max) }
@@ -100,7 +100,7 @@ impl<'a> Families<'a> {
     ///
     /// The call returns the first of these errors whose condition holds, and no other error.
     ///
-    /// - `WrongLength`: the numbers of scales and of locations differ.
+    /// - `WrongLength`: `locations` and `scales` differ in length.
     /// - `WrongInterval`: the range has fewer than two or more than `2 ^ PRECISION` symbols.
     /// - `WrongWeights`: no family has the number `family`, or a scale is 0.
     pub fn quantizer<P: WordOf<u32>, const PRECISION: usize>(
@@ -166,7 +166,7 @@ fn are_above_zero(scales: &[u32]) -> bool
     true
 }
 
-/// Returns a model of `family` for each location and its scale.
+/// Returns a model of the family `family` for each location and the scale at the same index.
 fn models_of<P: WordOf<u32>, const PRECISION: usize>(
     alloc: Global,
     family: Family,

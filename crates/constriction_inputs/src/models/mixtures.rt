@@ -27,7 +27,7 @@ use weighing::are_mixable;
 /// A mixture has `width` components, and each component has a location, a scale and a weight. The weights are in
 /// `weights`. The locations and scales are in `components`, in multiples of `2^-16`. Each of the three lists has
 /// `width` numbers for the first symbol, then `width` numbers for the second symbol, and so on. The caller passes each
-/// symbol as its distance from the least symbol of `components`.
+/// symbol as an index into the range of integers of `components`, as for [`Families`].
 ///
 /// The weights of a mixture are relative. Their sum has to be at least 1 and at most `2^32`. A component of weight 0
 /// doesn't change the mixture.
@@ -35,7 +35,7 @@ use weighing::are_mixable;
 /// # Examples
 ///
 /// ```
-/// // Two symbols from 0 to 255, each under two logistic distributions with the weights 3 and 1.
+/// // Two symbols from 0 to 255, each with a mixture of two logistic distributions of weights 3 and 1.
 /// let components = Families::new(
 ///     2,
 ///     0,
@@ -47,7 +47,7 @@ use weighing::are_mixable;
 /// ```
 #[derive(Clone, Copy, Drop)]
 pub struct Mixtures<'a> {
-    /// The family and the range, and the location and the scale of each component.
+    /// The family, the range of symbols, and the location and the scale of each component.
     pub components: Families<'a>,
     /// The weight of each component.
     pub weights: &'a [u32],
@@ -56,7 +56,7 @@ pub struct Mixtures<'a> {
 }
 
 impl<'a> Mixtures<'a> {
-    /// Collects the arguments for mixtures. The call doesn't check the arguments. [`Mixtures`] has an example.
+    /// Creates a `Mixtures` from its three fields, without checking them. See [`Mixtures`] for an example.
     #[inline]
     pub fn new(components: Families<'a>, weights: &'a [u32], width: usize) -> Self
         ensures { (result.components ≡ components.entry) × (result.weights.now ≡ weights.now) × (result.width ≡ width) }
@@ -129,9 +129,9 @@ impl<'a, P: WordOf<u32>, const PRECISION: usize> Models<P, PRECISION> for Mixtur
     }
 }
 
-/// The list of the models of mixtures. It has memory for the components of one mixture only.
+/// A list of models of mixtures. The list keeps only one mixture's components in memory.
 ///
-/// Each call of `turn_to` replaces these components by the components of the selected mixture.
+/// Each call of `turn_to` replaces these components with the components of the selected mixture.
 ///
 /// # Examples
 ///

@@ -13,7 +13,7 @@ use std::alloc::Global;
 
 /// Rows of `width` weights, one after another in `weights`, with one row for each symbol to encode or decode.
 ///
-/// Each row has the weights of the symbols `0`, `1`, .., which have to add up to `2 ^ PRECISION`.
+/// Each row has the weights of the symbols `0`, `1`, .. The weights of a row have to add up to `2 ^ PRECISION`.
 ///
 /// # Examples
 ///

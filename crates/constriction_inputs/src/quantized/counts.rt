@@ -17,7 +17,7 @@ use std::alloc::Global;
 ///
 /// The call checks for errors in this order. After an error, `weights` is unchanged.
 ///
-/// - `WrongLength`: the numbers of weights and of counts differ.
+/// - `WrongLength`: `counts` and `weights` differ in length.
 /// - `WrongWeights`: all counts are 0, or more than `2 ^ PRECISION` counts are above 0.
 /// - `NoMemory`: there is no memory.
 pub fn put_weights_of_counts<P: WordOf<u32>, const PRECISION: usize>(

@@ -1,8 +1,8 @@
-//! Writes the start and the length of each symbol's interval, under a model with the symbol's own location and scale.
+//! Writes the interval of each symbol in the symbol's own model, which has a location and a scale.
 //!
-//! A caller in another language can inspect a model's table: it passes the indices of all symbols in order, with the
-//! same location and scale for each symbol. The intervals written are then the whole table. The caller can also encode
-//! these intervals.
+//! A caller in another language can inspect a model's table. The caller passes the indices of all symbols in order,
+//! with the same location and scale for each symbol. The intervals written are then the whole table. The caller can
+//! also encode these intervals.
 
 ghost use Rattle.std.specs.Prelude.{◌≡◌, ◌<◌, ◌≤◌, Some, length, map};
 ghost use Rattle.std.specs.List.{AllByRecursion};
@@ -18,7 +18,7 @@ use constriction_models::families::Family;
 use constriction_models::quantizer::LeakyQuantizer;
 use constriction_words::{BitArray, WordOf};
 
-/// Writes the start of each symbol's interval into `lefts`, and the interval's length into `ps`.
+/// Writes the start of each symbol's interval into `lefts`, and the interval's length into `ps`, in quantiles.
 ///
 /// `families` has a model for each symbol. The call needs no memory.
 ///
@@ -27,8 +27,9 @@ use constriction_words::{BitArray, WordOf};
 /// The call returns the first of these errors whose condition holds, and no other error. After an error, `lefts` and
 /// `ps` are unchanged.
 ///
-/// - `WrongLength`: `lefts` or `ps` doesn't have one item for each symbol.
-/// - The error that [`Models::check`] returns for `families` and `symbols`.
+/// - `WrongLength`: `lefts`, `ps`, or a list of `families` doesn't have one item for each symbol.
+/// - `WrongInterval`: the range of `families` has fewer than two or more than `2 ^ PRECISION` symbols.
+/// - `WrongWeights`: no family has the number of `families`, or a scale is 0.
 /// - `ImpossibleSymbol`: a symbol isn't an index into the range of `families`.
 pub fn intervals_of_quantized<P: WordOf<u32>, const PRECISION: usize>(
     families: &Families<'_>,
@@ -66,7 +67,9 @@ pub fn intervals_of_quantized<P: WordOf<u32>, const PRECISION: usize>(
     Ok(())
 }
 
-/// Writes the start and the length of each symbol's interval. The caller proves that each symbol is in the range.
+/// Writes the start and the length of each symbol's interval.
+///
+/// The caller proves that each symbol is an index into the range of `quantizer`.
 fn put_intervals<P: WordOf<u32>, const PRECISION: usize>(
     family: Family,
     quantizer: &LeakyQuantizer<P, PRECISION>,

@@ -58,7 +58,7 @@ pub fn is_product(number: usize, first: usize, second: usize) -> bool
 
 /// Returns whether each of `count` rows of `width` weights adds up to `2 ^ PRECISION`.
 ///
-/// `weights` has the rows one after another. The caller proves that it has `count` rows.
+/// `weights` has the rows one after another. The caller proves that `weights` has `count` rows.
 pub fn are_totals<P: BitArray, const PRECISION: usize>(
     weights: &[P],
     width: usize,

@@ -22,7 +22,7 @@ impl<
     /// # Errors
     ///
     /// Returns the backend's error if there are bits outside the backend, and the backend refuses the word of these
-    /// bits. The coder is consumed.
+    /// bits. The call consumes the coder even if it fails.
     pub fn into_decoder(self) -> Result<QueueDecoder<Word, B::IntoReadWords>, B::WriteError>
     where
         B: Drop,
@@ -94,7 +94,7 @@ impl<Word: BitArray, B: IntoReadWords<Word, Stack>> StackCoder<Word, B> {
 }
 
 impl<Word: BitArray, B: Holds<Word, Stack>> StackCoder<Word, B> {
-    /// Returns a decoder with the same bits that borrows this coder's words.
+    /// Returns a decoder that has the same bits and borrows this coder's words.
     ///
     /// # Examples
     ///
@@ -116,7 +116,7 @@ impl<Word: BitArray, B: Holds<Word, Stack>> StackCoder<Word, B> {
         }
     }
 
-    /// Returns an iterator over the bits, from last to first, that borrows this coder's words.
+    /// Returns an iterator over the bits, from last to first. The iterator borrows this coder's words.
     pub fn iter<'a>(&'a self) -> StackCoder<Word, B::AsReadWords>
     where
         B: AsReadWords<'a, Word, Stack>,

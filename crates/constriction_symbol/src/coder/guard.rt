@@ -24,10 +24,10 @@ pub struct CoderGuard<'a, Word: BitArray, S: Semantics, A: Allocator = Global> {
     count: usize,
 }
 
-/// The guard of a stack of bits. [`StackCoder::get_compressed`] returns it, and has an example.
+/// The guard of a stack of bits. See [`StackCoder::get_compressed`] for an example.
 pub type StackCoderGuard<'a, Word, A = Global> = CoderGuard<'a, Word, Stack, A>;
 
-/// The guard of a queue of bits. [`QueueEncoder::get_compressed`] returns it.
+/// The guard of a queue of bits, which [`QueueEncoder::get_compressed`] returns.
 pub type QueueEncoderGuard<'a, Word, A = Global> = CoderGuard<'a, Word, Queue, A>;
 
 impl<'a, Word: BitArray, S: Semantics, A: Allocator> CoderGuard<'a, Word, S, A> {
@@ -58,7 +58,7 @@ impl<Word: BitArray, S: Semantics, A: Allocator> Drop for CoderGuard<'_, Word, S
 
 impl<Word: BitArray + fmt::Debug, S: Semantics, A: Allocator> fmt::Debug
     for CoderGuard<'_, Word, S, A> {
-    /// Formats the list of words.
+    /// Formats all words of the vector as a list.
     fn fmt<W: fmt::Write>(&self, f: &mut fmt::Formatter<W>) -> fmt::Result {
         f.debug_list().entries(self.words().iter()).finish()
     }
@@ -67,7 +67,8 @@ impl<Word: BitArray + fmt::Debug, S: Semantics, A: Allocator> fmt::Debug
 impl<Word: BitArray, A: Allocator> StackCoder<Word, Vec<Word, A>> {
     /// Writes the words that end the bits, and returns the number of words written.
     ///
-    /// Writes two words if the word outside the vector is full, else one. The bits outside the vector are unchanged.
+    /// The call writes two words if the word outside the vector is full, else one. It leaves the bits outside the
+    /// vector unchanged. If there is no memory, the call returns `AllocError`, and the coder's bits are unchanged.
     fn put_end(&mut self) -> Result<usize, AllocError>
         ensures shows { OnOk result (IsStackWords Word.BITS self.old.bits (map Word.number self.new.backend.items)) }
         ensures back { IfOk result (λ count. bits_without Word.BITS Word.number count self.new ≡ self.old.bits) }
@@ -103,9 +104,10 @@ impl<Word: BitArray, A: Allocator> StackCoder<Word, Vec<Word, A>> {
 }
 
 impl<Word: BitArray, A: Allocator> QueueEncoder<Word, Vec<Word, A>> {
-    /// Writes the word of the bits outside the vector, and returns the number of words written.
+    /// Writes the bits outside the vector as one word, and returns the number of words written.
     ///
-    /// Writes nothing if there are no bits outside the vector, else one word. These bits are unchanged.
+    /// If there are no bits outside the vector, the call writes nothing. The call leaves the bits outside the vector
+    /// unchanged. If there is no memory, the call returns `AllocError`, and the coder's bits are unchanged.
     fn put_rest(&mut self) -> Result<usize, AllocError>
         ensures shows { OnOk result (IsQueueWords Word.BITS self.old.bits (map Word.number self.new.backend.items)) }
         ensures back { IfOk result (λ count. bits_without Word.BITS Word.number count self.new ≡ self.old.bits) }
@@ -136,7 +138,7 @@ impl<Word: BitArray, A: Allocator> StackCoder<Word, Vec<Word, A>> {
     /// # Errors
     ///
     /// Returns `AllocError` if there is no memory for the words that the guard appends. The guard appends two words if
-    /// the word outside the vector is full, else one. After an error, the bits are unchanged.
+    /// the word outside the vector is full, else one. After an error, the coder's bits are unchanged.
     ///
     /// # Examples
     ///
@@ -145,7 +147,7 @@ impl<Word: BitArray, A: Allocator> StackCoder<Word, Vec<Word, A>> {
     ///     let guard = coder.get_compressed()?;
     ///     send(guard.words());
     /// }
-    /// coder.write_bit(true)?; // continues from the bits before the guard
+    /// coder.write_bit(true)?; // appends to the bits that the coder had before the guard
     /// ```
     pub fn get_compressed(&mut self) -> Result<StackCoderGuard<'_, Word, A>, AllocError>
         ensures same_reference { IfOk result (λ g. (lender g).ghost_name ≡ self.entry.ghost_name) }
@@ -176,8 +178,8 @@ impl<Word: BitArray, A: Allocator> QueueEncoder<Word, Vec<Word, A>> {
     ///
     /// # Errors
     ///
-    /// Returns `AllocError` if there are bits outside the vector, and no memory for the word of these bits. The bits
-    /// are unchanged.
+    /// Returns `AllocError` if there are bits outside the vector, and no memory for the word of these bits. After an
+    /// error, the coder's bits are unchanged.
     pub fn get_compressed(&mut self) -> Result<QueueEncoderGuard<'_, Word, A>, AllocError>
         ensures same_reference { IfOk result (λ g. (lender g).ghost_name ≡ self.entry.ghost_name) }
         ensures shows { IfOk result (λ g.

@@ -1,4 +1,4 @@
-//! Importing and exporting the words of bit coders.
+//! Import and export of the words of bit coders.
 
 ghost use Rattle.constriction_base.specs.Backends.{IsWrite};
 ghost use Rattle.constriction_base.specs.declared.errors.CoderError.TheVariants as coder_error;
@@ -17,11 +17,11 @@ use std::marker::PhantomData;
 impl<Word: BitArray, B: WriteWords<Word>> StackCoder<Word, B> {
     /// Returns the words of the stack: its bits, a 1 that ends the bits, and zeros up to a whole word.
     ///
-    /// A stack without bits has the single word 1.
+    /// An empty stack has the single word 1.
     ///
     /// # Errors
     ///
-    /// Returns the backend's error if the backend refuses a word. The coder is consumed.
+    /// Returns the backend's error if the backend refuses a word. The call consumes the coder even if it fails.
     pub fn into_compressed(self) -> Result<B, B::WriteError>
     where
         B: Drop,
@@ -48,18 +48,18 @@ impl<Word: BitArray, B: WriteWords<Word>> StackCoder<Word, B> {
 impl<Word: BitArray, B: ReadWords<Word, Stack>> StackCoder<Word, B> {
     /// Creates a stack from the words that [`StackCoder::into_compressed`] returns.
     ///
-    /// The highest set bit of the last word marks the end of the bits. If there are no words, the stack has no bits.
+    /// The highest set bit of the last word marks the end of the bits. If there are no words, the stack is empty.
     ///
     /// # Errors
     ///
-    /// - `Frontend(backend)` exactly if the last word is 0. `backend` is the backend after the read of that word.
-    /// - `Backend(error)` if the read of the last word fails with this error. The backend is consumed.
+    /// - `Frontend(backend)` if the last word is 0. `backend` is the backend after the read of that word.
+    /// - `Backend(error)` if the read of the last word fails with this error. The call consumes the backend.
     ///
     /// # Examples
     ///
     /// ```
     /// if let Ok(mut stack) = DefaultStackCoder::from_compressed([6u32].to_vec(alloc)?) {
-    ///     stack.read_bit()?; // Some(true): the word 6 is the bits 0, 1 and the 1 that ends them
+    ///     stack.read_bit()?; // Some(true): the word 6 holds the bits 0, 1 and the 1 that ends them
     /// }
     /// ```
     pub fn from_compressed(mut compressed: B) -> Result<Self, CoderError<B, B::ReadError>>
@@ -99,12 +99,12 @@ impl<Word: BitArray, B: ReadWords<Word, Stack>> StackCoder<Word, B> {
 impl<Word: BitArray, B: WriteWords<Word>> QueueEncoder<Word, B> {
     /// Returns the words of the queue.
     ///
-    /// If the bits don't fill the last word, zeros complete that word. A queue without bits has no words.
+    /// If the bits don't fill the last word, zeros complete that word. An empty queue has no words.
     ///
     /// # Errors
     ///
     /// Returns the backend's error if there are bits outside the backend, and the backend refuses the word of these
-    /// bits. The coder is consumed.
+    /// bits. The call consumes the coder even if it fails.
     pub fn into_compressed(self) -> Result<B, B::WriteError>
     where
         B: Drop,
@@ -130,7 +130,7 @@ impl<Word: BitArray, B: WriteWords<Word>> QueueEncoder<Word, B> {
 }
 
 impl<Word: BitArray, B: Holds<Word, Stack>> QueueEncoder<Word, B> {
-    /// Creates a queue of all bits of a backend's words.
+    /// Creates a queue from all bits of a backend's words.
     ///
     /// The call treats no bit as padding. The zeros that complete the last word of an export become bits of the queue.
     pub fn from_compressed(compressed: B) -> Self

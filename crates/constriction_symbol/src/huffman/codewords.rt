@@ -1,7 +1,7 @@
 //! The codewords of a tree's nodes, each stored as one number.
 //!
-//! The number is a leading 1 followed by the bits of the codeword. It is 0 for a codeword of `usize::BITS` bits or
-//! more, which the encoder finds by climbing the tree instead.
+//! The number is a leading 1 followed by the bits of the codeword. For a codeword of `usize::BITS` bits or more, the
+//! number is 0. The encoder finds such a codeword by climbing the tree.
 
 ghost use Rattle.constriction_symbol.specs.Codewords.{IsLowBits};
 ghost use Rattle.constriction_symbol.specs.EncoderTree.{HasBelowOne, HasCodewords, OneBitMore};
@@ -12,7 +12,7 @@ use crate::turning::same_number;
 use constriction_words::BitArray;
 use std::alloc::{AllocError, Global};
 
-/// Returns the number `above` with `bit` appended, or 0 if `above` is 0 or has no room for another bit.
+/// Returns `above` with `bit` (0 or 1) appended, or 0 if `above` is 0 or the result doesn't fit a `usize`.
 fn codeword_below(above: usize, bit: usize) -> usize
     requires { bit < 2 }
     ensures { OneBitMore above bit result }
@@ -25,8 +25,8 @@ fn codeword_below(above: usize, bit: usize) -> usize
 
 /// Returns each node's codeword, stored as one number, given the list that `parents_of` returns.
 ///
-/// The number is a leading 1 followed by the codeword, first bit highest. It is 0 if the codeword has `usize::BITS`
-/// bits or more.
+/// The number is a leading 1 followed by the codeword from its first bit to its last. The number is 0 if the codeword
+/// has `usize::BITS` bits or more.
 pub fn codewords_of(alloc: Global, nodes: &[usize]) -> Result<Vec<usize>, AllocError>
     requires rising { GoesUp (length nodes.now) nodes.now }
     ensures { IfOk result (λ codewords. HasCodewords nodes.now codewords.items) }

@@ -1,4 +1,4 @@
-//! Collecting weights from iterators.
+//! Collects weights from iterators.
 
 ghost use Rattle.constriction_symbol.specs.Merging.{GivesWeights, LendsWeights, StopsGiving, StopsLending};
 ghost use Rattle.std.specs.Iterator.{IsFiniteIterable};

@@ -38,11 +38,11 @@ use std::marker::Model;
 /// ```
 #[derive(Debug, Drop)]
 pub struct DecoderHuffmanTree {
-    /// The two children of each inner node, the root last.
+    /// The two children of each inner node. The root is the last node.
     ///
     /// A child is a symbol, or the number of symbols plus the index of an inner node in this list.
     nodes: Vec<[usize; 2]>,
-    /// The decoding table: entry `1xyz` (binary) is the [`Place`] of the bits `x`, `y`, `z`.
+    /// The decoding table: entry `1xyz` (binary) is the [`Place`] that the bits `x`, `y`, `z` lead to.
     places: Vec<Place>,
     /// The number of bits that the table looks up.
     most: u32,
@@ -72,7 +72,7 @@ impl Clone for DecoderHuffmanTree {
 
     /// Returns a copy of the tree.
     ///
-    /// The clone isn't derived, because a derived clone would have to prove the tree's invariant from the clones of its
+    /// The clone isn't derived, because a derived clone would have to prove the tree's invariant from the clones of the
     /// fields alone.
     ///
     /// # Errors
@@ -89,7 +89,7 @@ impl Clone for DecoderHuffmanTree {
     }
 }
 
-/// Builds the tree of `weights`.
+/// Builds the Huffman tree of `weights`.
 fn tree_of<P: BitArray, E>(
     alloc: Global,
     weights: &[P],
@@ -113,12 +113,12 @@ impl DecoderHuffmanTree {
     ///
     /// At first each symbol is a tree of its own. Each merge joins the two trees of least weight, until one tree is
     /// left. Of two trees with equal weights, the tree with the lower index is the lesser. The index of a symbol's tree
-    /// is the symbol. The tree that a merge creates gets the next index. Of the two trees that a merge joins, the
+    /// is the symbol. The tree that a merge creates gets the next free index. Of the two trees that a merge joins, the
     /// lesser gets bit 0.
     ///
     /// # Errors
     ///
-    /// Checked in this order:
+    /// The call checks for errors in this order:
     ///
     /// - `Memory` if there is no memory to collect the weights.
     /// - `Empty` if there is no weight.
@@ -157,11 +157,12 @@ impl DecoderHuffmanTree {
     ///
     /// # Errors
     ///
-    /// Checked in this order:
+    /// The call first collects the weights. It stops at the first item that fails:
     ///
-    /// - At the first failing item: `Iterator(error)` if the item is `Err(error)`, or `Memory` if there is no memory
-    ///   for the item's weight.
-    /// - The errors of [`DecoderHuffmanTree::from_probabilities`].
+    /// - `Iterator(error)` if the item is `Err(error)`.
+    /// - `Memory` if there is no memory for the item's weight.
+    ///
+    /// If no item fails, the call returns the same errors as [`DecoderHuffmanTree::from_probabilities`].
     ///
     /// # Examples
     ///
@@ -220,13 +221,13 @@ impl DecoderCodebook for DecoderHuffmanTree {
 
     ghost invalid_law = { λ t bits e never. absurd never };
 
-    /// Reads the bits of a codeword, and returns its symbol. The call needs no memory.
+    /// Reads the bits of a codeword, and returns the codeword's symbol. The call needs no memory.
     ///
     /// # Errors
     ///
-    /// After each error, the bits read so far stay read.
+    /// After an error, the source continues after the last bit read.
     ///
-    /// - `Frontend(OutOfCompressedData)` exactly if the bits end before the codeword is complete.
+    /// - `Frontend(OutOfCompressedData)` if the bits end before the codeword is complete.
     /// - `Backend(error)` if the source returns this error in place of a bit.
     #[inline]
     fn decode_symbol<E, I: Iterator<Item = Result<bool, E>>>(
@@ -238,8 +239,8 @@ impl DecoderCodebook for DecoderHuffmanTree {
 
     /// Looks up the codeword that the `count` highest bits of `bits` begin with.
     ///
-    /// Returns the codeword's symbol, and its length in bits. Returns `None` if the codeword is empty, or has `count`
-    /// bits or more.
+    /// Returns the codeword's symbol, and the codeword's length in bits. Returns `None` if the codeword is empty, or
+    /// has `count` bits or more.
     #[inline]
     fn symbol_at_once<Word: BitArray>(&self, bits: Word, count: u32) -> Option<(usize, u32)> {
         let place = place_of(&self.places, self.most, bits);
@@ -279,9 +280,10 @@ fn walk<V, E, I: Iterator<Item = Result<bool, E>>>(
     Ok(index)
 }
 
-/// Follows the highest bits of `bits` from `place` to a symbol. Returns the symbol and its codeword's length.
+/// Walks from `place` to a symbol along the bits of `bits` after the highest `place.taken` bits.
 ///
-/// Returns `None` if the codeword has `count` bits or more.
+/// Returns the symbol, and the whole codeword's length in bits. Returns `None` if the codeword has `count` bits or
+/// more. The caller proves that the highest `place.taken` bits of `bits` lead from the root to `place`.
 #[inline]
 fn walk_on<Word: BitArray>(
     nodes: &[[usize; 2]],

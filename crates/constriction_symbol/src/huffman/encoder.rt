@@ -37,7 +37,7 @@ use std::marker::Model;
 /// ```
 #[derive(Debug, Clone, Drop)]
 pub struct EncoderHuffmanTree {
-    /// Twice the index of each node's parent, plus 1 if the node is the child at bit 1. The root has the number 0.
+    /// For each node, twice its parent's index, plus 1 if the node is the child at bit 1. The root has the number 0.
     ///
     /// The nodes of the symbols come first, and the root is last.
     nodes: Vec<usize>,
@@ -45,7 +45,7 @@ pub struct EncoderHuffmanTree {
     ///
     /// The number is 0 if the codeword has `usize::BITS` bits or more.
     codewords: Vec<usize>,
-    /// The allocator for the prefix form of long codewords.
+    /// The allocator for the prefix form of codewords of more than `2 * usize::BITS` bits.
     alloc: Global,
 }
 
@@ -64,7 +64,7 @@ impl Model for EncoderHuffmanTree {
         × HasCodewords t.nodes.items t.codewords.items };
 }
 
-/// Builds the tree of `weights`.
+/// Builds the Huffman tree of `weights`.
 fn tree_of<P: BitArray, E>(
     alloc: Global,
     weights: &[P],
@@ -97,12 +97,12 @@ impl EncoderHuffmanTree {
     ///
     /// At first each symbol is a tree of its own. Each merge joins the two trees of least weight, until one tree is
     /// left. Of two trees with equal weights, the tree with the lower index is the lesser. The index of a symbol's tree
-    /// is the symbol. The tree that a merge creates gets the next index. Of the two trees that a merge joins, the
+    /// is the symbol. The tree that a merge creates gets the next free index. Of the two trees that a merge joins, the
     /// lesser gets bit 0.
     ///
     /// # Errors
     ///
-    /// Checked in this order:
+    /// The call checks for errors in this order:
     ///
     /// - `Memory` if there is no memory to collect the weights.
     /// - `Empty` if there is no weight.
@@ -141,11 +141,12 @@ impl EncoderHuffmanTree {
     ///
     /// # Errors
     ///
-    /// Checked in this order:
+    /// The call first collects the weights. It stops at the first item that fails:
     ///
-    /// - At the first failing item: `Iterator(error)` if the item is `Err(error)`, or `Memory` if there is no memory
-    ///   for the item's weight.
-    /// - The errors of [`EncoderHuffmanTree::from_probabilities`].
+    /// - `Iterator(error)` if the item is `Err(error)`.
+    /// - `Memory` if there is no memory for the item's weight.
+    ///
+    /// If no item fails, the call returns the same errors as [`EncoderHuffmanTree::from_probabilities`].
     ///
     /// # Examples
     ///
@@ -240,7 +241,8 @@ impl EncoderCodebook for EncoderHuffmanTree {
 
     /// Returns the whole codeword of the symbol in one word, and the codeword's length in bits.
     ///
-    /// Returns `None` if there is no codeword, or if its length is 0, at least `Word::BITS`, or at least `usize::BITS`.
+    /// Returns `None` if the symbol has no codeword. Also returns `None` if the codeword is empty, or has at least
+    /// `Word::BITS` or `usize::BITS` bits.
     #[inline]
     fn codeword_at_once<Word: BitArray>(&self, symbol: &usize) -> Option<(Word, u32)> {
         if *symbol > self.nodes.len() / 2 {

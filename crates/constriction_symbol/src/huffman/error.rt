@@ -9,8 +9,8 @@ use thiserror::Error;
 
 /// The reason why building a Huffman tree fails.
 ///
-/// The constructors check in this order: `Iterator` or `Memory` while they collect the weights, `Empty`,
-/// `TooManySymbols`, `WeightOverflow`, and `Memory` for the tree.
+/// The constructors check for `Iterator` and `Memory` while they collect the weights. Then they check for `Empty`,
+/// `TooManySymbols` and `WeightOverflow`, in this order. The last check is for `Memory` while they build the tree.
 ///
 /// # Examples
 ///

@@ -13,9 +13,10 @@ use std::alloc::{AllocError, Global};
 /// The largest number of bits that the table looks up. A table of 9 bits takes 16 KiB.
 const MOST: u32 = 9;
 
-/// The node that a list of bits leads to: a symbol after the first `taken` bits, or an inner node after all bits.
+/// The node that a list of bits leads to from the root.
 ///
-/// `index` is the symbol, or the number of symbols plus the index of the inner node.
+/// Either the first `taken` bits lead to a symbol, or the list has `taken` bits and leads to an inner node. `index` is
+/// the symbol, or the number of symbols plus the index of the inner node.
 #[derive(Debug, Clone, Copy)]
 pub struct Place {
     pub index: usize,
@@ -24,7 +25,7 @@ pub struct Place {
 
 /// Returns the number of bits that the table of a tree with `nodes` inner nodes looks up.
 ///
-/// This is one more than the longest codeword would have if all weights were equal, and at most `MOST`.
+/// The number is one more than the longest codeword would have if all weights were equal, and at most `MOST`.
 fn most_of(nodes: usize) -> u32
     ensures some { 0 < result }
     ensures few { result ≤ 9 }
@@ -33,7 +34,7 @@ fn most_of(nodes: usize) -> u32
     if count < MOST { count } else { MOST }
 }
 
-/// Returns the place that `bit` (0 or 1) leads to from `place`, or `place` itself if it is a symbol.
+/// Returns the place that `bit` (0 or 1) leads to from `place`, or `place` itself if `place` is a symbol.
 fn place_below(nodes: &[[usize; 2]], place: Place, bit: usize) -> Place
     requires tree { HoldsTree nodes.now (tree_of_pairs nodes.now) }
     requires place { (bits : List Bool) × (length bits < 32) × IsPlace nodes.now bits place }
@@ -51,7 +52,7 @@ fn place_below(nodes: &[[usize; 2]], place: Place, bit: usize) -> Place
     }
 }
 
-/// Returns the decoding table, and the number of bits that it looks up.
+/// Returns the decoding table, and the number of bits that the table looks up.
 ///
 /// `nodes` lists the two children of each inner node. The root comes last. Entry `1xyz` (binary) of the table is the
 /// [`Place`] that the bits `x`, `y`, `z` lead to.

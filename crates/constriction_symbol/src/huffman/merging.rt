@@ -1,11 +1,11 @@
-//! Huffman's algorithm: joining the two trees of least weight until one tree is left.
+//! Huffman's algorithm, which joins the two trees of least weight until one tree is left.
 //!
-//! A leaf is the tree of one symbol, and a union is a tree that a merge joined. The leaves are sorted, and no union
+//! A leaf is the tree of one symbol, and a union is a tree that a merge created. The leaves are sorted, and no union
 //! weighs less than an earlier union. So the least tree is the first leaf or the first union that is left. If both have
 //! the same weight, the leaf is the lesser, because leaves have lower indices than unions.
 //!
-//! Weights are collected before the merge, because the merge requires that their sum fits. Collecting lent weights may
-//! fail with `Memory` at each weight.
+//! The constructors collect the weights before the merge, because the merge requires that the sum of the weights fits
+//! their type. Collecting lent weights may fail with `Memory` at each weight.
 
 ghost use Rattle.constriction_symbol.specs.Huffman.{IsPairLe, keys_from};
 ghost use Rattle.constriction_symbol.specs.Merging.{ArePairs, FitTree, MakeNoTree, all_keys, key_of, keys_of};
@@ -87,8 +87,8 @@ fn take_least<P: BitArray>(
 
 /// Merges the two trees of least weight until one tree is left. At first, each weight is a tree.
 ///
-/// Returns the indices of the two trees of each merge, first merge first. The tree of `weights[i]` has index `i`. Each
-/// merge gives its tree the next index, starting at `weights.len()`.
+/// Returns the indices of the two trees of each merge, in the order of the merges. The tree of `weights[i]` has index
+/// `i`. The trees that merges create have the next indices, starting at `weights.len()`.
 fn merge_all<P: BitArray>(alloc: Global, weights: &[P]) -> Result<Vec<[usize; 2]>, AllocError>
     requires some { 0 < length weights.now }
     requires total { sum_by P.number weights.now < 2 ^ P.BITS }
@@ -113,16 +113,16 @@ fn merge_all<P: BitArray>(alloc: Global, weights: &[P]) -> Result<Vec<[usize; 2]
     Ok(pairs)
 }
 
-/// Returns the indices of the two trees that each merge joins, first merge first, for at most `most` weights.
+/// Returns the indices of the two trees that each merge joins, in order of the merges, for at most `most` weights.
 ///
 /// # Errors
 ///
-/// Checked in this order:
+/// The call checks for errors in this order:
 ///
 /// - `Empty` if there is no weight.
 /// - `TooManySymbols` if there are more than `most` weights.
 /// - `WeightOverflow` if the sum of the weights doesn't fit their type.
-/// - `Memory` if there is no memory.
+/// - `Memory` if there is no memory for the merge.
 pub fn merged_pairs<P: BitArray, E>(
     alloc: Global,
     weights: &[P],

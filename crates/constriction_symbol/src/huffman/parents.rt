@@ -10,7 +10,7 @@ use std::alloc::{AllocError, Global};
 
 /// Returns a number for each node: twice its parent's index, plus 1 for a second child, or 0 for the root.
 ///
-/// `pairs` lists the two children of each inner node. The root comes last.
+/// `pairs` lists the two children of each inner node. The root comes last in `pairs` and in the result.
 pub fn parents_of(alloc: Global, pairs: &[[usize; 2]]) -> Result<Vec<usize>, AllocError>
     requires unions { AreUnions (length pairs.now + 1) (map as_pair pairs.now) }
     requires fits { 4 * length pairs.now + 4 < 2 ^ 64 }

@@ -15,7 +15,7 @@ use constriction_models::mixture::{Component, Mixture};
 use constriction_models::quantizer::{IndexedDistribution, LeakyQuantizer};
 use constriction_words::{BitArray, WordOf};
 
-/// The model of a mixture, which owns its components. Its symbols are indices into a quantizer's range of integers.
+/// The model of a mixture that owns its components. The symbols are indices into a quantizer's range of integers.
 #[derive(Drop)]
 pub struct MixedDistribution<D: CumulativeDistribution, P: WordOf<u32>, const PRECISION: usize> {
     pub(super) components: Vec<Component<D>>,
@@ -46,7 +46,7 @@ impl<D: CumulativeDistribution, P: WordOf<u32>, const PRECISION: usize> MixedDis
         }
     }
 
-    /// Returns the same model over borrowed components.
+    /// Returns the same model, with components that are borrowed from `self`.
     #[inline(always)]
     fn borrowed<'b>(&'b self) -> IndexedDistribution<Mixture<'b, D>, P, PRECISION>
         ensures { ⟦<IndexedDistribution<Mixture<'b, D>, P, PRECISION> as EntropyModel<PRECISION>>⟧.table result
@@ -106,7 +106,7 @@ pub(super) fn first_component(family: Family) -> Component<FamilyDistribution>
     }
 }
 
-/// Replaces `components` by the components of row `place`.
+/// Replaces `components` with the components of row `place`.
 ///
 /// `weights`, `locations` and `scales` have rows of `width` numbers, one row after another. The call needs no memory.
 #[inline]
@@ -144,7 +144,7 @@ pub(super) fn fill_from_row(
     );
 }
 
-/// Replaces `components` by components with these weights, locations and scales. The call needs no memory.
+/// Replaces `components` with components of these weights, locations and scales. The call needs no memory.
 #[inline]
 fn fill(
     components: &mut Vec<Component<FamilyDistribution>>,
