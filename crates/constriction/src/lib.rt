@@ -149,9 +149,9 @@
 //!   type.
 //! - [`symbol::huffman::EncoderHuffmanTree`], [`symbol::huffman::DecoderHuffmanTree`]: the Huffman codebook of weights,
 //!   for encoding and for decoding. [`symbol::huffman::HuffmanError`] is the error of weights that make no tree.
-//! - [`symbol::reversed_codeword`]: a function that emits a codeword from its first bit to its last, given a codebook
-//!   that emits codewords from the last bit to the first ([`symbol::SuffixCodebook`]). The function reverses the bits
-//!   with a [`symbol::SmallBitStack`].
+//! - [`symbol::reversed_codeword`]: a function that emits a codeword from its first bit to its last. The codebook emits
+//!   the codeword from the last bit to the first ([`symbol::SuffixCodebook`]). The function reverses the bits with a
+//!   [`symbol::SmallBitStack`].
 //!
 //! # [`laws`]: theorems about lists of calls
 //!

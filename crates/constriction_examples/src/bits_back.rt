@@ -1,4 +1,4 @@
-//! Bits-back coding: symbols under a mixture of two models cost no more bits than their information content.
+//! Bits-back coding: symbols from a mixture of two models cost about as many bits as their information content.
 //!
 //! Each symbol is drawn from one of two models. A number, called the latent, says which model. The receiver doesn't
 //! need the latent, and encoding it costs one bit for each symbol. Bits-back coding gets that bit back: the sender

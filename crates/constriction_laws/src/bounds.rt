@@ -19,8 +19,8 @@ ghost use Rattle.constriction_laws.specs.stack.Lists.{Pushes};
 
 /// Bounds the number of words that a stack coder exports, if it started empty and encoded `steps`.
 ///
-/// Suppose that the coder exports `N` words. Then `2^(w * (N - 1)) * A <= 2^(s - w) * B`. `A` is the product of the
-/// factors `p * 2^k` of all steps, and `B` is the product of the factors `2^P * (2^k + 1)`.
+/// Suppose that the coder exports `N` words. Then `2^(w * (N - 1)) * A <= 2^(s - w) * B`. `A` is the product of
+/// `p * 2^k` over all steps. `B` is the product of `2^P * (2^k + 1)` over all steps.
 pub fn stack_bound()
     ensures { (w s : ℕ) (steps : List Step) (state : AnsState) → IsSizes w s → AreSteps w steps → Pushes w s steps empty
         state → IsStackBounded w s steps (exported w state) }

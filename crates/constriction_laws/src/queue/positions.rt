@@ -46,7 +46,7 @@ pub fn symbols_after_a_position<Symbol>()
 
 /// Proves that the lower end and the range of any encoder form a valid interval, for any words written.
 ///
-/// So the clause `anywhere` of [`symbols_after_a_position`] covers each position of the encoder: decoding from the
+/// So the clause `anywhere` of [`symbols_after_a_position`] covers each position of the encoder. Decoding from the
 /// position returns the symbols that were encoded after the position was recorded.
 pub fn run_of_any_encoder<Word: WordOf<State>, State: BitArray, Backend: WriteWords<Word>>(
     encoder: &RangeEncoder<Word, State, Backend>,

@@ -20,7 +20,7 @@ use std::convert::Infallible;
 ///
 /// The tree's cost is the sum of weight times length in bits over the codewords of the symbols `0`, `1`, .., one for
 /// each weight. The cost of another codebook is this sum over the codewords of any list with one symbol for each
-/// weight, if no two symbols of the list mean the same. The other codebook may have any type of symbols.
+/// weight. The list has no two symbols that mean the same. The other codebook may have any type of symbols.
 ///
 /// # Errors
 ///

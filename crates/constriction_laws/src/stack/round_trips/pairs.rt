@@ -64,9 +64,9 @@ where
 
 /// Decodes one symbol for each model from words, and returns the symbols and the coder.
 ///
-/// Calls `from_compressed` and `decode_symbols`. Suppose that the backend's `is_list` holds, and that a coder in a
-/// valid state encoded one symbol with each model, from last to first, and exported the words. Then the call returns
-/// the symbols in order, and a coder in the state before these encodes.
+/// Calls `from_compressed` and `decode_symbols`. Suppose that the backend's `is_list` holds. Suppose also that a coder
+/// in a valid state encoded one symbol with each model, from last to first, and then exported the words. Then the call
+/// returns the symbols in order, and a coder in the state before these encodes.
 ///
 /// # Errors
 ///
