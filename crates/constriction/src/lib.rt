@@ -1,4 +1,4 @@
-//! Entropy coders over lists of words: lossless compression under models of the symbols' probabilities.
+//! Entropy coders over lists of words: lossless compression with models of the symbols' probabilities.
 //!
 //! The coders come close to the least number of bits that the models allow. A proved contract states what each call
 //! does.
@@ -32,47 +32,51 @@
 //!
 //! - [`BitArray`]: a type of unsigned numbers with a fixed number of bits, for words and heads.
 //! - [`WordOf`]: a type of words that fit another type of numbers, such as the type of states.
-//! - [`Reciprocal`]: divides by one number, such as a symbol's weight, with a multiplication.
-//! - [`Stack`], [`Queue`], [`Semantics`]: the order in which a backend's words are read. A stack reads the last word
+//! - [`Reciprocal`]: the reciprocal of a divisor, such as a symbol's weight. A multiplication by it replaces a
+//!   division.
+//! - [`Stack`], [`Queue`], [`Semantics`]: the order in which a backend reads its words. A stack reads the last word
 //!   first, and a queue reads the first word first.
-//! - [`Pos`], [`Seek`], [`PosSeek`]: recording a position of a backend or a coder, and seeking to it.
-//! - [`CoderError`]: the error of an encode or a decode, from the coder or from its backend. [`DefaultEncoderError`]
-//!   and [`DefaultEncoderFrontendError`] are errors of an encoder. [`ReadWriteError`] is the error of a call that reads
-//!   and writes.
+//! - [`Pos`], [`Seek`], [`PosSeek`]: traits that record a position of a backend or a coder, and seek to a recorded
+//!   position.
+//! - [`CoderError`]: the error of an encode or a decode, from the coder or from its backend.
+//!   [`DefaultEncoderFrontendError`] is the error of an impossible symbol. [`DefaultEncoderError`] is the `CoderError`
+//!   with that frontend error. [`ReadWriteError`] is the error of a call that both reads and writes words.
 //!
 //! # [`base`]: words, backends and models
 //!
-//! The types and traits of numbers, backends, errors and models that coders build on, in one module. Each of them is
-//! also in another place: at the root, in [`backends`], or in [`stream::model`].
+//! The types and traits of numbers, backends, errors and models that coders build on, in one module. Each item is also
+//! at the root, in [`backends`], or in [`stream::model`].
 //!
 //! # [`backends`]: sources and sinks of words
 //!
-//! - [`backends::ReadWords`], [`backends::WriteWords`]: reading a word from a backend, and writing a word to it.
-//!   [`backends::Holds`]: the list of words that a backend holds. [`backends::BoundedReadWords`] returns how many words
-//!   are left.
-//! - [`backends::IntoReadWords`], [`backends::AsReadWords`], [`backends::IntoSeekReadWords`] and
-//!   [`backends::AsSeekReadWords`]: turning a backend into a reader, or borrowing a backend for a reader.
-//! - [`backends::IntoReversed`]: reversing a backend's buffer in place. The new backend holds the same stack of words.
-//! - [`backends::Words`], [`backends::WordsMut`]: a buffer that lends its words, and a buffer that can change them.
+//! - [`backends::ReadWords`], [`backends::WriteWords`]: traits that read a word from a backend, and write a word to it.
+//!   [`backends::Holds`] describes the list of words that a backend holds. [`backends::BoundedReadWords`] counts the
+//!   words left to read.
+//! - [`backends::IntoReadWords`], [`backends::AsReadWords`], [`backends::IntoSeekReadWords`],
+//!   [`backends::AsSeekReadWords`]: traits that turn a backend into a reader, or lend its words to a reader.
+//! - [`backends::IntoReversed`]: a trait that reverses a backend's buffer in place. The new backend holds the same
+//!   stack of words.
+//! - [`backends::Words`], [`backends::WordsMut`]: traits of a buffer that lends its words, and of a buffer that can
+//!   also replace and reverse its words.
 //! - [`backends::BothWays`], [`backends::CountsWords`], [`backends::SeeksBack`]: properties that some calls require of
-//!   their backend. `BothWays`: the backend holds the same words as a stack and as a queue. `CountsWords`: the
-//!   backend's position is the number of words on its stack. `SeeksBack`: the backend can seek to its current
-//!   position.
-//! - [`backends::written_to_queue`]: turns written words into a reader that begins with the first word.
-//!   [`backends::take_back`]: removes written words again.
-//! - [`backends::Cursor`]: a buffer and a position in it. [`backends::Reverse`]: a cursor read in the other direction.
-//!   [`backends::FallibleIteratorReadWords`]: the items of an iterator. `Vec` is a backend too.
-//! - [`backends::BoundedWriteError`]: the error of a full buffer. [`backends::ReadWriteError`]: the error of a call
-//!   that reads and writes.
+//!   their backend. A `BothWays` backend holds the same words as a stack and as a queue. The position of a
+//!   `CountsWords` backend is the number of words on its stack. A `SeeksBack` backend can seek to its current position.
+//! - [`backends::written_to_queue`], [`backends::take_back`]: functions that turn a backend into a queue of the written
+//!   words, and remove words from the top of a backend.
+//! - [`backends::Cursor`], [`backends::Reverse`], [`backends::FallibleIteratorReadWords`]: backends. A cursor is a
+//!   buffer with a position in it. A `Reverse` reads a cursor in the other direction. A `FallibleIteratorReadWords`
+//!   reads the items of an iterator. `Vec` is a backend too.
+//! - [`backends::BoundedWriteError`]: the error of a write to a full buffer. [`backends::ReadWriteError`] is the error
+//!   of a call that both reads and writes words.
 //!
 //! # [`stream`]: coders that use fractions of a bit
 //!
-//! - [`stream::Code`], [`stream::Encode`], [`stream::Decode`]: the calls of every stream coder, for a symbol or a list.
-//!   [`stream::Lent`] is a symbol passed to a list call.
-//! - [`stream::EncodeReverse`]: encoding lists from the last symbol to the first, for code that is generic over coders.
-//!   The stack coder and the chain coder also have these calls as methods of their own.
-//! - [`stream::IntoDecoder`], [`stream::AsDecoder`]: turning an encoder into a decoder, or borrowing an encoder for a
-//!   decoder.
+//! - [`stream::Code`], [`stream::Encode`], [`stream::Decode`]: traits with the calls of every stream coder, for a
+//!   symbol or a list. [`stream::Lent`] is the trait of a symbol passed to a list call, such as `&Symbol`.
+//! - [`stream::EncodeReverse`]: a trait that encodes lists from the last symbol to the first, for code that is generic
+//!   over coders. The stack coder and the chain coder also have these calls as methods of their own.
+//! - [`stream::IntoDecoder`], [`stream::AsDecoder`]: traits that turn an encoder into a decoder, or lend an encoder's
+//!   data to a decoder.
 //! - [`stream::DecodeSymbols`], [`stream::TryDecodeSymbols`], [`stream::DecodeIidSymbols`]: iterators over decoded
 //!   symbols.
 //! - [`stream::TryCodingError`]: the error of a list call whose items may be errors.
@@ -81,22 +85,22 @@
 //!
 //! - [`stream::model::EntropyModel`], [`stream::model::EncoderModel`], [`stream::model::DecoderModel`]: the traits of
 //!   models. A model has a table, which gives symbols intervals of the numbers below `2 ^ PRECISION`.
-//! - [`stream::model::WeightTable`]: the table of a list of weights. [`stream::model::TableError`] is the error of
-//!   weights that make no table.
-//! - [`stream::model::LeakyQuantizer`]: turns a distribution into a model whose symbols are integers
-//!   ([`stream::model::LeakilyQuantizedDistribution`]). It cuts the distribution halfway between neighbouring symbols.
-//!   It computes in whole numbers, so the table is the same on every machine.
+//! - [`stream::model::WeightTable`]: a model with a list of weights. [`stream::model::TableError`] is the error of
+//!   building this model.
+//! - [`stream::model::LeakyQuantizer`]: a quantizer that turns a distribution into a model whose symbols are integers
+//!   ([`stream::model::LeakilyQuantizedDistribution`]). The quantizer cuts the distribution halfway between
+//!   neighbouring symbols. It computes in whole numbers, so the table is the same on every machine.
 //! - [`stream::model::Gaussian`], [`stream::model::Laplace`], [`stream::model::Logistic`]: distributions with a
 //!   location and a scale ([`stream::model::LocationScale`]). [`stream::model::Scale`] makes distributions of one scale
 //!   without a division. You can define other distributions with [`stream::model::CumulativeDistribution`].
 //! - [`stream::model::Mixture`]: the weighted mean of distributions, each a [`stream::model::Component`].
 //!   [`stream::model::MixtureError`] is the error of components that make no mixture.
 //! - [`stream::model::UniformModel`], [`stream::model::BernoulliModel`]: models of equally probable symbols, and of two
-//!   symbols. [`stream::model::SupportError`] is the error of a number of symbols that makes no model.
-//! - [`stream::model::weights_of_counts`]: the weights of a histogram. [`stream::model::CountsError`] is the error of
-//!   counts that make no weights.
+//!   symbols. [`stream::model::SupportError`] is the error of too few or too many symbols for the precision.
+//! - [`stream::model::weights_of_counts`]: a function that returns the weights for a histogram's counts.
+//!   [`stream::model::CountsError`] is the error of computing these weights.
 //! - [`stream::model::ContiguousLookupDecoderModel`]: a model for decoding that stores the symbol of each quantile.
-//!   [`stream::model::LookupError`] is the error of making this model.
+//!   [`stream::model::LookupError`] is the error of building this model.
 //!
 //! ## [`stream::stack`]: asymmetric numeral systems, which decode the last symbol first
 //!
@@ -104,34 +108,35 @@
 //!   [`stream::stack::SmallAnsCoder`] (16 and 32 bits).
 //! - [`stream::stack::AnsCompressedIter`]: an iterator over the words that a coder would export. The coder stays
 //!   unchanged.
-//! - [`stream::stack::CoderGuard`]: lends the exported words on the coder's own backend, until the guard is dropped.
+//! - [`stream::stack::CoderGuard`]: a guard that lends the exported words on the coder's own backend until it is
+//!   dropped.
 //! - [`stream::stack::CompressedDataEndsWithZeroWord`]: the error of importing words that no coder exports.
 //!
 //! ## [`stream::queue`]: range coding, which decodes the first symbol first
 //!
 //! - [`stream::queue::RangeEncoder`], with [`stream::queue::DefaultRangeEncoder`] (32-bit words, 64-bit states) and
-//!   [`stream::queue::SmallRangeEncoder`] (16 and 32 bits). [`stream::queue::RangeCoderState`] and
-//!   [`stream::queue::EncoderSituation`] are parts of an encoder.
+//!   [`stream::queue::SmallRangeEncoder`] (16 and 32 bits). [`stream::queue::RangeCoderState`] is an encoder's
+//!   interval. [`stream::queue::EncoderSituation`] describes an encoder's pending words.
 //! - [`stream::queue::RangeDecoder`], with [`stream::queue::DefaultRangeDecoder`] and
 //!   [`stream::queue::SmallRangeDecoder`]. [`stream::queue::DecoderFrontendError`] is the error of words that encode no
 //!   symbol at the decoder's position.
 //! - [`stream::queue::RangeCompressedIter`], [`stream::queue::EncoderGuard`]: an iterator over the sealed words of an
-//!   encoder, and a guard that lends these words. The encoder stays unchanged. [`stream::queue::LendsAsWritten`]:
-//!   backends that lend their words in writing order.
-//! - [`stream::queue::encode_flagged`], [`stream::queue::FlagSwitch`]: two models in one list of symbols. The second
-//!   model is used after a flag.
+//!   encoder, and a guard that lends these words. The encoder stays unchanged. [`stream::queue::LendsAsWritten`] is the
+//!   trait of backends that lend their words in writing order.
+//! - [`stream::queue::encode_flagged`], [`stream::queue::FlagSwitch`]: encoding and decoding a list of symbols with two
+//!   models. The coders use the second model after a flag symbol.
 //!
 //! ## [`stream::chain`]: symbols that don't depend on each other's models
 //!
 //! - [`stream::chain::ChainCoder`], with [`stream::chain::DefaultChainCoder`] and [`stream::chain::SmallChainCoder`].
 //!   [`stream::chain::ChainCoderHeads`] has the two heads of a coder. [`stream::chain::BackendPosition`] has the
-//!   positions of its two backends.
+//!   positions of the coder's two backends.
 //! - [`stream::chain::DecoderFrontendError`], [`stream::chain::EncoderFrontendError`], [`stream::chain::BackendError`],
 //!   [`stream::chain::ChangePrecisionError`]: the errors of a chain coder's calls.
 //!
-//! # [`store`]: many lists of symbols in one list of words, where each list is decoded alone
+//! # [`store`]: many lists of symbols in one list of words, where each list can be decoded alone
 //!
-//! - [`store::Store`]: chunks of symbols under one model, with an index that has the position of each chunk. A store
+//! - [`store::Store`]: lists of symbols (chunks) with one model, and an index with the position of each chunk. A store
 //!   has at most [`store::MOST_SYMBOLS`] symbols. [`store::BuildError`], [`store::ChunkError`] and [`store::BadIndex`]
 //!   are the errors of a store's calls.
 //!
@@ -139,35 +144,36 @@
 //!
 //! - [`symbol::QueueEncoder`], [`symbol::QueueDecoder`], [`symbol::StackCoder`]: coders that write bits into words and
 //!   read them. Their calls are in the traits [`symbol::WriteBitStream`] and [`symbol::ReadBitStream`].
-//! - [`symbol::EncoderCodebook`], [`symbol::DecoderCodebook`]: a list of bits for each symbol.
-//!   [`symbol::exp_golomb::ExpGolomb`] is a codebook for all numbers.
+//! - [`symbol::EncoderCodebook`], [`symbol::DecoderCodebook`]: traits of codebooks, which have a list of bits
+//!   (codeword) for each symbol. [`symbol::exp_golomb::ExpGolomb`] is a codebook for all numbers of an unsigned integer
+//!   type.
 //! - [`symbol::huffman::EncoderHuffmanTree`], [`symbol::huffman::DecoderHuffmanTree`]: the Huffman codebook of weights,
 //!   for encoding and for decoding. [`symbol::huffman::HuffmanError`] is the error of weights that make no tree.
-//! - [`symbol::reversed_codeword`]: emits a codeword from its first bit to its last, given a codebook that emits
-//!   codewords from the last bit to the first ([`symbol::SuffixCodebook`]). The call reverses the bits with a
+//! - [`symbol::reversed_codeword`]: a function that emits a codeword from its first bit to its last. The codebook emits
+//!   the codeword from the last bit to the first ([`symbol::SuffixCodebook`]). The function reverses the bits with a
 //!   [`symbol::SmallBitStack`].
 //!
 //! # [`laws`]: theorems about lists of calls
 //!
 //! Functions whose contracts are theorems, for use in your proofs. Most of them are laws, which have no code. You call
-//! a law to use its contract in your proof, and at run time the call does nothing. The functions in modules
-//! `round_trips` do run: each of them encodes or decodes a list of symbols.
+//! a law to use its contract in your proof, and at run time the call does nothing. Other functions do make coders'
+//! calls at run time, such as those in the modules `round_trips`. Each of these encodes or decodes a list of symbols.
 //!
 //! - [`laws::lists`]: if each step can be undone, so can a list of steps.
 //! - [`laws::bounds`]: upper bounds on the number of words of the stack coder and of the range coder, for any list of
-//!   steps. Also, which words may follow the words of a range coder.
+//!   steps. Other laws state which words may follow the words of a range coder.
 //! - [`laws::chain`]: the chain coder. [`laws::chain::isolation`] states that its symbols don't depend on each other's
 //!   models. [`laws::chain::steps`], [`laws::chain::lists`] and [`laws::chain::words`] are about one step, about lists,
 //!   and about restoring words from the remainders. [`laws::chain::round_trips`] decodes symbols and encodes them
 //!   again.
 //! - [`laws::queue`]: the range coder. [`laws::queue::words`], [`laws::queue::lists`] and [`laws::queue::positions`]
 //!   are about sealed words, lists of symbols, and recorded positions. [`laws::queue::round_trips`] encodes and decodes
-//!   lists. Other modules are about flags, guards and room.
+//!   lists. Other modules are about flags, self-delimiting seals, guards and room.
 //! - [`laws::store`]: looking up the chunks of a store in any order, and the words that a look-up reads.
 //! - [`laws::symbol`]: bit coders and codebooks. Decoding queues and stacks of bits returns the encoded symbols, also
 //!   with mixed codebooks. No codeword of Exp-Golomb or of a Huffman tree is a prefix of another.
-//!   [`laws::symbol::costs`] and [`laws::symbol::huffman`]: a Huffman tree costs at most as much as any prefix-free
-//!   codebook.
+//!   [`laws::symbol::costs`] and [`laws::symbol::huffman`] state that a Huffman tree costs at most as much as any
+//!   prefix-free codebook.
 //! - [`laws::stack`]: the stack coder. [`laws::stack::steps`], [`laws::stack::lists`] and [`laws::stack::words`] are
 //!   about one symbol, lists, and words that are exported and imported. [`laws::stack::round_trips`] encodes and
 //!   decodes lists. Other modules are about binary forms, guards, positions, readings and sizes.

@@ -17,9 +17,9 @@ use constriction::{Pos, Queue};
 use counted::Counted;
 use std::alloc::Global;
 
-/// Returns the position of an encoder: the number of words written or held back, and the encoder's interval.
+/// Returns the position of an encoder: the number of words written and pending, and the encoder's interval.
 ///
-/// Returns `None` if that number doesn't fit a `usize`.
+/// Returns `None` if the number of words doesn't fit a `usize`.
 fn place<Backend: CountsWords<u32>>(
     encoder: &RangeEncoder<u32, u64, Backend>,
 ) -> Option<(usize, RangeCoderState<u32, u64>)>
@@ -53,11 +53,11 @@ where
     }
 }
 
-/// Turns a queue encoder into a decoder, which reads the encoder's bits from the first one on.
+/// Turns a queue encoder into a decoder of the encoder's bits. The decoder reads the first bit first.
 ///
 /// # Errors
 ///
-/// Returns the error of the backend if it can't write the word with the encoder's last bits.
+/// Returns the error that the backend returned when the encoder wrote the word with its last bits.
 fn bits_of<Backend>(
     encoder: QueueEncoder<u32, Backend>,
 ) -> Result<QueueDecoder<u32, Backend::IntoReadWords>, Backend::WriteError>
@@ -67,7 +67,7 @@ where
     encoder.into_decoder()
 }
 
-/// Makes an encoder over the backend [`Counted`], and encodes three symbols.
+/// Creates an encoder over the backend [`Counted`], encodes three symbols, and returns the encoder.
 fn encoded(
     alloc: Global,
     table: &WeightTable<u32, 24>,
@@ -78,9 +78,10 @@ fn encoded(
     Ok(encoder)
 }
 
-/// Encodes three symbols, and prints the encoder's position, the number of words written, and the first symbol decoded.
+/// Encodes three symbols, and prints two numbers of words and the first symbol decoded.
 ///
-/// The number of words written includes the seal.
+/// The first number is the number of words in the encoder's position. The second number is the number of words written,
+/// including the seal.
 fn show_symbols(rt: &impl Print, alloc: Global) -> Result<()> {
     let table = WeightTable::<u32, 24>::new(alloc, &[3, 2, 16777211])?;
     let encoder = encoded(alloc, &table)?;

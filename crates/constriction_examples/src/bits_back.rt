@@ -1,11 +1,11 @@
-//! Bits-back coding: symbols under a mixture of two models cost no more bits than their information content.
+//! Bits-back coding: symbols from a mixture of two models cost about as many bits as their information content.
 //!
 //! Each symbol is drawn from one of two models. A number, called the latent, says which model. The receiver doesn't
 //! need the latent, and encoding it costs one bit for each symbol. Bits-back coding gets that bit back: the sender
-//! decodes the latent from words that the coder already holds. This takes the bits of the latent off the coder. After
-//! the receiver has decoded the symbol, it encodes the latent again, and so restores these bits.
+//! decodes the latent from words that the coder already holds. The decode takes the bits of the latent off the coder.
+//! After the receiver has decoded the symbol, it encodes the latent again, and so restores these bits.
 //!
-//! "Hiding" a symbol is the sender's part, and "revealing" it is the receiver's part.
+//! The sender "hides" symbols with the function `hide`, and the receiver "reveals" them with the function `reveal`.
 
 ghost use Rattle.std.specs.Prelude.{◌≡◌, ℕ, List, length, reverse, IfOk, OnOk};
 ghost use Rattle.constriction.specs.stack.Ans.{AnsState, IsValid};
@@ -149,7 +149,7 @@ impl Mixture {
     }
 }
 
-/// Returns the number of bits in a coder's words, plus the number of bits below the leading 1 of its head.
+/// Returns the number of bits in the words below a coder's head, plus the number of bits below the head's leading 1.
 fn bits_of(coder: &Coder) -> Result<usize> {
     if !coder.sizes_fit() {
         bail!("too many words");
@@ -174,7 +174,7 @@ fn send(alloc: Global, mixture: &Mixture, coder: &mut Coder) -> Result<Sent>
     mixture.hide_all(coder, SYMBOLS.as_slice())?;
     let after = bits_of(coder)?;
     let cost = after.checked_sub(before).context("a cost below zero")?;
-    // What went on last comes off first.
+    // The symbol hidden last is revealed first.
     let mut symbols = mixture.reveal_all(alloc, coder, SYMBOLS.len())?;
     symbols.reverse();
     prove!(symbols.as_slice() == SYMBOLS.as_slice());

@@ -1,7 +1,7 @@
 //! The calls of each coder at concrete types, as a program makes them.
 //!
-//! Each function here makes a few calls. The checker can't prove a few forms of calls. `docs/CALLING.md` lists these
-//! forms, and says what to write in their place.
+//! The prover finds no proof for certain forms of calls. `docs/CALLING.md` lists these forms, and says what to write in
+//! their place. The functions here use forms that the prover accepts.
 
 pub mod chain;
 pub mod queue;

@@ -9,9 +9,9 @@
 //! symbol changes. If symbols are samples, as in bits-back coding, a small change of one model then has a small effect.
 //! The price is that encoding needs the remainders.
 //!
-//! [`run`] decodes the same words four times: with both coders, under two models for the first symbol. The law
-//! `symbols_are_isolated` of `constriction::laws::chain::isolation` says that the chain coder's later symbols stay the
-//! same for any words and any models.
+//! [`run`] decodes the same words four times: with each coder, and with each of two models for the first symbol. The
+//! law `symbols_are_isolated` of `constriction::laws::chain::isolation` says that the chain coder's later symbols stay
+//! the same for any words and any models.
 
 use anyhow::{Result, bail};
 use constriction::stream::Decode;
@@ -60,7 +60,7 @@ fn by_chain(alloc: Global, first: &Table, later: &[Table]) -> Result<Symbols> {
     Ok((symbol, rest))
 }
 
-/// Prints a coder's name, and the symbols that it decoded under each of the two models for the first symbol.
+/// Prints a coder's name, and the symbols that the coder decoded with each of the two models for the first symbol.
 fn show(rt: &impl Print, coder: &str, one: &Symbols, other: &Symbols) -> Result<()> {
     println!(rt; "{coder}")?;
     println!(rt; "  under the one model:   {}, then {:?}", one.0, one.1)?;
@@ -70,7 +70,7 @@ fn show(rt: &impl Print, coder: &str, one: &Symbols, other: &Symbols) -> Result<
 
 /// Decodes [`WORDS`] with a stack coder and with a chain coder, and prints the symbols.
 ///
-/// Each coder decodes twice, under different models for the first symbol.
+/// Each coder decodes twice, with different models for the first symbol.
 pub fn run(rt: &impl Print, alloc: Global) -> Result<()> {
     let first = Table::new(alloc, &[2048, 1024, 512, 512])?;
     let replaced = Table::new(alloc, &[512, 512, 1024, 2048])?;

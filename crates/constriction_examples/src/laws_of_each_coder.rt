@@ -1,11 +1,11 @@
 //! Functions that apply a law of each coder, and import all definitions of the coders from the crate `constriction`.
 //!
-//! The program calls no function of these modules. Their proofs check that `constriction` re-exports all definitions
-//! that another crate needs to state and use a law.
+//! The program calls no function of these modules. The functions' proofs check that `constriction` re-exports all
+//! definitions that another crate needs to state and use a law.
 //!
 //! - [`stack`]: the cost of bits-back coding.
 //! - [`queue`]: reading sealed words returns the steps that were encoded.
-//! - [`chain`]: isolation across a change of the precision, and the backends after a refused step.
+//! - [`chain`]: isolation across a change of the precision, and the room of the backends after a failed step.
 //! - [`symbol`]: the Huffman tree of two equal weights.
 
 pub mod chain;

@@ -4,7 +4,7 @@
 //!
 //! - [`uses`]: functions that call the stack coder, and whose contracts say which symbols are decoded.
 //! - [`bits_back`]: bits-back coding.
-//! - [`isolation`]: symbols of the chain coder don't depend on each other's models.
+//! - [`isolation`]: which symbols change if one model is replaced, on the stack coder and on the chain coder.
 //! - [`programs`]: small programs for the other coders and for models.
 //! - [`any_backend`]: a user-defined backend.
 //! - [`calls`]: the calls of each coder at concrete types.

@@ -1,4 +1,4 @@
-//! Small programs for the range coder, the chain coder, codebooks and models. `docs/EXAMPLES.md` shows them.
+//! Small programs for the range coder, the chain coder, codebooks and models. `docs/EXAMPLES.md` lists them.
 
 pub mod bits;
 pub mod chain;

@@ -22,7 +22,7 @@ use constriction::stream::stack::DefaultAnsCoder;
 use constriction::stream::{Decode, Encode};
 use std::alloc::Global;
 
-/// Encodes symbols, each under its own table, and returns the words. [`unpack`] decodes them.
+/// Encodes symbols, each with its own table, and returns the words. [`unpack`] decodes the words.
 ///
 /// The caller proves that there are as many tables as symbols.
 ///
@@ -67,7 +67,7 @@ pub fn unpack(
     Ok(again)
 }
 
-/// Returns a copy of the words that a coder would export, with the top word last. The coder is unchanged.
+/// Returns a copy of the words that a coder would export, with the top word last. The coder's state is unchanged.
 ///
 /// Returns `None` if there is no memory.
 pub fn words_so_far(alloc: Global, coder: &mut DefaultAnsCoder) -> Option<Vec<u32>>

@@ -3,7 +3,7 @@
 //! The bounds are inequalities between products of whole numbers. `w` and `s` are the widths in bits of a word and of a
 //! head. `k = s - w - P` is the number of spare bits: the bits that a head has beyond a word and a precision of `P`
 //! bits. In logarithms, a step of probability `p / 2^P` costs at most `log2(2^P / p) + log2(1 + 2^-k)` bits. The first
-//! term is the step's information content, the second term is due to rounding.
+//! term is the step's information content. The second term is due to rounding.
 
 pub mod following;
 pub mod words;
@@ -19,7 +19,8 @@ ghost use Rattle.constriction_laws.specs.stack.Lists.{Pushes};
 
 /// Bounds the number of words that a stack coder exports, if it started empty and encoded `steps`.
 ///
-/// Each step has one factor on each side of the inequality: `p * 2^k` on the left, `2^P * (2^k + 1)` on the right.
+/// Suppose that the coder exports `N` words. Then `2^(w * (N - 1)) * A <= 2^(s - w) * B`. `A` is the product of
+/// `p * 2^k` over all steps. `B` is the product of `2^P * (2^k + 1)` over all steps.
 pub fn stack_bound()
     ensures { (w s : ℕ) (steps : List Step) (state : AnsState) → IsSizes w s → AreSteps w steps → Pushes w s steps empty
         state → IsStackBounded w s steps (exported w state) }
@@ -39,7 +40,7 @@ pub fn stack_bound_at_one_precision()
 /// Bounds the number of words that a sequence of encodes and decodes adds to the export of a stack coder.
 ///
 /// The encodes and decodes may come in any order. The bound follows from their net cost, as in bits-back coding: the
-/// bits that encodes add, minus the bits that decodes take off. The coder begins in a valid state. Its head is at least
+/// bits that encodes add, minus the bits that decodes take off. The coder begins in a valid state. The head is at least
 /// `2^(s-w)` at the beginning and after each decode.
 pub fn stack_net_bound()
     ensures { (w s : ℕ) (acts : List Act) (old new : AnsState) → IsSizes w s → AreAllowed w acts → IsValid w s old →

@@ -1,6 +1,6 @@
 //! Laws of the chain coder.
 //!
-//! - [`steps`]: encoding and decoding one symbol undo each other, and so do two changes of the precision.
+//! - [`steps`]: encoding and decoding one symbol undo each other. A second change of the precision can undo the first.
 //! - [`errors`]: the reasons why symbols weren't encoded.
 //! - [`isolation`]: a symbol depends only on the compressed words, the precisions and its own table.
 //! - [`lists`]: encoding and decoding lists of symbols undo each other, from the last symbol to the first.

@@ -14,9 +14,9 @@ pub enum Stopped<E> {
 /// Each function documents when it returns each case.
 #[derive(Debug, Clone, Copy, PartialEq, Eq)]
 pub enum RoundTripError {
-    /// The model has no entry for one of the symbols.
+    /// A model has no entry for its symbol.
     ImpossibleSymbol,
-    /// There are more symbols than the encoder can count.
+    /// There are more symbols than the encoder can still encode (`symbols_left`).
     TooManySymbols,
     /// The words or the coder's state don't fit the call.
     ///

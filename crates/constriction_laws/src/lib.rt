@@ -1,12 +1,12 @@
 //! Laws of the coders: theorems about lists of calls, in terms of the definitions that the coders' contracts cite.
 //!
-//! A law is a public function whose body is empty or calls the law from which it follows. Its `ensures` is the theorem.
-//! The theorem is about definitions alone (numbers, lists and tables), not about the code of a coder. The contract of a
-//! coder's call names the definition that the call meets. A law proves what follows for a list of calls. Words are
-//! listed in reading order, the next word first.
+//! A law is a public function whose body is empty or calls the laws from which it follows. Its `ensures` is the
+//! theorem. The theorem is about definitions alone (numbers, lists and tables), not about the code of a coder. The
+//! contract of a coder's call names the definition that the call meets. A law proves what follows for a list of calls.
+//! Laws list words in reading order: the word that the next read returns comes first.
 //!
-//! The public functions of the modules `round_trips`, `costs`, `flagged` and `bounds::words` make the coders' calls.
-//! Their contracts describe the combined effect of these calls.
+//! The public functions of the modules `round_trips` and `costs`, and the functions `flagged::decode_flagged` and
+//! `bounds::words::exchange`, make the coders' calls. Their contracts describe the combined effect of these calls.
 //!
 //! - [`bounds`]: upper bounds on the number of words, and sealed words that any words may follow.
 //! - [`chain`]: the chain coder, whose symbols are isolated.

@@ -8,8 +8,8 @@ ghost use Rattle.constriction_base.specs.Steps.{InTurn};
 ///
 /// An implementor describes one use of a coder, such as encoding on the stack coder. It proves that an allowed step
 /// from a valid state leads to a valid state, and that the inverse step leads back. The range coder decodes symbols in
-/// the order of encoding. So the steps of the range coder's implementor take encodes back, from the last to the first.
-/// The inverse steps are the decodes.
+/// the order of encoding. So the steps of the range coder's implementor undo encodes, from the last to the first. The
+/// inverse steps are the decodes.
 pub trait StepsUndo {
     /// The data that all steps share, such as the sizes of words and states.
     ghost setting: { Type 0 };
@@ -39,6 +39,8 @@ pub trait StepsUndo {
 }
 
 /// A list of allowed steps from a valid state can be undone, from the last step to the first.
+///
+/// The state after the steps is valid.
 pub fn lists_undo<C: StepsUndo>()
     ensures undone { (g : C.setting) (steps : List C.step) (old new : C.state) →
         AllByRecursion (C.allowed g) steps → C.valid g old →

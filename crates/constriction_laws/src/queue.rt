@@ -2,12 +2,12 @@
 //!
 //! - [`words`]: which steps a decoder reads from words.
 //! - [`lists`]: decoding sealed words returns the encoded symbols, first symbol first.
-//! - [`positions`]: a recorded position leads to the symbols encoded after it.
+//! - [`positions`]: decoding from a recorded position returns the symbols encoded after it.
 //! - [`following`]: self-delimiting seals, which any words may follow.
-//! - [`concatenated`]: the reason why a list wasn't decoded from a position in words.
+//! - [`concatenated`]: the reasons why a list wasn't decoded from a position in words.
 //! - [`flagged`]: symbols of two models in one stream, separated by a flag.
 //! - [`guards`]: the drop of a guard restores the encoder.
-//! - [`refusals`]: how much room in a backend is enough for a step.
+//! - [`refusals`]: how many words of room in a backend are enough for a step.
 //! - [`round_trips`]: functions that make the coder's calls for one half of a round trip: encoding or decoding.
 
 pub mod concatenated;

@@ -14,7 +14,7 @@ use std::alloc::Global;
 ///
 /// # Errors
 ///
-/// - `(count, Refused(error))`: the decoder returned `count` symbols, and this error for the next one.
+/// - `(count, Refused(error))`: the decoder returned `count` symbols, and then `error` for the next symbol.
 /// - `(0, NoMemory)`: there was no memory for the symbols.
 pub fn decode_by_models<C, M, const PRECISION: usize>(
     alloc: Global,

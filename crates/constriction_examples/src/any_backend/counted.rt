@@ -5,7 +5,9 @@ ghost use Rattle.std.specs.Prelude.{◌≡◌};
 use constriction::backends::{BothWays, CountsWords, Holds, IntoReadWords, WriteWords};
 use constriction::{Pos, PosSeek, Queue, Semantics, Stack};
 
-/// A backend, and the number of words written to it. The count stops at `u64::MAX`.
+/// A backend that passes each call to the backend `inner`, and counts the words written.
+///
+/// The count is `written`. It stops at `u64::MAX`.
 #[derive(Drop)]
 pub struct Counted<B> {
     pub inner: B,

@@ -22,7 +22,7 @@ fn put_from_the_end(coder: &mut DefaultChainCoder, table: &Table) -> Result<()> 
     Ok(())
 }
 
-/// Decodes two symbols under one model, then two symbols each under its own model, and prints all four.
+/// Decodes two symbols with one model, then two symbols each with its own model, and prints all four.
 fn take(rt: &impl Print, coder: &mut DefaultChainCoder, table: &Table) -> Result<()> {
     for symbol in coder.decode_iid_symbols(2, table) {
         let symbol = symbol?;

@@ -1,7 +1,7 @@
 //! The calls of the range coder at concrete types.
 //!
-//! An encoder counts the words that it holds back, and the count has a limit. So an encoder that a function gets as an
-//! argument may be unable to encode a whole list. `symbols_left` returns how many symbols it can still encode.
+//! An encoder counts its pending words in a `usize`. So an encoder that a function gets as an argument may be unable to
+//! encode a whole list. `symbols_left` returns how many symbols the encoder can still encode.
 
 use anyhow::{Result, bail};
 use constriction::stream::model::WeightTable;
@@ -13,7 +13,7 @@ use std::iter;
 
 type Table = WeightTable<u32, 24>;
 
-/// Encodes a list under one model. Fails if the encoder can't encode that many symbols.
+/// Encodes a list of symbols with one model. Fails if the encoder can't encode that many symbols.
 fn put(encoder: &mut DefaultRangeEncoder, symbols: &[usize], table: &Table) -> Result<()> {
     if Encode::<24>::symbols_left(encoder) < symbols.len() {
         bail!("too many words are held back");
@@ -31,7 +31,7 @@ fn put_pairs(encoder: &mut DefaultRangeEncoder, table: &Table) -> Result<()> {
     Ok(())
 }
 
-/// Decodes two symbols under one model, then one symbol under its own model, and prints all three.
+/// Decodes two symbols with one model, then one symbol with its own model, and prints all three.
 fn take(rt: &impl Print, decoder: &mut DefaultRangeDecoder, table: &Table) -> Result<()> {
     for symbol in decoder.decode_iid_symbols(2, table) {
         let symbol = symbol?;
@@ -44,7 +44,7 @@ fn take(rt: &impl Print, decoder: &mut DefaultRangeDecoder, table: &Table) -> Re
     Ok(())
 }
 
-/// Prints whether the list of words that a guard lends is empty, and the first symbol that a borrowing decoder returns.
+/// Prints whether a guard lends no words, and the first symbol that a decoder over the encoder's words returns.
 ///
 /// The encoder is unchanged.
 fn show(rt: &impl Print, encoder: &mut DefaultRangeEncoder, table: &Table) -> Result<()> {
@@ -64,7 +64,7 @@ fn show(rt: &impl Print, encoder: &mut DefaultRangeEncoder, table: &Table) -> Re
 
 /// Encodes four symbols, decodes the first three, seeks back to a recorded position, and decodes from there.
 ///
-/// Prints the symbols decoded.
+/// Prints the symbols decoded, and whether a guard lends no words.
 pub fn run(rt: &impl Print, alloc: Global) -> Result<()> {
     let table = WeightTable::<u32, 24>::new(alloc, &[3, 2, 16777211])?;
     let mut encoder = DefaultRangeEncoder::new(alloc);

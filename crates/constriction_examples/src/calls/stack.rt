@@ -37,7 +37,7 @@ fn put_forth(coder: &mut DefaultAnsCoder, table: &Table) -> Result<()> {
     Ok(())
 }
 
-/// Decodes three symbols under one model, then two symbols each under its own model, and prints all five.
+/// Decodes three symbols with one model, then two symbols each with its own model, and prints all five.
 fn take(rt: &impl Print, coder: &mut DefaultAnsCoder, table: &Table) -> Result<()> {
     for symbol in coder.decode_iid_symbols(3, table) {
         let symbol = symbol?;
@@ -52,7 +52,7 @@ fn take(rt: &impl Print, coder: &mut DefaultAnsCoder, table: &Table) -> Result<(
 
 /// Records a position, encodes a symbol, and seeks back to the position with a decoder over the coder's words.
 ///
-/// Prints the symbol that the decoder returns there. It is the last symbol encoded before the position was recorded.
+/// Prints the symbol that the decoder returns there: the symbol on top of the coder when it recorded the position.
 fn seek(rt: &impl Print, coder: &mut DefaultAnsCoder, table: &Table) -> Result<()> {
     let position = coder.pos();
     coder.encode_symbol(&1, table)?;
@@ -67,7 +67,7 @@ fn seek(rt: &impl Print, coder: &mut DefaultAnsCoder, table: &Table) -> Result<(
 
 /// Prints whether a coder's head is above 0, whether the coder is empty, and whether two ways to export words agree.
 ///
-/// The two ways are an iterator over the words, and a guard that lends them. The function compares the first word.
+/// The two ways are an iterator over the words, and a guard that lends the words. Only the first words are compared.
 fn show(rt: &impl Print, coder: &mut DefaultAnsCoder) -> Result<()> {
     let is_some = coder.state() > 0;
     println!(rt; "{is_some} {}", coder.is_empty())?; // true false
@@ -81,7 +81,7 @@ fn show(rt: &impl Print, coder: &mut DefaultAnsCoder) -> Result<()> {
 
 /// Decodes a symbol with each kind of decoder, and imports and exports words in binary form.
 ///
-/// The decoders are one over a borrowed coder, one made from the coder, and one over a borrowed list of words.
+/// The first decoder borrows a coder, the second is made from the coder, and the third borrows a list of words.
 fn hand_on(rt: &impl Print, alloc: Global, table: &Table) -> Result<()> {
     let mut coder = DefaultAnsCoder::new(alloc);
     coder.encode_symbol(&1, table)?;
@@ -105,6 +105,8 @@ fn hand_on(rt: &impl Print, alloc: Global, table: &Table) -> Result<()> {
 }
 
 /// Encodes and decodes a symbol with a coder of 16-bit words, and decodes another symbol from the empty coder.
+///
+/// Prints both symbols, and the size of the empty coder in words and in bits.
 fn small(rt: &impl Print, alloc: Global) -> Result<()> {
     let table = WeightTable::<u16, 12>::new(alloc, &[4000, 96])?;
     let mut coder = SmallAnsCoder::new(alloc);
@@ -112,7 +114,7 @@ fn small(rt: &impl Print, alloc: Global) -> Result<()> {
     let symbol = coder.decode_symbol(&table)?;
     println!(rt; "{symbol} {} {}", coder.num_words(), coder.num_bits())?; // 1 0 0
     let symbol = coder.into_seekable_decoder().decode_symbol(&table)?;
-    println!(rt; "{symbol}")?; // 0, since an empty coder gives symbols too
+    println!(rt; "{symbol}")?; // 0, since an empty coder returns symbols too
     Ok(())
 }
 

@@ -8,6 +8,8 @@ use constriction::symbol::{DefaultQueueEncoder, DefaultStackCoder, ReadBitStream
 use std::alloc::Global;
 
 /// Encodes two numbers into a queue of bits, decodes them in the same order, and prints them.
+///
+/// Also prints the number of words that a guard lends.
 fn queue(rt: &impl Print, alloc: Global, golomb: &ExpGolomb<u32>) -> Result<()> {
     let mut encoder = DefaultQueueEncoder::new(alloc);
     encoder.encode_symbols([(&5u32, golomb), (&7, golomb)])?;

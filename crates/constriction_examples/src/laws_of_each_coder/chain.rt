@@ -60,7 +60,11 @@ pub fn isolated_across_a_change<
 /// Decodes the next symbol, or returns `None` if the decode needs a compressed word and the backend returns none.
 ///
 /// If `is_list` of the backend `C` holds, `None` means that no compressed words were left. If the call returns no
-/// symbol, the backend of the remainders has at least as much room as before.
+/// symbol, the backend of the remainders has at least as much room as before the call.
+///
+/// # Errors
+///
+/// Returns the error of a read or a write that failed.
 pub fn decode_to_the_end<
     C: ReadWords<u32, Stack>,
     R: WriteWords<u32>,
@@ -88,7 +92,12 @@ where
 ///
 /// Returns `true` if the symbol was encoded. If `is_list` of the backend `R` holds, `false` means that no words of the
 /// remainders were left. If the symbol wasn't encoded, the backend of the compressed words has at least as much room as
-/// before.
+/// before the call.
+///
+/// # Errors
+///
+/// - `Frontend(ImpossibleSymbol)`: the model has no entry for the symbol.
+/// - `Backend(error)`: a read or a write failed with `error`.
 pub fn encode_to_the_end<
     C: WriteWords<u32>,
     R: ReadWords<u32, Stack>,

@@ -9,9 +9,9 @@ use std::alloc::Global;
 /// Decodes two symbols from words and prints them, then encodes them back and prints the words restored.
 pub fn run(rt: &impl Print, alloc: Global) -> Result<()> {
     let table = WeightTable::<u32, 24>::new(alloc, &[8388608, 4194304, 4194304])?;
-    let words = [1, 2, 0x9abcdef0, 0x12345678, 256].to_vec(alloc)?; // the last one is read first
+    let words = [1, 2, 0x9abcdef0, 0x12345678, 256].to_vec(alloc)?; // the coder reads the last word first
 
-    // Symbols out of any words: each from 24 bits of its own.
+    // Decode symbols from any words. Each symbol depends on 24 bits of its own.
     let Ok(mut coder) = DefaultChainCoder::from_compressed(alloc, words) else {
         bail!("too few words, or a zero word at the end");
     };
@@ -21,10 +21,10 @@ pub fn run(rt: &impl Print, alloc: Global) -> Result<()> {
     }
     println!(rt; "{symbols:?}")?; // [0, 1]
 
-    // What is left: words that weren't read, and the remainders.
+    // Export the words that no decode read, and the remainders.
     let (prefix, suffix) = coder.into_remainders()?;
 
-    // The symbols back into the remainders: the words again, behind those that weren't read.
+    // Encode the symbols onto the remainders. This restores the words that the decodes read.
     let Ok(mut coder) = DefaultChainCoder::from_remainders(alloc, suffix) else {
         bail!("no coder's remainders");
     };

@@ -14,7 +14,7 @@ pub fn run(rt: &impl Print, alloc: Global) -> Result<()> {
     let mut encoder = DefaultQueueEncoder::new(alloc);
     encoder.encode_iid_symbols([3usize, 2, 0].as_slice(), &tree)?;
 
-    // The decoder's tree is made of the same weights.
+    // The decoder builds its tree from the same weights.
     let tree = DecoderHuffmanTree::from_probabilities(alloc, weights.as_slice())?;
     let mut decoder = encoder.into_decoder()?;
     for _ in 0..3 {

@@ -10,7 +10,7 @@ use std::alloc::Global;
 pub fn run(rt: &impl Print, alloc: Global) -> Result<()> {
     let table = WeightTable::<u32, 24>::new(alloc, &[3, 2, 16777211])?;
 
-    // What is encoded first is decoded first.
+    // The symbol encoded first is decoded first.
     let mut encoder = DefaultRangeEncoder::new(alloc);
     encoder.encode_symbol(&1, &table)?;
     encoder.encode_iid_symbols([0usize, 2].as_slice(), &table)?;

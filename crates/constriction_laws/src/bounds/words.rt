@@ -1,4 +1,4 @@
-//! Bounds the number of words that an exchange adds to a stack coder: decoding one symbol, then encoding another.
+//! The exchange of one symbol for another on a stack coder, and a bound on the number of words that it adds.
 //!
 //! The bound is proved from the coder's public contract and the laws of [`bounds`](crate::bounds) alone.
 
@@ -43,11 +43,11 @@ pub enum ExchangeError {
 ///
 /// # Errors
 ///
-/// - `LowHead`: the head is low before the exchange, and the coder is unchanged.
-/// - `LowHead`: the head is low after the decode. The decode isn't undone, and its symbol is lost.
-/// - `ImpossibleSymbol`: the model `on` has no entry for `symbol`. The decode isn't undone, and its symbol is lost.
-/// - `Refused`: the backend refused a word. If the decode failed, the state is unchanged. If the encode failed, the
-///   decode isn't undone, and its symbol is lost.
+/// An error after the decode doesn't undo the decode, and the decoded symbol is lost.
+///
+/// - `LowHead`: the head is low before the decode, and the state is unchanged. Or the head is low after the decode.
+/// - `ImpossibleSymbol`: the decode succeeded, but the model `on` has no entry for `symbol`.
+/// - `Refused`: the backend refused a word. If the decode failed, the state is unchanged.
 pub fn exchange<
     Word: WordOf<State>,
     State: BitArray,

@@ -5,12 +5,12 @@
 pub enum PutBackError {
     /// No coder has these remainders.
     InvalidRemainders,
-    /// The numbers of models and of symbols differ.
+    /// The number of models and the number of symbols differ.
     UnequalCounts,
     /// A model has no entry for its symbol.
     ImpossibleSymbol,
     /// The coder needs a word of the remainders, and none is left.
     OutOfRemainders,
-    /// There is no memory.
+    /// There was no memory.
     NoMemory,
 }

@@ -14,7 +14,9 @@ ghost use Rattle.constriction_laws.specs.chain.Undone.{Sizes, decode_back, encod
 use crate::lists::{StepsUndo, lists_undo};
 use std::marker::PhantomData;
 
-/// An implementor of [`StepsUndo`]. Its steps are encodes of symbols, and its inverse steps are decodes.
+/// Encodes of symbols, as the steps of [`StepsUndo`]. The inverse steps are decodes.
+///
+/// [`decodes_undo_encodes`] passes this type to [`lists_undo`].
 pub struct Encoding<Symbol> {
     symbols: PhantomData<Symbol>,
 }
@@ -38,7 +40,9 @@ impl<Symbol> StepsUndo for Encoding<Symbol> {
         (decode_back sizes.0 sizes.1 item.model item.symbol old new does, tt) };
 }
 
-/// An implementor of [`StepsUndo`]. Its steps are decodes from a coder's states, and its inverse steps are encodes.
+/// Decodes of symbols from a coder's states, as the steps of [`StepsUndo`]. The inverse steps are encodes.
+///
+/// [`encodes_undo_decodes`] passes this type to [`lists_undo`].
 pub struct Decoding<Symbol> {
     symbols: PhantomData<Symbol>,
 }
@@ -64,9 +68,9 @@ impl<Symbol> StepsUndo for Decoding<Symbol> {
     ) };
 }
 
-/// Decodes under the same tables undo encodes, from the last symbol to the first.
+/// Decoding symbols in reverse order, with the tables of their encodes, undoes the encodes.
 ///
-/// The decodes return the encoded symbols, and lead to the state before the encodes.
+/// The decodes return the same symbols, last symbol first, and lead to the state before the encodes.
 pub fn decodes_undo_encodes<Symbol>()
     ensures { (w s : ℕ) (items : List (Item Symbol)) (old new : ChainState) →
         PutsBackAll w s items old new → TakesOffAll w s (reverse items) new old }
@@ -74,9 +78,9 @@ pub fn decodes_undo_encodes<Symbol>()
     lists_undo::<Encoding<Symbol>>()
 }
 
-/// Encodes under the same tables undo decodes, from the last symbol to the first.
+/// Encoding decoded symbols from last to first, with the tables of their decodes, undoes the decodes.
 ///
-/// The encodes are possible. They lead to the state before the decodes, and to no other state.
+/// The encodes lead to exactly one state: the state before the decodes.
 pub fn encodes_undo_decodes<Symbol>()
     ensures back { (w s P : ℕ) (items : List (Item Symbol)) (old new : ChainState) → AfterTakeOff w s P items old new
         (PutsBackAll w s (reverse items) new old) }

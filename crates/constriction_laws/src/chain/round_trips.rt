@@ -1,11 +1,11 @@
 //! Callers of the chain coder, generic in the sizes of words, heads and tables.
 //!
-//! Each function is one half of a round trip. Its docstring names the calls that it makes. Its contract uses the laws'
-//! definitions to describe the combined effect of these calls. The errors are
-//! [`RoundTripError`](crate::errors::RoundTripError) and [`PutBackError`](crate::chain::errors::PutBackError). Each
-//! error other than `Refused` and `NoMemory` is returned only for the reason that it names.
+//! The docstring of a function names the calls that the function makes. Its contract uses the laws' definitions to
+//! describe the combined effect of these calls. The errors are [`RoundTripError`](crate::errors::RoundTripError) and
+//! [`PutBackError`](crate::chain::errors::PutBackError). A function returns an error other than `Refused` and
+//! `NoMemory` only for the reason that the error names.
 //!
-//! - [`isolation`]: decodes from two coders over the same words.
+//! - [`isolation`]: decodes symbols from two coders over the same words.
 //! - [`words`]: decodes symbols and returns the remainders, or encodes the symbols onto the remainders.
 
 mod coding;

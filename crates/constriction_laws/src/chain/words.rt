@@ -1,4 +1,4 @@
-//! A coder made from the remainders restores the words when it encodes the symbols decoded from the words.
+//! Restoring words: a coder made from the remainders encodes the symbols that were decoded from the words.
 
 ghost use Rattle.std.specs.Prelude.{◌≡◌, ◌≤◌, ℕ, List, ◌++◌};
 ghost use Rattle.constriction_base.specs.Models.{Item};
@@ -11,10 +11,10 @@ ghost use Rattle.constriction_chain.specs.Imports.{compressed_words};
 ghost use Rattle.constriction_chain.specs.Symbols.{AreModelsAt, TakesOffAll};
 ghost use Rattle.constriction_base.specs.Writing.{IsOneAbove};
 
-/// Importing a list of words leads to at most one coder. This holds for each of the three imports.
+/// Importing a list of words leads to at most one state.
 ///
-/// The imports read compressed words, words in binary form, or remainders. The clause `form` says that a number has at
-/// most one binary form.
+/// This holds for imports of compressed words, of words in binary form, and of remainders. The clause `form` says that
+/// a number has at most one binary form.
 pub fn one_coder()
     ensures compressed { (w s P : ℕ) (words : List ℕ) (x y : ChainState) → 1 ≤ w →
         FromCompressed w s P words x → FromCompressed w s P words y → x ≡ y }
@@ -30,14 +30,14 @@ pub fn one_coder()
 /// A caller takes these steps:
 ///
 /// 1. Import the words.
-/// 2. Decode any number of symbols, each under its own table.
+/// 2. Decode any number of symbols, each with its own table.
 /// 3. Export the remainders, and put any list of words, `below`, under them.
 /// 4. Import these words as remainders.
-/// 5. Encode the same symbols from the last to the first, under the same tables.
-/// 6. Export the compressed words.
+/// 5. Encode the same symbols from the last to the first, with the same tables.
+/// 6. Export the compressed words, in binary form if step 1 imports words in binary form.
 ///
 /// The words of step 6, followed by the compressed words that the decodes left, are the original words. After step 5,
-/// the remainders are exactly the list `below`.
+/// the remainders are the list `below`.
 pub fn words_come_back<Symbol>()
     ensures encoded { (w s P : ℕ) (below : List ℕ) (items : List (Item Symbol)) (x y : ChainState) → IsSized w s P →
         AreModelsAt P items → AreWords w below → IsWhole w s P x → TakesOffAll w s items x y → CanBePutBack w s P items

@@ -5,8 +5,8 @@
 pub enum DecodeError {
     /// The words end before the position.
     NoSuchPlace,
-    /// From the position on, the words don't encode as many symbols of the models as the caller asked for.
+    /// Starting at the position, the words don't encode one symbol for each model.
     InvalidData,
-    /// There is no memory.
+    /// There was no memory.
     NoMemory,
 }

@@ -18,20 +18,20 @@ use constriction_queue::{DecoderFrontendError, FlagSwitch};
 use constriction_words::{BitArray, WordOf};
 use std::alloc::Global;
 
-/// Words determine a list of symbols with a flag among them, if the number of symbols is given.
+/// Words decode to at most one list of a given number of symbols, if the model changes after a flag.
 ///
 /// The decoder starts from the interval `old`. It uses the model `first` up to and including the flag, and then
-/// `second`. The words also determine the interval after the list.
+/// `second`. The words also determine the interval after the list. The list need not contain the flag.
 pub fn one_list_of_flagged_symbols()
     ensures { (w s flag : ℕ) (first second : Model ℕ) (words symbols others : List ℕ) (old new last : Run) → IsModel w
         first → IsModel w second → length others ≡ length symbols → AreFoundAlike w s words (flagged flag first second)
         symbols others old new last }
 {}
 
-/// Decoding self-delimiting words returns the encoded symbols with a flag among them, whatever words follow.
+/// Decoding self-delimiting words returns the encoded symbols, if the model changes after a flag.
 ///
-/// The encoder starts from the initial interval. Symbols up to and including the flag have the model `first`. All later
-/// symbols have the model `second`.
+/// Any words may follow. The encoder starts from the initial interval. Symbols up to and including the flag have the
+/// model `first`. All later symbols have the model `second`. The list need not contain the flag.
 pub fn flagged_symbols_come_back()
     ensures { (w s flag : ℕ) (first second : Model ℕ) (symbols words rest : List ℕ) (last : Run) → IsSizes w s → IsModel
         w first → IsModel w second → AreWords w rest → AreReadBefore w s (flagged flag first second symbols) last words
@@ -46,12 +46,12 @@ pub fn flagged_symbols_come_back()
 ///
 /// # Errors
 ///
-/// If the backend's `is_list` holds, then after an error the switch is positioned after the symbols that `next_symbol`
-/// returned. It has switched to `second` if the flag was among them.
-///
-/// - `Refused(error)`: the switch returned this error. It is `InvalidData` only if the words don't encode `amt`
-///   symbols.
+/// - `Refused(error)`: `next_symbol` returned this error. If the backend's `is_list` holds, `InvalidData` comes only if
+///   the words don't encode `amt` symbols.
 /// - `NoMemory`: there was no memory for the symbols.
+///
+/// After an error, the switch has switched to `second` if the flag was among the symbols that `next_symbol` returned.
+/// If the backend's `is_list` holds, the switch is positioned after these symbols.
 pub fn decode_flagged<
     Word: WordOf<State>,
     State: BitArray,

@@ -11,10 +11,10 @@ ghost use Rattle.constriction_laws.specs.queue.Lists.{ReadsSteps};
 
 use crate::queue::lists::decodes_undo_encodes;
 
-/// An encoder's interval has only one list of self-delimiting words.
+/// An encoder's interval has at most one list of self-delimiting words.
 ///
 /// If `State` is two words wide, the list equals the sealed words. A decoder that has decoded the last encoded symbol
-/// from the list reports that it may be exhausted. Both facts are about encoders that start from the initial interval.
+/// from the list reports that it may be exhausted. Both facts hold for encoders that start from the initial interval.
 pub fn self_delimiting_words<Symbol>()
     ensures one { (w s : ℕ) (last : Run) (words others : List ℕ) → SelfDelimits w s last words →
         SelfDelimits w s last others → others ≡ words }
@@ -36,7 +36,7 @@ pub fn self_delimiting_words_are_read()
 
 /// Decoding from a position returns the symbols encoded after it, if the seal is self-delimiting.
 ///
-/// Any words may follow the seal. The position may be the start, where no symbol has been encoded.
+/// Any words may follow the seal. The encoder starts from the initial interval. The position may be that start.
 pub fn symbols_come_back_whatever_follows<Symbol>()
     ensures { (w s : ℕ) (before since : List (Item Symbol)) (middle last : Run) (words rest : List ℕ) → IsSizes w s →
         AreModels w before → AreModels w since → AreWords w rest → AfterBoth w s before since middle last (SelfDelimits
@@ -47,8 +47,8 @@ pub fn symbols_come_back_whatever_follows<Symbol>()
 
 /// A seal with fewer zero words than the least sufficient number isn't self-delimiting.
 ///
-/// There are words `rest` that spoil decoding: if `rest` follows a seal with fewer zero words, the decoder doesn't
-/// return the symbols. The encoder starts from the initial interval and encodes at least one symbol.
+/// For such a seal there are words `rest` with this effect: if `rest` follows the seal, the decoder doesn't return the
+/// symbols. The encoder starts from the initial interval and encodes at least one symbol.
 pub fn fewer_zero_words_hold_less<Symbol>()
     ensures { (w s count fewer : ℕ) (first : Item Symbol) (others : List (Item Symbol)) (last : Run) → AfterNarrows w s
         (first ∷ others) last (AreLeast w s last count → fewer < count → AreLostBefore w s (sealed_with_zeros w s last

@@ -1,7 +1,7 @@
 //! Lists of symbols on the range coder. Decoding returns the first symbol first.
 //!
 //! Each symbol has its own table, with any allowed precision. The laws follow from the laws of one step by
-//! [`lists_undo`]. The steps of that law take encodes back, from the last to the first.
+//! [`lists_undo`]. The steps of that law undo encodes, from the last to the first.
 //!
 //! An interval (`Run`) has a lower end, which is an unbounded number, and a range. It also has the number `n` of words
 //! that the encoder has moved out. Words lie within an interval if the number that they form lies in the interval. The
@@ -18,7 +18,9 @@ ghost use Rattle.constriction_laws.specs.queue.Undone.{Reading, TakesBack, read_
 use crate::lists::{StepsUndo, lists_undo};
 use std::marker::PhantomData;
 
-/// An implementor of [`StepsUndo`]. Each step undoes the encode of a symbol; its inverse is a decode.
+/// Undone encodes of symbols, as the steps of [`StepsUndo`]. The inverse steps are decodes.
+///
+/// [`decodes_undo_encodes`] passes this type to [`lists_undo`].
 pub struct Encoding<Symbol> {
     symbols: PhantomData<Symbol>,
 }
@@ -51,7 +53,7 @@ pub fn one_list_of_encodes<Symbol>()
         (IsInterval w s new) }
 {}
 
-/// If words lie within the encoder's interval after the last encode, decoding them returns exactly the encoded symbols.
+/// If words lie within the encoder's interval after the last encode, decoding the words returns the encoded symbols.
 pub fn decodes_undo_encodes<Symbol>()
     ensures back { (w s : ℕ) (words : List ℕ) (items : List (Item Symbol)) (old new : Run) → WithinEncodes w s words
         items old new (FindsAll w s words items old new) }
@@ -63,7 +65,7 @@ pub fn decodes_undo_encodes<Symbol>()
     lists_undo::<Encoding<Symbol>>()
 }
 
-/// Words decode to a nonempty list of symbols exactly if they lie within the interval after encoding the list.
+/// Words decode to a nonempty list of symbols if and only if they lie within the interval after encoding the list.
 ///
 /// The encoder and the decoder start from the initial interval.
 pub fn symbols_of_any_words<Symbol>()
@@ -77,9 +79,9 @@ pub fn symbols_of_any_words<Symbol>()
 
 /// Decoding sealed words returns the encoded symbols, first symbol first.
 ///
-/// Start from the initial interval, encode any symbols, each under its own table, and seal. Decode the sealed words,
-/// with no words after them, with the same tables in the same order. The decoder returns the same symbols and ends at
-/// the encoder's interval. There, the decoder reports that it may be exhausted.
+/// Start from the initial interval, encode any number of symbols, each with its own table, and seal. Decode the sealed
+/// words with the same tables in the same order. No words follow the sealed words. The decoder returns the same symbols
+/// and ends at the encoder's interval. There, the decoder reports that it may be exhausted.
 pub fn symbols_come_back<Symbol>()
     ensures decoded { (w s : ℕ) (items : List (Item Symbol)) (last : Run) → AfterNarrows w s items last (FindsAll w s
         (sealed w s last) items (initial s) last) }

@@ -1,8 +1,8 @@
-//! Positions of the range coder. Seeking to a position leads a decoder to the interval at which it was recorded.
+//! Positions of the range coder. Seeking to a recorded position leads a decoder to the encoder's interval at that time.
 //!
-//! A position is the number of words written and held, and the interval. A position stays usable in all words that the
-//! encoder exports later, whatever symbols the encoder encodes in between. This holds even if a carry changes the held
-//! words.
+//! A position is the number of words written and pending, and the interval. A position stays usable in all words that
+//! the encoder exports later, whatever symbols the encoder encodes in between. This holds even if a carry changes the
+//! pending words.
 
 ghost use Rattle.std.specs.Prelude.{◌≡◌, ◌/◌, ◌^◌, ℕ, List, drop};
 ghost use Rattle.constriction_base.specs.Models.{Item};
@@ -20,8 +20,8 @@ use constriction_words::{BitArray, WordOf};
 
 /// Seeking to the recorded position of an interval leads a decoder to that interval.
 ///
-/// The decoder reads the `s / w` words from the position on, with zeros past the last word. Read as one number, these
-/// words are its point.
+/// The decoder reads `s / w` words, starting at the position, with zeros past the last word. The decoder's point is the
+/// number that these words form.
 pub fn position_leads_there()
     ensures { (w s : ℕ) (words rest : List ℕ) (there : Run) (place lower range point : ℕ) → IsSizes w s →
         AreWords w words → IsPosition s there place lower range →
@@ -32,7 +32,7 @@ pub fn position_leads_there()
 /// Decoding from a position returns the symbols encoded after it, in the order of encoding.
 ///
 /// The decoder may read the words of any later export, if the encoder isn't cleared before that export. By the clause
-/// `anywhere`, only the interval of the position matters, not the words written before it.
+/// `anywhere`, only the interval of the position matters, not the words before the position.
 pub fn symbols_after_a_position<Symbol>()
     ensures decoded { (w s : ℕ) (before since : List (Item Symbol)) (middle last : Run) → AfterLists w s before since
         middle last (FindsAll w s (sealed w s last) since middle last) }
@@ -44,9 +44,9 @@ pub fn symbols_after_a_position<Symbol>()
     decodes_undo_encodes::<Symbol>()
 }
 
-/// Proves that the lower end and the range of any encoder form a valid interval, whatever words it has written.
+/// Proves that the lower end and the range of any encoder form a valid interval, for any words written.
 ///
-/// So the clause `anywhere` of [`symbols_after_a_position`] covers each position of the encoder: decoding from the
+/// So the clause `anywhere` of [`symbols_after_a_position`] covers each position of the encoder. Decoding from the
 /// position returns the symbols that were encoded after the position was recorded.
 pub fn run_of_any_encoder<Word: WordOf<State>, State: BitArray, Backend: WriteWords<Word>>(
     encoder: &RangeEncoder<Word, State, Backend>,

@@ -1,4 +1,4 @@
-//! How much room in a backend is enough for a step of the range coder.
+//! How many words of room in a backend are enough for a step of the range coder.
 
 ghost use Rattle.std.specs.Prelude.{◌+◌, ◌≤◌, length};
 ghost use Rattle.constriction_base.specs.Steps.{Step};
@@ -8,9 +8,9 @@ ghost use Rattle.constriction_queue.specs.Calls.{IsRefused};
 use constriction_base::backends::{Holds, WriteWords};
 use constriction_words::{BitArray, WordOf};
 
-/// If a backend has room for the words held and one more word, it refuses no step of the encoder.
+/// If a backend has room for the pending words and one more word, the backend refuses no step of the encoder.
 ///
-/// The words held are the words that a carry may still change. For example, a long enough cursor has this room.
+/// The pending words are the words that a carry may still change. For example, a long enough cursor has this room.
 pub fn room_is_enough<Word: WordOf<State>, State: BitArray, Backend: WriteWords<Word>>()
     ensures { (old : Encoder Backend) (step : Step) (e : Backend.WriteError) (new : Encoder Backend) →
         length old.held + 1 ≤ Backend.room old.bulk →

@@ -16,10 +16,10 @@ pub fn sealed_words_are_read()
     ensures words { (w s : ℕ) (last : Run) → AreWords w (sealed w s last) }
 {}
 
-/// A decoder reads a nonempty list of steps from words exactly if the words lie within the interval after the steps.
+/// A decoder reads given steps from words if and only if the words lie within the interval after the steps.
 ///
-/// The encoder and the decoder start from the initial interval. [`lists`](crate::queue::lists) explains when words lie
-/// within an interval.
+/// There is at least one step. The encoder and the decoder start from the initial interval.
+/// [`lists`](crate::queue::lists) explains when words lie within an interval.
 pub fn words_within_are_read()
     ensures { (w s : ℕ) (words : List ℕ) (first : Step) (others : List Step) → IsSizes w s → AreWords w words → AreSteps
         w (first ∷ others) → (ReadsSteps w s words (first ∷ others) ↔ Within w s words (run w s (first ∷ others)

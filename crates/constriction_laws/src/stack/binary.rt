@@ -13,7 +13,7 @@ ghost use Rattle.constriction_laws.specs.stack.Lists.{AfterWayBack, IsBinaryForm
 
 use crate::stack::lists::encodes_undo_decodes;
 
-/// Importing any words in binary form leads to a valid state, which exports the same words.
+/// Importing any words in binary form leads to a valid state, and the state's binary form is the same words.
 pub fn binary_export_of_import()
     ensures words { (w s : ℕ) (words : List ℕ) → IsSizes w s → AreWords w words → IsBinaryForm w (binary_state w s
         words) words }
@@ -32,7 +32,7 @@ pub fn binary_import_of_export()
 
 /// A state has at most one binary form.
 ///
-/// The head determines how many words the form takes from the head.
+/// The head determines how many words of the binary form come from the head.
 pub fn one_binary_form()
     ensures { (w m n : ℕ) (state : AnsState) → 1 ≤ w → IsOneAbove w m state.head → IsOneAbove w n state.head →
         m ≡ n }
@@ -40,8 +40,8 @@ pub fn one_binary_form()
 
 /// Encoding the symbols decoded from any words restores the words.
 ///
-/// Import the words in binary form and decode any number of symbols, each under its own table. Encode the same symbols
-/// from the last to the first under the same tables, and export in binary form. The words are the same.
+/// Import the words in binary form and decode any number of symbols, each with its own table. Encode the same symbols
+/// from the last to the first with the same tables, and export in binary form. The export returns the imported words.
 pub fn binary_words_come_back<Symbol>()
     ensures state { (w s : ℕ) (words : List ℕ) (items : List (Item Symbol)) (state last : AnsState) → AfterWayBack w s
         words items state last (last ≡ binary_state w s words) }

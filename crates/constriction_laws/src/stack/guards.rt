@@ -1,7 +1,8 @@
 //! A guard lends the words of the export, and the guard's drop restores the coder.
 //!
-//! The premise of each law is the clause `shows` of the call that makes a guard. The clause says that the guard's coder
-//! holds the words of the export below the head.
+//! The premise of each law is the clause `shows` of the call that creates the guard. This clause says that the guard's
+//! coder holds the words of the export below the head. In each law, the clause `compressed` is about a guard that lends
+//! the exported words. The clause `binary` is about a guard that lends the binary form.
 
 ghost use Rattle.std.specs.Prelude.{◌≡◌, ℕ};
 ghost use Rattle.constriction_base.specs.Digits.{count_of_words};
@@ -12,7 +13,7 @@ ghost use Rattle.constriction_stack.specs.Binary.{binary_state, binary_words};
 ghost use Rattle.constriction_stack.specs.Guards.{without};
 ghost use Rattle.constriction_laws.specs.stack.Lists.{with_words};
 
-/// A guard lends the words of the export: importing them restores the coder's state.
+/// Importing the words that a guard lends restores the coder's state.
 pub fn shown_words_are_exported()
     ensures compressed { (w s : ℕ) (state shown : AnsState) → IsSizes w s → IsValid w s state → shown ≡ with_words state
         (exported w state) → filled w s 0 shown.words ≡ state }
@@ -22,8 +23,7 @@ pub fn shown_words_are_exported()
 
 /// Removing the words that a guard appended restores the state.
 ///
-/// The appended words are the words of the head. The clause `compressed` is about a guard that lends the exported
-/// words. The clause `binary` is about a guard that lends the binary form.
+/// The appended words are the words of the head.
 pub fn shown_words_go()
     ensures compressed { (w : ℕ) (state shown : AnsState) → shown ≡ with_words state (exported w state) → without
         (count_of_words w state.head) shown ≡ state }

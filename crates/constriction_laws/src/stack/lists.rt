@@ -17,7 +17,9 @@ ghost use Rattle.constriction_laws.specs.stack.Undone.{Sizes, decode_back, encod
 use crate::lists::{StepsUndo, lists_undo};
 use std::marker::PhantomData;
 
-/// An implementor of [`StepsUndo`]. Its steps are encodes of symbols, and its inverse steps are decodes.
+/// Encodes of symbols, as the steps of [`StepsUndo`]. The inverse steps are decodes.
+///
+/// [`decodes_undo_encodes`] passes this type to [`lists_undo`].
 pub struct Encoding<Symbol> {
     symbols: PhantomData<Symbol>,
 }
@@ -41,7 +43,9 @@ impl<Symbol> StepsUndo for Encoding<Symbol> {
         (decode_back sizes.w sizes.s item.model item.symbol old new does, tt) };
 }
 
-/// An implementor of [`StepsUndo`]. Its steps are decodes of symbols from valid states. Its inverse steps are encodes.
+/// Decodes of symbols from valid states, as the steps of [`StepsUndo`]. The inverse steps are encodes.
+///
+/// [`encodes_undo_decodes`] passes this type to [`lists_undo`].
 pub struct Decoding<Symbol> {
     symbols: PhantomData<Symbol>,
 }
@@ -76,7 +80,7 @@ pub fn one_list_of_encodes<Symbol>()
         (EncodesAll w s items old other → new ≡ other) }
 {}
 
-/// Decoding symbols in reverse order, under the same tables, undoes their encodes.
+/// Decoding symbols in reverse order, with the tables of their encodes, undoes the encodes.
 ///
 /// The decodes return the same symbols, last symbol first, and lead to the state before the encodes.
 pub fn decodes_undo_encodes<Symbol>()
@@ -88,9 +92,9 @@ pub fn decodes_undo_encodes<Symbol>()
     lists_undo::<Encoding<Symbol>>()
 }
 
-/// Encoding decoded symbols from last to first, under the same tables, undoes their decodes from a valid state.
+/// Encoding decoded symbols from last to first, with the tables of their decodes, undoes the decodes.
 ///
-/// The encodes lead to the state before the decodes.
+/// The decodes start from a valid state. The encodes lead back to this state.
 pub fn encodes_undo_decodes<Symbol>()
     ensures back { (w s : ℕ) (items : List (Item Symbol)) (old new : AnsState) → AfterDecodes w s items old new
         (EncodesAll w s (reverse items) new old) }
@@ -104,8 +108,8 @@ pub fn encodes_undo_decodes<Symbol>()
 
 /// Decoding the words that a coder exports returns the symbols encoded onto it, if the coder started empty.
 ///
-/// Encode any symbols, each under its own table. Export the words, import them, and decode with the same tables in
-/// reverse order. The symbols are the same, last symbol first, and the coder is empty.
+/// Encode any number of symbols, each with its own table. Export the words, import them, and decode with the same
+/// tables in reverse order. The symbols are the same, last symbol first, and the coder is empty.
 pub fn symbols_come_back<Symbol>()
     ensures encoded { (w s : ℕ) (items : List (Item Symbol)) → IsSizes w s → AreModels w items →
         AreKnown items →
@@ -122,8 +126,8 @@ pub fn symbols_come_back<Symbol>()
 
 /// Encoding the symbols decoded from words restores the words, if the first word in reading order isn't 0.
 ///
-/// Import the words and decode any symbols. Encode the same symbols from the last to the first under the same tables,
-/// and export. The words are the same.
+/// Import the words and decode any number of symbols. Encode the same symbols from the last to the first with the same
+/// tables, and export. The export returns the imported words.
 pub fn words_come_back<Symbol>()
     ensures { (w s : ℕ) (words : List ℕ) (items : List (Item Symbol)) (state last : AnsState) →
         IsSizes w s → AreWords w words → BeginsHigh words → AreModels w items →

@@ -1,4 +1,4 @@
-//! Positions of the stack coder. A position leads back to the state at which it was recorded.
+//! Positions of the stack coder. Seeking to a recorded position restores the coder's state at that time.
 //!
 //! A position is the number of words below the head, and the head. While the coder only encodes, the words of a
 //! recorded position stay below the words that it writes.
@@ -32,9 +32,9 @@ pub fn position_leads_back<Symbol>()
 
 /// Decoding from a recorded position undoes the encodes before the recording, last symbol first.
 ///
-/// After the recording, the coder encodes any symbols and decodes none. The decoder reads the coder's own words, or the
-/// words that the coder exports. The last decode leads to the state before the first encode, for example the empty
-/// state.
+/// After the recording, the coder encodes any number of symbols and decodes none. The decoder reads the coder's own
+/// words, or the words that the coder exports. The last decode leads to the state before the first encode, for example
+/// the empty state.
 pub fn symbols_before_a_position<Symbol>()
     ensures decoded { (w s : ℕ) (before since : List (Item Symbol)) (start middle last : AnsState) → IsSizes w s →
         AreModels w since → AfterTwo w s before since start middle last (DecodesBack w s (reverse before) middle

@@ -29,7 +29,7 @@ pub fn items_are_words<Word, ReadError, Iter: Iterator<Item = Result<Word, ReadE
 
 /// If `words` lists the words of a backend, decoding from the backend equals decoding from that list.
 ///
-/// Both return the same symbols, and leave the same head and words.
+/// Both decodes return the same symbols, and leave the same head and words.
 pub fn decodes_are_words<Symbol, Word: BitArray, Backend: ReadWords<Word, Stack>>()
     ensures one { (words : Backend → List Word) (w s : ℕ) (model : Model Symbol) (symbol : Symbol)
         (old new : AnsValue Backend) → TellsWords Backend.reads words →
@@ -45,9 +45,9 @@ pub fn decodes_are_words<Symbol, Word: BitArray, Backend: ReadWords<Word, Stack>
 
 /// Decoding exported words from a backend returns the symbols that were encoded onto an empty coder.
 ///
-/// Encode any symbols, each under its own table, and export the words. Import them from a backend that reads them, such
-/// as one over an iterator. Decode with the same tables in reverse order. The decoded symbols are the encoded symbols,
-/// last symbol first. No word is left, and the coder is empty.
+/// Encode any number of symbols, each with its own table, and export the words. Import these words from a backend, such
+/// as a backend over an iterator. Decode with the same tables in reverse order. The decoded symbols are the encoded
+/// symbols, last symbol first. No word is left, and the coder is empty.
 pub fn symbols_come_back_by_reads<Symbol, Word: BitArray, Backend: ReadWords<Word, Stack>>()
     ensures { (words : Backend → List Word) (w s : ℕ) (items others : List (Item Symbol)) (given : Backend) (last :
         AnsValue Backend) → IsSizes w s → AreModels w items → ComeBackByReads Word.number Backend.reads words w s items

@@ -1,4 +1,4 @@
-//! The sizes of the stack coder's states.
+//! The sizes of the stack coder's states, in words and in bits.
 
 ghost use Rattle.std.specs.Prelude.{◌≡◌, ℕ, ◌+◌, ◌*◌, ◌^◌, ◌<◌, ◌≤◌, length, drop};
 ghost use Rattle.std.specs.Int.Digits.{digits_of};
@@ -7,7 +7,7 @@ ghost use Rattle.constriction_stack.specs.Sizes.{word_count, bit_count, valid_bi
 ghost use Rattle.constriction_base.specs.Writing.{IsOneAbove};
 ghost use Rattle.constriction_stack.specs.Binary.{binary_words};
 
-/// `word_count` of a state is the number of words that it exports.
+/// The `word_count` of a state is the number of words that the state exports.
 ///
 /// The words below the head are the exported words without the words of the head.
 pub fn words_that_are_exported()
@@ -16,7 +16,7 @@ pub fn words_that_are_exported()
         drop (length (digits_of (2 ^ w) state.head)) (exported w state) ≡ state.words }
 {}
 
-/// `valid_bit_count` of a state is the number of bits in the words of its binary form.
+/// The `valid_bit_count` of a state is the number of bits in the words of the state's binary form.
 pub fn bits_of_binary_words()
     ensures { (w m : ℕ) (state : AnsState) → IsOneAbove w m state.head →
         valid_bit_count w state ≡ w * length (binary_words w m state) }

@@ -18,7 +18,7 @@ pub fn one_push()
         IsPush w s e state new → IsPush w s e state other → new ≡ other }
 {}
 
-/// A pop undoes a push, and a push undoes a pop.
+/// A pop undoes a push, and a push undoes a pop from a valid state.
 pub fn pushes_and_pops_undo()
     ensures pop_undoes { (w s : ℕ) (e : Step) (old new : AnsState) →
         IsPush w s e old new → IsNext e new × (pop w s e new ≡ old) }
@@ -45,7 +45,7 @@ pub fn one_decode<Symbol>()
         → Decodes w s model symbol old new → Decodes w s model other old last → (symbol ≡ other) × (new ≡ last) }
 {}
 
-/// A decode under the same table undoes an encode: it returns the symbol, and leads to the state before the encode.
+/// A decode with the same table undoes an encode: it returns the symbol, and leads to the state before the encode.
 pub fn decode_undoes_encode<Symbol>()
     ensures back { (w s : ℕ) (model : Model Symbol) (symbol : Symbol) (old new : AnsState) →
         Encodes w s model symbol old new → Decodes w s model symbol new old }
@@ -55,7 +55,7 @@ pub fn decode_undoes_encode<Symbol>()
         Encodes w s model symbol old new → IsValid w s new }
 {}
 
-/// An encode of the same symbol under the same table undoes a decode from a valid state.
+/// An encode of the same symbol with the same table undoes a decode from a valid state.
 pub fn encode_undoes_decode<Symbol>()
     ensures back { (w s : ℕ) (model : Model Symbol) (symbol : Symbol) (old new : AnsState) →
         IsValid w s old → Decodes w s model symbol old new → Encodes w s model symbol new old }

@@ -20,9 +20,9 @@ pub fn import_of_export()
         AreWords w (exported w state) }
 {}
 
-/// Importing words leads to a valid state, which exports the same words if the first word in reading order isn't 0.
+/// Importing words leads to a valid state.
 ///
-/// The exported words are also the same if `words` is empty.
+/// The state exports the same words if the first word in reading order isn't 0, or if `words` is empty.
 pub fn export_of_import()
     ensures words { (w s : ℕ) (words : List ℕ) → IsSizes w s → AreWords w words → BeginsHigh words →
         exported w (filled w s 0 words) ≡ words }
@@ -32,7 +32,7 @@ pub fn export_of_import()
 
 /// If `words` lists the words of a backend, refilling from the backend equals refilling from that list.
 ///
-/// Both lead to the same head and leave the same words.
+/// Both refills lead to the same head and leave the same words.
 pub fn reads_are_words<Word: BitArray, Backend: ReadWords<Word, Stack>>()
     ensures { (words : Backend → List Word) (w s head new_head : ℕ) (old new : Backend) →
         TellsWords Backend.reads words → RefillsBy Word.number Backend.reads w s head old new_head new →
@@ -42,7 +42,7 @@ pub fn reads_are_words<Word: BitArray, Backend: ReadWords<Word, Stack>>()
 
 /// If `words` lists the words of a backend, importing from the backend equals importing that list.
 ///
-/// Both lead to the same head and leave the same words.
+/// Both imports lead to the same head and leave the same words.
 pub fn imports_are_words<Word: BitArray, Backend: ReadWords<Word, Stack>>()
     ensures { (words : Backend → List Word) (w s head : ℕ) (old new : Backend) → IsSizes w s →
         head < 2 ^ s → TellsWords Backend.reads words →

@@ -1,8 +1,8 @@
-//! The cost of a Huffman tree that a call makes, compared with other codebooks.
+//! The cost of a Huffman tree that a call builds, compared with the costs of other codebooks.
 //!
-//! The cost of codewords under weights, one codeword for each weight, is the sum of weight times length.
-//! [`least_cost`](crate::symbol::huffman::least_cost) compares definitions. The law here is about the tree that
-//! `EncoderHuffmanTree::from_probabilities` makes.
+//! The cost of codewords, one for each weight, is the sum of each weight times the length of its codeword in bits.
+//! [`least_cost`](crate::symbol::huffman::least_cost) compares definitions. The function here is about the tree that
+//! `EncoderHuffmanTree::from_probabilities` builds.
 
 ghost use Rattle.constriction_laws.specs.symbol.Cost.{CostsFromZero, IsNoDearer};
 ghost use Rattle.constriction_laws.specs.symbol.Refusals.{HaveNoTree};
@@ -16,11 +16,11 @@ use constriction_words::BitArray;
 use std::alloc::Global;
 use std::convert::Infallible;
 
-/// Makes a Huffman tree of `weights` for an encoder. No other codebook costs less under these weights.
+/// Builds a Huffman tree of `weights` for an encoder. No other codebook costs less with these weights.
 ///
-/// The tree's cost is the sum of weight times length over the codewords of the symbols `0`, `1`, .., one for each
-/// weight. The cost of another codebook is this sum over the codewords of any list with one symbol for each weight. No
-/// two symbols of the list may mean the same. The other codebook may have any type of symbols.
+/// The tree's cost is the sum of weight times length in bits over the codewords of the symbols `0`, `1`, .., one for
+/// each weight. The cost of another codebook is this sum over the codewords of any list with one symbol for each
+/// weight. The list has no two symbols that mean the same. The other codebook may have any type of symbols.
 ///
 /// # Errors
 ///

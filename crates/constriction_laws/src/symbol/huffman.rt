@@ -15,7 +15,7 @@ pub fn huffman_is_prefix_free()
     ensures { (weights : List ℕ) → IsPrefixFree (huffman weights) }
 {}
 
-/// In a Huffman tree of `n` weights, exactly the numbers below `n` have a codeword.
+/// In a Huffman tree of `n` weights, a number has a codeword if and only if it is below `n`.
 pub fn huffman_knows_its_symbols()
     ensures known { (weights : List ℕ) (s : ℕ) → s < length weights →
         (bits : List Bool) × (huffman weights s ≡ Some bits) }
@@ -24,8 +24,8 @@ pub fn huffman_knows_its_symbols()
 
 /// The codewords of a Huffman tree cost at most as much as any prefix-free codewords for the same weights.
 ///
-/// The clause `codewords` compares them with any prefix-free list of codewords. The clause `codebook` compares them
-/// with the codewords of any prefix-free codebook. The clause `tree` is about any tree for which `IsHuffman` holds.
+/// The clause `codewords` compares the tree with any prefix-free list of codewords. The clause `codebook` compares the
+/// tree with the codewords of any prefix-free codebook. The clause `tree` is about any tree that meets `IsHuffman`.
 pub fn least_cost()
     ensures codewords { (weights : List ℕ) (codewords others : List (List Bool)) → IsLeastCost weights (huffman weights)
         codewords others }

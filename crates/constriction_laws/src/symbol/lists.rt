@@ -1,4 +1,4 @@
-//! Lists of symbols that are decoded from their codewords.
+//! Decoding lists of symbols from their codewords.
 
 ghost use Rattle.constriction_base.specs.declared.errors.CoderError.TheVariants.{Frontend};
 ghost use Rattle.constriction_laws.specs.declared.errors.Stopped.TheVariants.{Refused};
@@ -13,8 +13,8 @@ use constriction_symbol::reading::ReadBitStream;
 
 /// Decoding a stream whose bits begin with the codewords of symbols returns these symbols.
 ///
-/// The law requires that the stream's `is_list` holds. All symbols have the same codebook. For a symbol, the codebook
-/// may return another symbol that means the same (`is_same`). Each decode reads exactly one codeword.
+/// The law requires that the stream's `is_list` holds. All symbols have the same codebook. A decode may return another
+/// symbol that means the same (`is_same`). Each decode reads exactly one codeword.
 pub fn symbols_come_back<S: Semantics, R: ReadBitStream<S>, C: DecoderCodebook>()
     requires { R.is_list }
     ensures { (codebook : C) (symbols again : List C.Symbol) (code rest : List Bool) (old new : R) → ComeBackUnder
@@ -24,8 +24,8 @@ pub fn symbols_come_back<S: Semantics, R: ReadBitStream<S>, C: DecoderCodebook>(
 /// Decoding codewords, each with its own codebook, returns their symbols.
 ///
 /// The law requires that the stream's `is_list` holds. The unread bits begin with the codewords of `symbols`, one
-/// codebook for each symbol. The decodes use the same codebooks in order, and read exactly these codewords. For a
-/// symbol, a codebook may return another symbol that means the same (`is_same`).
+/// codebook for each symbol. The decodes use the same codebooks in order, and read exactly these codewords. A decode
+/// may return another symbol that means the same (`is_same`).
 pub fn mixed_symbols_come_back<S: Semantics, R: ReadBitStream<S>, C: DecoderCodebook>()
     requires { R.is_list }
     ensures { (codebooks : List C) (symbols again : List C.Symbol) (code rest : List Bool) (old new : R) →

@@ -22,7 +22,7 @@ use std::alloc::Global;
 ///
 /// # Errors
 ///
-/// - `OutOfData(count)`: after `count` symbols the coder needs a compressed word, and none is left.
+/// - `OutOfData(count)`: after `count` symbols the coder needed a compressed word, and the backend returned none.
 /// - `Refused`: a read or a write failed, or there was no memory.
 pub fn decode_pairs<
     Word: WordOf<State>,
@@ -65,8 +65,8 @@ where
 /// # Errors
 ///
 /// - `Frontend(ImpossibleSymbol)`: a model has no entry for its symbol.
-/// - `Frontend(OutOfRemainders)`: the coder needs a word of the remainders, and none is left.
-/// - `Backend(error)`: a backend refused a word.
+/// - `Frontend(OutOfRemainders)`: the coder needed a word of the remainders, and the backend returned none.
+/// - `Backend(error)`: a read or a write failed with `error`.
 pub fn encode_pairs_reverse<
     Word: WordOf<State>,
     State: BitArray,

@@ -1,4 +1,4 @@
-//! Isolation through the calls: other models for some symbols don't change the other symbols.
+//! Isolation of the decode calls: replacing the models of some symbols doesn't change the other symbols.
 //!
 //! The law [`symbols_are_isolated`] also covers decodes with changes of the precision between them.
 
@@ -17,18 +17,21 @@ use constriction_stream::decoding::Decode;
 use constriction_words::{BitArray, WordOf};
 use std::alloc::Global;
 
-/// Decodes from two coders over the same words, each with its own list of models.
+/// Decodes symbols from two coders, each with its own list of models.
 ///
-/// Calls `decode_symbols` on `coder` with `models`, and on `same` with `others`. Suppose that both coders have the same
-/// compressed head and compressed words. If the `k`-th models of both lists have equal tables, the `k`-th symbols are
-/// equal, whatever the other tables are. The two lists may have models of different types. Returns the symbols of
-/// `coder`, and then the symbols of `same`.
+/// Calls `decode_symbols` on `coder` with `models`, and on `same` with `others`. Returns the symbols of `coder` and the
+/// symbols of `same`, in this order. The two lists may have models of different types.
+///
+/// Suppose that `is_list` of the backend `C` holds, and that both coders have the same compressed head and compressed
+/// words. If the `k`-th models of both lists have equal tables, the `k`-th symbols are equal, whatever the other tables
+/// are.
 ///
 /// # Errors
 ///
 /// If a decode of `coder` fails, `same` is unchanged. If a decode of `same` fails, `coder` has decoded all its symbols.
 ///
-/// - `OutOfData(count)`: after `count` symbols one of the coders needs a word, and none is left.
+/// - `OutOfData(count)`: after `count` symbols one of the coders needed a compressed word, and its backend returned
+///   none.
 /// - `Refused`: a read or a write failed, or there was no memory.
 pub fn decode_by_two<
     Word: WordOf<State>,

@@ -54,13 +54,13 @@ where
     }
 }
 
-/// Makes a coder from remainders, and encodes symbols onto it from last to first, each with its own model.
+/// Creates a coder from remainders, and encodes symbols onto it from last to first, each with its own model.
 ///
 /// Calls `from_remainders` and `encode_symbols_reverse`. Returns the coder.
 ///
 /// # Errors
 ///
-/// Returns a [`PutBackError`]. Each case except `NoMemory` is returned only for the reason that it names.
+/// Returns a [`PutBackError`]. The clause `err` proves the documented reason of each case except `NoMemory`.
 pub fn put_back_pairs<
     Word: WordOf<State>,
     State: BitArray,

@@ -24,14 +24,13 @@ use std::alloc::Global;
 
 /// Encodes symbols in order, each with its own model.
 ///
-/// Each symbol in order narrows the interval of the encoder. The caller proves that there are as many models as
-/// symbols.
+/// Each symbol narrows the encoder's interval. The caller proves that there are as many models as symbols.
 ///
 /// # Errors
 ///
-/// - `ImpossibleSymbol`: a model has no entry for its symbol. The symbols before it are encoded.
-/// - `TooManySymbols`: the encoder can't count this many further symbols. No symbol is encoded.
-/// - `Refused`: the backend refused a word. The symbols before it are encoded.
+/// - `ImpossibleSymbol`: a model has no entry for its symbol. The symbols before that symbol are encoded.
+/// - `TooManySymbols`: there are more symbols than the encoder can still encode. No symbol is encoded.
+/// - `Refused`: the backend refused a word. The symbols before the refused symbol are encoded.
 pub fn encode_pairs<
     Word: WordOf<State>,
     State: BitArray,
@@ -65,12 +64,12 @@ where
 
 /// Decodes one symbol for each model.
 ///
-/// Each symbol in order narrows the interval of the decoder. If the words encode one symbol with each model, the call
-/// returns these symbols in order.
+/// Each symbol narrows the decoder's interval. Suppose that the backend's `is_list` holds, and that the words, starting
+/// at the decoder's position, encode one symbol with each model. Then the call returns these symbols in order.
 ///
 /// # Errors
 ///
-/// - `InvalidData`: from the decoder's position on, the words don't encode symbols of these models.
+/// - `InvalidData`: starting at the decoder's position, the words don't encode symbols of these models.
 /// - `Refused`: a read failed, or there was no memory.
 pub fn decode_pairs<
     Word: WordOf<State>,

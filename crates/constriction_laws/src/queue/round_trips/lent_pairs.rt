@@ -1,8 +1,8 @@
-//! Symbols, each with its own model, from the words that an encoder lends.
+//! Decoding symbols, each with its own model, from the words that an encoder lends.
 //!
 //! No function here calls [`RangeEncoder::decoder`]. The contract of that call says that the decoder begins with the
 //! words that the encoder would export. The law [`symbols_come_back`](crate::queue::lists::symbols_come_back) says
-//! which symbols it decodes from these words.
+//! which symbols the decoder then returns.
 
 ghost use Rattle.std.specs.Prelude.{◌≡◌, List, length, IfOk, IfErr};
 ghost use Rattle.constriction_base.specs.Models.{pairs_of};

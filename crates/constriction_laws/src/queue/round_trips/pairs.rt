@@ -1,8 +1,8 @@
-//! Symbols, each with its own model, and the words that an encoder exports.
+//! Encoding symbols, each with its own model, to words, and decoding symbols from words.
 //!
-//! [`compressed_words_of_pairs`] says which words these are. [`pairs_from_words`] takes any words and says which
-//! symbols they encode. Its clauses `sealed`, `followed` and `delimited` assume that an encoder made the words, and so
-//! join the two halves.
+//! The contract of [`compressed_words_of_pairs`] says which words the encoder exports. The contract of
+//! [`pairs_from_words`] says which symbols any words encode. Its clause `back` has the fields `sealed`, `followed` and
+//! `delimited`. These fields assume that an encoder exported the words, and so join the two halves.
 
 ghost use Rattle.std.specs.Prelude.{◌≡◌, ◌<◌, length, map, reverse, IfOk, IfErr};
 ghost use Rattle.constriction_base.specs.Models.{pairs_of};
@@ -35,7 +35,7 @@ use std::alloc::Global;
 /// # Errors
 ///
 /// - `ImpossibleSymbol`: a model has no entry for its symbol.
-/// - `TooManySymbols`: there are more symbols than the encoder can count.
+/// - `TooManySymbols`: there are more symbols than the encoder can still encode.
 /// - `Refused`: the backend refused a word.
 pub fn compressed_words_of_pairs<
     Word: WordOf<State>,

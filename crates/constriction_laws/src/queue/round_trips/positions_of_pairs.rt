@@ -1,7 +1,7 @@
-//! Symbols, each with its own model, from a recorded position.
+//! Decoding symbols, each with its own model, from a recorded position.
 //!
-//! The law [`symbols_after_a_position`](crate::queue::positions::symbols_after_a_position) says which symbols these
-//! are.
+//! The law [`symbols_after_a_position`](crate::queue::positions::symbols_after_a_position) says which symbols the
+//! decoder returns.
 
 ghost use Rattle.std.specs.Prelude.{◌≡◌, ◌≤◌, length, map, IfOk, IfErr};
 ghost use Rattle.constriction_base.specs.Steps.{IsSizes};
@@ -27,7 +27,7 @@ use std::alloc::Global;
 /// # Errors
 ///
 /// - `NoSuchPlace`: the words end before the position.
-/// - `InvalidData`: from the position on, the words don't encode symbols of these models.
+/// - `InvalidData`: starting at the position, the words don't encode symbols of these models.
 /// - `NoMemory`: there was no memory.
 pub fn pairs_from_position<
     Word: WordOf<State>,

@@ -1,4 +1,4 @@
-//! Symbols decoded from any words in binary form, and encoded back to these words.
+//! Decoding symbols from any words in binary form, and encoding the symbols back to these words.
 
 ghost use Rattle.std.specs.Prelude.{◌≡◌, ℕ, List, length, map, reverse, IfOk, IfErr};
 ghost use Rattle.constriction_base.specs.Models.{pairs_of};
@@ -61,7 +61,7 @@ where
 /// # Errors
 ///
 /// - `ImpossibleSymbol`: a model has no entry for its symbol.
-/// - `InvalidData`: the head isn't a leading 1 above whole words, so the state has no binary form.
+/// - `InvalidData`: after the encodes, the head isn't a leading 1 above whole words, so the state has no binary form.
 /// - `Refused`: the backend refused a word.
 pub fn binary_words_with_pairs<
     Word: WordOf<State>,

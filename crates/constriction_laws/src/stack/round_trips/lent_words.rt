@@ -1,4 +1,4 @@
-//! Symbols decoded from the words that a coder lends through a guard. The coder is unchanged afterwards.
+//! Decoding symbols from the words that a coder lends through a guard. The coder's state is unchanged afterwards.
 
 ghost use Rattle.std.specs.Prelude.{◌≡◌, length, IfOk, IfErr, OnOk};
 ghost use Rattle.constriction_base.specs.Readings.{BeginsHigh};
@@ -18,8 +18,9 @@ use std::alloc::{Allocator, Global};
 
 /// Decodes one symbol for each model from the words that a coder lends.
 ///
-/// Calls `get_compressed`, `from_compressed_slice` and `decode_symbols`. If the coder encoded symbols with these
-/// models, from last to first, the call returns these symbols. The coder's state is unchanged in every case.
+/// Calls `get_compressed`, `from_compressed_slice` and `decode_symbols`. Suppose that encoding one symbol with each
+/// model, from last to first, led to the coder's state. Then the call returns these symbols in order. The coder's state
+/// is unchanged in every case.
 ///
 /// # Errors
 ///

@@ -1,4 +1,4 @@
-//! Symbols, each with its own model, and the words that a coder exports.
+//! Encoding symbols, each with its own model, to words, and decoding symbols from words.
 
 ghost use Rattle.std.specs.Prelude.{◌≡◌, length, map, reverse, IfOk, IfErr, OnOk};
 ghost use Rattle.constriction_base.specs.Models.{pairs_of};
@@ -64,9 +64,9 @@ where
 
 /// Decodes one symbol for each model from words, and returns the symbols and the coder.
 ///
-/// Calls `from_compressed` and `decode_symbols`. Suppose that a coder in a valid state encoded one symbol with each
-/// model, from last to first, and exported the words. Then the call returns the symbols in order, and a coder in the
-/// state before these encodes.
+/// Calls `from_compressed` and `decode_symbols`. Suppose that the backend's `is_list` holds. Suppose also that a coder
+/// in a valid state encoded one symbol with each model, from last to first, and then exported the words. Then the call
+/// returns the symbols in order, and a coder in the state before these encodes.
 ///
 /// # Errors
 ///

@@ -1,4 +1,4 @@
-//! Symbols decoded from recorded positions.
+//! Decoding symbols from recorded positions.
 
 ghost use Rattle.std.specs.Prelude.{◌≡◌, ◌≤◌, ◌<◌, length, IfOk, IfErr, OnOk};
 ghost use Rattle.constriction_laws.specs.Outcomes.{IfItems, UnlessInvalid};

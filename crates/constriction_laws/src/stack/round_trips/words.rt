@@ -1,4 +1,4 @@
-//! Symbols decoded from exported words that are stored in reverse order.
+//! Decoding symbols from exported words in reverse order.
 
 ghost use Rattle.std.specs.Prelude.{◌≡◌, List, length, map, IfOk, IfErr, OnOk};
 ghost use Rattle.constriction_base.specs.Readings.{BeginsHigh};
@@ -24,7 +24,7 @@ use std::alloc::Global;
 
 /// Decodes one symbol for each model from exported words that are stored in reverse order.
 ///
-/// Calls `from_reversed_compressed` and `decode_symbols`. The first word of `words` is read first.
+/// Calls `from_reversed_compressed` and `decode_symbols`. The coder reads the first word of `words` first.
 ///
 /// # Errors
 ///
@@ -60,7 +60,7 @@ where
 
 /// Decodes one symbol for each model from an iterator that returns exported words in reverse order.
 ///
-/// Calls `from_reversed_compressed_iter` and `decode_symbols`. The iterator's first word is read first.
+/// Calls `from_reversed_compressed_iter` and `decode_symbols`. The coder reads the iterator's first word first.
 ///
 /// # Errors
 ///

@@ -22,7 +22,7 @@ use std::alloc::{AllocError, Global};
 
 /// Encodes symbols in order, each with its own codebook, at the end of a stream.
 ///
-/// Calls `encode_symbols`.
+/// Calls `encode_symbols`. If the two lists differ in length, the call stops at the end of the shorter list.
 ///
 /// # Errors
 ///
@@ -45,8 +45,8 @@ pub fn encode_pairs<W: WriteBitStream<Queue>, C: EncoderCodebook>(
 
 /// Encodes symbols from last to first, each with its own codebook, onto a stack.
 ///
-/// Calls `encode_symbols_reverse`. After the call, reading the stack gives the codewords in the order of the list. Then
-/// come the bits that the stack had before the call. The caller proves that there are as many codebooks as symbols.
+/// Calls `encode_symbols_reverse`. After the call, the stack returns the codewords in the order of the list, and then
+/// the bits that it had before the call. The caller proves that there are as many codebooks as symbols.
 ///
 /// # Errors
 ///
