@@ -179,9 +179,9 @@ uint32_t constriction_quantized_intervals_u32(uint32_t family, int32_t min, int3
                                               const size_t *symbols, size_t symbol_count,
                                               uint32_t *lefts, size_t left_count, uint32_t *ps, size_t p_count);
 
-/* Writes weights in proportion to counts. The weights add up to 2^24. A count of 0 gets the weight 0, and each other
-   count gets a weight of at least 1. The counts above 0 share the rest of 2^24 in proportion, rounded by the largest
-   remainders. Of equal remainders, the first one comes first. The sum of the counts may exceed 2^64.
+/* Writes weights in proportion to counts. The weights add up to 2^24. A count of 0 gets the weight 0, and a count above
+   0 whose share is below 1 gets the weight 1. The other counts share the rest of 2^24 in proportion, rounded by the
+   largest remainders. Of equal remainders, the first one comes first. The sum of the counts may exceed 2^64.
    Errors: WRONG_LENGTH (weight_count isn't count_count); WRONG_WEIGHTS (no count is above 0, or more than 2^24 counts
    are above 0); NO_MEMORY. */
 uint32_t constriction_weights_of_counts_u32(const uint64_t *counts, size_t count_count,

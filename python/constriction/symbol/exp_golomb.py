@@ -1,4 +1,4 @@
-"""Exp-Golomb codewords of numbers below 2^32."""
+"""Exp-Golomb codewords of the numbers below 2^32."""
 
 from __future__ import annotations
 
@@ -18,7 +18,10 @@ __all__ = ["ExpGolomb"]
 
 
 class ExpGolomb(Codebook):
-    """The codewords: for ``n + 1`` of ``k + 1`` bits ``k`` zeros, then its bits from the highest down."""
+    """The codebook of Exp-Golomb codewords for the numbers below 2^32.
+
+    If ``n + 1`` has ``k + 1`` bits, the codeword of ``n`` is ``k`` zeros and then the bits of ``n + 1``, highest first.
+    """
 
     def codeword(self, symbol: int) -> tuple[int, int]:
         if not 0 <= symbol < 1 << 32:
