@@ -76,7 +76,7 @@ def _tag(library: bytes) -> str:
     system = sysconfig.get_platform().replace("-", "_").replace(".", "_")
     asked = [(int(a), int(b)) for a, b in re.findall(rb"GLIBC_(\d+)\.(\d+)", library)]
     if system.startswith("linux_") and asked:
-        least = (2, 5) if system == "linux_x86_64" else (2, 17)  # What there is no older tag of.
+        least = (2, 5) if system == "linux_x86_64" else (2, 17)  # There is no tag for older C libraries.
         system = "manylinux_{}_{}_".format(*max(least, *asked)) + system[len("linux_") :]
     return f"py3-none-{system}"
 

@@ -12,7 +12,7 @@ floats once. The models that compute weights in floats aren't proved either.
 """
 
 from . import errors, stream, symbol
-from . import store  # It needs the coders of `stream`, which come first.
+from . import store  # Needs the coders of `stream`, so the import of `stream` comes first.
 from ._version import VERSION
 
 __version__ = VERSION

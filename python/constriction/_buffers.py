@@ -23,9 +23,9 @@ List = Union[Iterable[SupportsIndex], memoryview]
 Symbols = Union[SupportsIndex, List]
 #: One parameter of a model.
 Real = Union[SupportsFloat, SupportsIndex]
-#: A list of them.
+#: A list of parameters.
 Reals = Union[Iterable[Real], memoryview]
-#: One, a list of one for each symbol, or a row for each symbol.
+#: One parameter, a list with one for each symbol, or a row for each symbol.
 Parameter = Union[Real, Reals, Iterable[Reals]]
 
 WORD, SYMBOL, NUMBER = "I", "q", "d"

@@ -30,7 +30,7 @@ class Coder:
     _lock: Any
     _busy: bool
     _state: Any
-    #: The memory of calls of one symbol, once there is such a call.
+    #: The memory for calls with one symbol, or None before the first such call.
     _lane: Lane | None
 
     def _begin(self, state: Any) -> None:
@@ -91,7 +91,7 @@ class Coder:
             return NotImplemented
         return self is other or self._asked(self._compared) == other._asked(other._compared)  # type: ignore[attr-defined]
 
-    #: A coder changes, so it is no key of a dict.
+    #: A coder can change, so it can't be a key of a dict.
     __hash__ = None  # type: ignore[assignment]
 
     def __repr__(self) -> str:

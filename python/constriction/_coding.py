@@ -17,11 +17,11 @@ from .stream.model._base import TOTAL, Located
 
 __all__ = ["Call", "decoded", "encoded"]
 
-#: So many symbols are handed over at a time at least, and so many times the weights: what a call needs for them stays
-#: in the cache.
+#: A part of a list has at least this many symbols, and this many symbols for each weight. So a part stays in the
+#: cache.
 _SYMBOLS_AT_A_TIME, _WEIGHTS_AT_A_TIME = 1 << 16, 4
-#: A C function of a coder: the part of its name that says how models come, a state, the number of symbols, and the
-#: arguments for models and symbols; it answers the state behind.
+#: A C function of a coder. Its arguments are the part of the function's name for the kind of models, a state, the
+#: number of symbols, and the arguments for models and symbols. It returns the state after the call.
 Call = Callable[[str, Any, int, "tuple[Any, ...]"], Any]
 
 
@@ -154,7 +154,7 @@ def _in_parts(
     state: Any, count: int, weights: int, decode: Callable[[Any, slice, Numbers], Any]
 ) -> tuple[Any, Numbers]:
     """Returns the state after decoding ``count`` symbols in several parts, and the symbols."""
-    symbols = room(SYMBOL, count)  # First of all: where there is no room for all of them, none is decoded.
+    symbols = room(SYMBOL, count)  # Comes first: without memory for all symbols, none is decoded.
     size = next(_parts(count, weights)).stop
     if size == count:
         return decode(state, slice(0, count), symbols), symbols
@@ -194,8 +194,7 @@ def _under_each(
     sets = model.parameters(given)
     places, place = room(SYMBOL, len(sets)), room(SYMBOL, 1)
     for i, parameters in enumerate(sets):
-        # Of a model only the one interval matters that the coder's next quantile is in: it is the middle one of
-        # three.
+        # Only the interval that contains the coder's next quantile matters. It is the middle one of three intervals.
         k, weights = model.around(quantile(state), parameters)
         state = decode("", state, 1, (*listed(weights), *listed(place)))
         places[i] = k + place[0] - 1
@@ -243,7 +242,7 @@ def decoded(
         rest = (count_of(amt),)
         if model.missing:
             raise TypeError(f"the model has no {' and no '.join(model.missing)}: hand in a list of each, and no amt")
-    # A model by a function can go with and without parameters: there a single whole number is a number of symbols.
+    # A model of a function may have parameters or none. A single whole number is then a number of symbols.
     counted = len(rest) == 1 and not model.missing and is_one(rest[0]) and hasattr(rest[0], "__index__")
     if len(rest) == 1 and model.complete and not counted:
         raise TypeError(f"a number of symbols is wanted, a whole one, and not {rest[0]!r}")

@@ -45,7 +45,7 @@ def _path() -> Path:
     return own if own.exists() else here.parents[1] / "build" / "libconstriction.so"
 
 
-#: Where the shared object is.
+#: The path of the shared object.
 PATH = _path()
 
 
@@ -135,7 +135,7 @@ def _functions() -> dict[str, Any]:
     for name, parameters in _PARAMETERS.items():
         function = getattr(_LIBRARY, f"constriction_{name}_u32", None)
         if function is None:
-            continue  # The library is of another version; a call says so.
+            continue  # The library has another version. A call raises an exception.
         function.argtypes, function.restype = parameters, c_uint32
         functions[name] = function
     return functions
@@ -153,7 +153,7 @@ def plain_function(name: str) -> Any:
         return lambda *arguments: 1
     function = _LIBRARY[
         f"constriction_{name}_u32"
-    ]  # Of its own: what comes by its name as an attribute has types of arguments.
+    ]  # An object of its own, without types of arguments. An attribute of the library has them.
     function.restype = c_uint32
     return function
 

@@ -19,15 +19,15 @@ __all__ = [
     "sequence_of", "table_of", "whole", "wholes_of", "words_of",
 ]  # fmt: skip
 
-#: The numbers that words and symbols can be.
+#: The least and the greatest number that a word and a symbol can be.
 _RANGES = {WORD: (0, (1 << 32) - 1), SYMBOL: (-(1 << 63), (1 << 63) - 1)}
 _WANTED = "whole numbers are wanted, and not {}: round them, and make integers of them, as by array.astype('int64')"
-#: The formats of memory that holds such numbers. What is past 63 bits is no place in a table, by either sign.
+#: The formats of memory that holds such numbers. No index of a table has more than 63 bits, so a sign doesn't matter.
 _ALIKE = {WORD: ("I", "L"), SYMBOL: ("q", "Q", "l", "L", "n", "N"), NUMBER: ("d",)}
 _FLOAT = frozenset((float,))
-#: No list has more symbols than this: they would take 2^51 bytes.
+#: The greatest number of symbols of a list. These symbols would take 2^51 bytes.
 _MOST = 1 << 48
-#: Tables that begin within this are shifted by numpy, since their symbols lie within twice of it.
+#: numpy shifts a table if the first symbol's absolute value is below this: then the sums fit 64 bits.
 _NEAR = 1 << 61
 
 
@@ -228,7 +228,7 @@ def places_of(symbols: Any, first: int) -> array[Any]:
             numpy_module().frombuffer(places, dtype="int64")[:] -= first
         return places
     except OverflowError:
-        # No table has a place past 64 bits.
+        # No index of a table has more than 64 bits.
         raise ImpossibleSymbolError(IMPOSSIBLE_SYMBOL) from None
 
 

@@ -22,7 +22,7 @@ from .stream.model._base import ENDS, TOTAL, UNITS, Model
 __all__ = ["Buffer", "Lane", "made", "memory_of"]
 
 _Way = Callable[[], int]
-#: Makes a tuple of a class below ``tuple`` without a call of Python's.
+#: Creates an instance of a subclass of ``tuple`` without a call of its ``__new__``.
 made: Any = tuple.__new__
 
 
@@ -50,7 +50,7 @@ class Lane:
         self._decode_units = _bound(decode.format("_quantized"), *lead, *family, *symbol, *behind_decode)
         self._decode_row = _bound(decode.format(""), *lead, *row, *symbol, *behind_decode)
 
-    #: The state that is in this memory, where that is known, and for how many more calls its buffers have room.
+    #: The state in this memory, or None if it isn't known, and the number of calls for which its buffers have room.
     _kept: Any = None
     _spare = 0
 
@@ -89,7 +89,7 @@ class Lane:
             self._spare, self._kept = (
                 self._spare - 1,
                 None,
-            )  # Should it be interrupted, nothing is known of this memory.
+            )  # After an interrupt the state in this memory isn't known.
             if kind == ENDS:
                 left = first[place - 1] if place else 0
                 interval = self._interval
@@ -116,7 +116,7 @@ class Lane:
         order = None if given else model._often
         if order is None:
             if given and model.has_rows and hasattr(given[0], "__len__"):
-                return None  # A list of rows, and a list comes out.
+                return None  # A list of rows decodes to a list of symbols.
             order = model.alone(given)
             if order is None:
                 return None
@@ -130,7 +130,7 @@ class Lane:
             self._spare, self._kept = (
                 self._spare - 1,
                 None,
-            )  # Should it be interrupted, nothing is known of this memory.
+            )  # After an interrupt the state in this memory isn't known.
             if kind == ENDS:
                 quantile = self.quantile(state)
                 if quantile >= TOTAL:

@@ -16,23 +16,23 @@ __all__ = [
     "unit_of", "wrong_row",
 ]  # fmt: skip
 
-#: A location or a scale of 1 has so many units.
+#: The number of units in a location or a scale of 1.
 UNITS_OF_ONE = 65536.0
-#: Locations are brought within this. A table is the same for all that lie so far outside of its range.
+#: The limit of locations. A table is the same for all locations that are so far outside of the table's range.
 FARTHEST = 2.0**46
-#: The least scale, a unit, and the greatest, 2^32 - 1 units.
+#: The least scale, 1 unit, and the greatest scale, 2^32 - 1 units.
 NARROWEST, WIDEST = 1 / UNITS_OF_ONE, 65536.0 - 1 / UNITS_OF_ONE
-#: Two weights add up to so much.
+#: The sum of the two weights of a Bernoulli model.
 _TOTAL = 16777216.0
-#: A component's weight of 1 has so many units, and a row's weights add up to so much at most.
+#: The number of units in a component's weight of 1, and the greatest sum of a row's weights.
 _SHARES, _MOST_SHARES = 2.0**31, 2.0
-#: The count of the greatest probability of a list has so many bits.
+#: The number of bits in the count of the greatest probability of a list.
 _COUNT_BITS = 62
 
 
-#: Of lists as short as this Python's own functions are faster than those of numpy.
+#: For lists that aren't longer than this, Python's own functions are faster than those of numpy.
 _FEW = 32
-#: A least float and a greatest one.
+#: The least float of a list, and the greatest float.
 Ends = tuple[float, float]
 
 
@@ -59,7 +59,7 @@ def _ends(floats: Any) -> Ends:
         return 1.0, 1.0
     if numpy is not None:
         table = _seen(numpy, floats)
-        least, greatest = float(table.min()), float(table.max())  # NaN, where one is.
+        least, greatest = float(table.min()), float(table.max())  # NaN if one float is NaN.
         return (least, greatest) if isfinite(least) and isfinite(greatest) else (nan, nan)
     return (min(floats), max(floats)) if all(map(isfinite, floats)) else (nan, nan)
 

@@ -32,7 +32,7 @@ class ImpossibleSymbolError(Refusal, KeyError):
     place: int | None = None
 
     def __str__(self) -> str:
-        return Exception.__str__(self)  # That of KeyError would put the text in quotes.
+        return Exception.__str__(self)  # KeyError.__str__ would put the text in quotes.
 
 
 class WrongWeightsError(Refusal):

@@ -28,7 +28,7 @@ from .stream.queue import RangeEncoder
 
 __all__ = ["MOST_SYMBOLS", "Entry", "Store"]
 
-#: The most symbols that the chunks of a store have together.
+#: The greatest total number of symbols in the chunks of a store.
 MOST_SYMBOLS = 1 << 20
 
 TOO_MANY_SYMBOLS = "too many symbols"
@@ -36,7 +36,7 @@ NO_SUCH_CHUNK = "no such chunk"
 INVALID_CHUNK = "invalid chunk"
 BAD_INDEX = "bad index"
 
-#: How many words a decoder reads before its first symbol.
+#: The number of words that a decoder reads before its first symbol.
 _WORDS_OF_A_STATE = 2
 _STATES = 1 << 64
 
@@ -150,7 +150,7 @@ class Store:
         if not all(0 <= it < _STATES for it in entry.state):
             raise errors.InvalidDataError(INVALID_CHUNK)
         symbols = room(SYMBOL, entry.count)
-        # No symbol takes more than one word, so no others are read.
+        # Each symbol takes at most one word, so the decoder needs no other words.
         words = self._words_from(entry.position, entry.count + _WORDS_OF_A_STATE)
         weights, decoder, texts = self._model.table(), RangeDecoderState(), {7: INVALID_CHUNK}
         call("range_seek", byref(decoder), lent(words), len(words), 0, *entry.state, texts=texts)

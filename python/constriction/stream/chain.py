@@ -44,7 +44,7 @@ class _Call:
 
 
 def _encode(kind: str, state: _State, count: int, arguments: tuple[Any, ...]) -> _State:
-    it = _Call(state.compressed.reserve(count), state.remainders, state.heads)  # A step moves one word at most.
+    it = _Call(state.compressed.reserve(count), state.remainders, state.heads)  # A step moves at most one word.
     texts = {8: errors.OUT_OF_REMAINDERS}
     call(f"chain_encode{kind}_reverse", *it.arguments(), *arguments, byref(it.needed), texts=texts)
     return it.state()

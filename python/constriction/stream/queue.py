@@ -43,7 +43,7 @@ def _new_encoder() -> tuple[int, int, int, int]:
 
 
 def _encode(kind: str, state: _Writing, count: int, arguments: tuple[Any, ...]) -> _Writing:
-    words = state.words.reserve(state.held + count)  # A step shifts one word out at most.
+    words = state.words.reserve(state.held + count)  # A step shifts out at most one word.
     it, length, needed = RangeEncoderState(*state.numbers), c_size_t(words.length), c_size_t(0)
     call(f"range_encode{kind}", byref(it), *words.lent(), byref(length), *arguments, byref(needed))
     return _Writing(Words(words.memory, length.value), _numbers(it))
@@ -103,7 +103,7 @@ class _WritingLane(Lane):
 
 class _ReadingLane(Lane):
     def __init__(self) -> None:
-        # Four numbers of 64 bits, as those of a RangeDecoderState.
+        # Four numbers of 64 bits, like the fields of a RangeDecoderState.
         self._words, self._numbers, self._length = Buffer(), array("Q", (0,) * 4), c_size_t()
         super().__init__((memory_of(self._numbers), self._words.address, self._length), "", "range_decode{}")
 
@@ -112,7 +112,7 @@ class _ReadingLane(Lane):
         self._words.take(words.memory)
         for i, number in enumerate(numbers):
             self._numbers[i] = number
-        self._length.value, self._spare = words.length, 1 << 62  # It writes no words.
+        self._length.value, self._spare = words.length, 1 << 62  # A decoder writes no words.
         return state
 
     def loaded(self, before: _Reading) -> _Reading:

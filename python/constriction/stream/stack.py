@@ -39,7 +39,7 @@ def _behind(before: _State, words: Words, length: int, head: int) -> _State:
 
 
 def _encode(kind: str, state: _State, count: int, arguments: tuple[Any, ...]) -> _State:
-    words = state.words.reserve(count)  # A step writes one word at most.
+    words = state.words.reserve(count)  # A step writes at most one word.
     head, length, needed = c_uint64(state.head), c_size_t(words.length), c_size_t(0)
     call(f"ans_encode{kind}_reverse", byref(head), *words.lent(), byref(length), *arguments, byref(needed))
     return _behind(state, words, length.value, head.value)

@@ -14,7 +14,7 @@ from ._codebook import Codebook, codebook_wanted
 
 __all__ = ["QueueDecoder", "QueueEncoder", "StackCoder"]
 
-#: Lists at least so long go through the C functions; shorter ones symbol by symbol.
+#: The least length of a list that the C functions encode or decode. Python code does shorter lists.
 _LONG = 64
 
 
@@ -177,10 +177,10 @@ def _by_library(codebook: Codebook, bits: int, length: int, count: int, stack: b
         words = words_with(bits | 1 << length, length + 1) if stack else words_with(bits, length)
         found = codebook.decoded(words, count, stack)
     except errors.Refusal:
-        return None  # Which refusal it is says the way by single symbols.
+        return None  # Decoding single symbols raises the exception.
     size = sum(codebook.codeword(it)[1] for it in found)
     if size > length:
-        return None  # The zeros behind the last bit were read.
+        return None  # The C function read zeros after the last bit.
     symbols = room(SYMBOL, 0)
     symbols.fromlist(found.tolist())
     return symbols, size
@@ -198,7 +198,7 @@ class StackCoder(Coder):
         if len(words) and not words[-1]:
             raise errors.InvalidDataError(errors.NOT_ENOUGH_WORDS)
         bits = bits_of(words)
-        # The highest bit that is 1 ends the stack.
+        # The highest bit 1 ends the stack.
         length = 32 * (len(words) - 1) + words[-1].bit_length() - 1 if len(words) else 0
         self._begin(Bits(bits.memory, length))
 

@@ -57,7 +57,7 @@ class ExpGolomb(Codebook):
 
     def encoded(self, symbols: array[Any], stack: bool) -> Numbers:
         count = len(symbols)
-        words, length, needed = room(WORD, 3 * count + 1), c_size_t(0), c_size_t(0)  # A codeword has 65 bits at most.
+        words, length, needed = room(WORD, 3 * count + 1), c_size_t(0), c_size_t(0)  # A codeword has at most 65 bits.
         name = "exp_golomb_encode_stack" if stack else "exp_golomb_encode_queue"
         call(name, lent(symbols), count, lent(words), len(words), byref(length), byref(needed))
         return Words(words, length.value).numbers()

@@ -19,7 +19,7 @@ from ._codebook import Codebook
 
 __all__ = ["DecoderHuffmanTree", "EncoderHuffmanTree"]
 
-#: Floats are taken as weights out of this many, so that many symbols have a sum below 2^32.
+#: The sum of the weights for floats, before rounding down. It is below 2^32.
 _SHARES = 1 << 31
 _TOO_LARGE = "sum of weights too large"
 
@@ -64,7 +64,7 @@ class _Tree(Codebook):
         self._weights = _weights(probabilities)
         self._texts = {2: _TOO_LARGE if len(self._weights) else "no weights", 8: errors.CODEWORD_ENDED}
         self._grown: tuple[list[tuple[int, int]], list[tuple[int, int]]] | None = None
-        # No symbols: this only tests the weights.
+        # Encodes no symbols: this only checks the weights.
         self.encoded(array(SYMBOL), False)
 
     def num_symbols(self) -> int:
@@ -114,7 +114,7 @@ class _Tree(Codebook):
     def encoded(self, symbols: array[Any], stack: bool) -> Numbers:
         weights, length, needed = self._weights, c_size_t(0), c_size_t(0)
         name = "huffman_encode_stack" if stack else "huffman_encode_queue"
-        # First as if a symbol took a word, which is more than most lists take.
+        # The first call has room for one word for each symbol. Most lists need less.
         words = room(WORD, len(symbols) + 1)
         arguments = (lent(weights), len(weights), lent(symbols), len(symbols))
         try:

@@ -29,10 +29,10 @@ __all__ = [
     "spread",
 ]
 
-#: How one symbol's model goes over: by where the intervals end; by a location and a scale; by a row of weights.
+#: The forms of the model of a single symbol: the ends of the intervals, a location and a scale, or a row of weights.
 ENDS, UNITS, ROW = range(3)
-#: A model that was used so many times for one symbol alone gets its sums of weights, where it has so many symbols at
-#: most.
+#: After ``_SELDOM`` calls with one symbol, a model of at most ``_MOST_ENDS`` symbols keeps its sums of weights.
+#: Before that, a model of at most ``_FEW_WEIGHTS`` symbols passes all weights.
 _SELDOM, _MOST_ENDS, _FEW_WEIGHTS = 2, 1 << 16, 64
 PRECISION = 24
 TOTAL = 1 << PRECISION
@@ -79,9 +79,9 @@ class Model:
 
     #: The least symbol.
     first: int = 0
-    #: The names of the parameters that come with each symbol; none where the model has all of its own.
+    #: The names of the parameters that callers pass for each symbol. There are none if the model has all parameters.
     missing: tuple[str, ...] = ()
-    #: Whether parameters are rows of weights, which the C functions look at as they are.
+    #: Whether the parameters are rows of weights for the C functions.
     has_rows = False
     _fixed: array[int] | None = None
 

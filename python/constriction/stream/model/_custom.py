@@ -41,7 +41,7 @@ class CustomModel(Model):
 
     @property
     def complete(self) -> bool:
-        return False  # Its function says how many parameters it takes.
+        return False  # The caller's function determines the number of parameters.
 
     def parameters(self, given: Sequence[Any]) -> list[tuple[Any, ...]]:
         return list(zip(*equally_long([floats_of(it) for it in given])))

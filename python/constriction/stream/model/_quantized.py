@@ -17,9 +17,9 @@ from ._base import TOTAL, UNITS, Bound, Located, Model, equally_long, ranged, sh
 
 __all__ = ["QuantizedGaussian", "QuantizedLaplace", "QuantizedLogistic"]
 
-#: The C functions take symbols of so many bits.
+#: The C functions take ranges from -2^31 to below 2^31.
 _SYMBOLS = 1 << 31
-#: A table is asked for so many weights at a time.
+#: The number of weights that one call computes for a table.
 _WEIGHTS_AT_A_TIME = 1 << 16
 
 
@@ -40,14 +40,14 @@ class _Quantized(Model):
 
     def _make(self, least: SupportsIndex, greatest: SupportsIndex, location: Real | None, scale: Real | None) -> None:
         self.first, self._count = ranged(least, greatest)
-        # A range that the C functions don't take is moved towards 0 by the nearest number that is a float, and
-        # locations with it.
+        # A range that the C functions don't take is moved towards 0, by a number that is exact as a float. The
+        # locations are moved by the same number.
         origin = 0 if self._fits(self.first) else int(float(self.first))
         moved = self.first - origin
         self._least, self._origin = moved if self._fits(moved) else 0, float(origin)
         given = zip(self._names, (location, scale))
         self.missing = tuple(name for name, it in given if it is None)
-        # The model's own parameters, in units. A table of them is made where it is first asked for.
+        # The model's own parameters, in units. The first call that needs the table makes it.
         name, other = self._names
         self._own_location = (
             None if location is None else self._units_of_locations(name, array(NUMBER, (real(location),)))[0]

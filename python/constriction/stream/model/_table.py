@@ -18,7 +18,7 @@ __all__ = ["ROWS_AT_A_TIME", "Categorical", "Rows", "WeightTable"]
 _INT = frozenset((int,))
 #: The formats of memory that holds whole numbers.
 _WHOLE_FORMATS = frozenset("bBhHiIlLqQ")
-#: Rows of weights are handed over so many weights at a time.
+#: The greatest number of weights in the rows that one call gets, if a row isn't longer.
 ROWS_AT_A_TIME = 1 << 16
 
 
@@ -57,7 +57,7 @@ class Rows(Model):
                 packed = array(WORD)
             width = len(row)
             if not width:
-                yield row, 1, 1  # A row of no weights, which a call refuses.
+                yield row, 1, 1  # A row without weights. The C function refuses it.
             packed += row
         if packed:
             yield packed, width, len(packed) // width
@@ -85,7 +85,7 @@ class WeightTable(Rows):
             try:
                 return array(WORD, numbers)
             except OverflowError:
-                pass  # The other way says which weight it is.
+                pass  # `words_of` raises an exception that names the weight.
         return words_of(numbers, "weight", WrongWeightsError)
 
 
@@ -140,7 +140,7 @@ class Categorical(Rows):
             some = table[start : start + size]
             counts = counts_of_rows(some)
             if counts is None:
-                yield from super().rows((some,))  # It says which probability is wrong.
+                yield from super().rows((some,))  # This raises an exception that names the probability.
                 continue
             weights = room(WORD, len(counts))
             at, to = counts.buffer_info()[0], weights.buffer_info()[0]
