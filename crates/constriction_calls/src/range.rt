@@ -1,7 +1,7 @@
 //! The range coder over a caller's buffers.
 //!
 //! The caller keeps an encoder or a decoder as a few numbers, and a buffer of words. The first `len` words of an
-//! encoder's buffer are the words that it wrote, in the order of writing. A decoder reads a whole buffer.
+//! encoder's buffer are the words that it wrote, in the order of writing. All words of a decoder's buffer are in use.
 //!
 //! - [`encoding`]: encoding symbols.
 //! - [`decoding`]: decoding symbols.

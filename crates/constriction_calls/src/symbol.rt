@@ -47,10 +47,13 @@ pub use trees::Tree;
 /// codewords. It also proves which error its calls return if the weights make no tree, if a symbol has no codeword, or
 /// if there is no memory.
 pub trait Codes {
+    /// The type of the symbols.
     type Symbol: Copy + Drop;
 
+    /// The codebook for encoding.
     type Encoder: EncoderCodebook<Symbol = Self::Symbol>;
 
+    /// The codebook for decoding.
     type Decoder: DecoderCodebook<Symbol = Self::Symbol, InvalidCodeword = Self::Wrong>;
     /// The error that `Decoder` returns for bits that don't begin with a codeword.
     type Wrong: Drop;

@@ -181,7 +181,7 @@ fn intervals_by_rows<Word: WordOf<State>, State: BitArray, P: WordOf<Word>, cons
     }
 }
 
-/// Encodes symbols from the last to the first onto a state with this head and no words. Returns the new words and head.
+/// Encodes symbols from the last to the first onto a state with `head` and no words. Returns the new words and head.
 ///
 /// Returns `None` if a model has no entry for its symbol, or if there is no memory.
 #[inline]

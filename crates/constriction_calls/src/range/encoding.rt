@@ -256,8 +256,8 @@ pub fn encode_narrow<
 ///
 /// # Errors
 ///
-/// The call returns the errors of [`encode`] except `ImpossibleSymbol`. It returns `WrongLength` if the lists have
-/// different lengths, and `WrongInterval` if an interval is empty or ends past `2 ^ PRECISION`.
+/// The call returns the errors of [`encode`] except `WrongWeights` and `ImpossibleSymbol`. It returns `WrongLength` if
+/// the lists have different lengths, and `WrongInterval` if an interval is empty or ends past `2 ^ PRECISION`.
 pub fn encode_intervals<
     Word: WordOf<State>,
     State: BitArray,
@@ -286,11 +286,11 @@ pub fn encode_intervals<
     intervals_by_rows::<_, _, P, PRECISION>(alloc, encoder, buffer, len, lefts, ps)
 }
 
-/// Encodes intervals as [`encode_intervals`] does: each as symbol 1 of its own row of three weights.
+/// Encodes intervals as [`encode_intervals`] does. Encodes each as symbol 1 of its own row of three weights.
 ///
 /// # Errors
 ///
-/// The errors of [`encode_intervals`].
+/// The call returns the errors of [`encode_intervals`].
 fn intervals_by_rows<Word: WordOf<State>, State: BitArray, P: WordOf<Word>, const PRECISION: usize>(
     alloc: Global,
     encoder: &mut EncoderParts<Word, State>,

@@ -10,7 +10,7 @@ use constriction_words::BitArray;
 use std::alloc::Global;
 use std::convert::Infallible;
 
-/// The choice of the Huffman tree of `weights` as codebook. Symbol `i` has the weight `weights[i]`.
+/// A choice of a codebook: the Huffman tree of `weights`. Symbol `i` has the weight `weights[i]`.
 ///
 /// # Examples
 ///
