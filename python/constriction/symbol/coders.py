@@ -111,8 +111,8 @@ class QueueDecoder(Coder):
     def decode(self, codebook: Codebook, amt: SupportsIndex | None = None) -> int | Answer:
         """Decodes the next symbol, or a list of the next ``amt`` symbols.
 
-        Raises :class:`OutOfDataError` if the words end within a codeword, and :class:`InvalidDataError` if the next
-        bits don't begin with a codeword. After an error the decoder is unchanged.
+        Raises :class:`OutOfDataError` if the words end before all symbols are decoded, and :class:`InvalidDataError` if
+        the next bits don't begin with a codeword. After an error the decoder is unchanged.
         """
         codebook_wanted(codebook)
         if amt is None:
@@ -238,8 +238,8 @@ class StackCoder(Coder):
     def decode(self, codebook: Codebook, amt: SupportsIndex | None = None) -> int | Answer:
         """Decodes the symbol on top of the stack, or a list of the ``amt`` symbols on top.
 
-        Raises :class:`OutOfDataError` if the stack ends within a codeword, and :class:`InvalidDataError` if the next
-        bits don't begin with a codeword. After an error the stack is unchanged.
+        Raises :class:`OutOfDataError` if the stack has too few bits, and :class:`InvalidDataError` if the bits on top
+        don't begin with a codeword. After an error the stack is unchanged.
         """
         codebook_wanted(codebook)
         if amt is None:

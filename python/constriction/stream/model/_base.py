@@ -171,7 +171,7 @@ class Model:
         return self._fixed
 
     def alone(self, given: tuple[Any, ...]) -> tuple[int, Any, Any] | None:
-        """Returns the arguments for a call with one symbol, or None if the call has to be made as for a list."""
+        """Returns the model's form for a call with one symbol, or None if the symbol has to be passed as a list."""
         if given:
             return self._alone_by(given)
         return self._often or self._first_uses()
@@ -214,7 +214,7 @@ class Model:
         return all(map(is_one, given))
 
     def explained(self, refused: Refusal, given: Sequence[Any]) -> Refusal:
-        """Returns the exception of a C function with a text that names the parameters at fault."""
+        """Returns the exception of a C function. Subclasses add the parameters at fault to its text."""
         return refused
 
     def located(self, given: Sequence[Any]) -> Located | None:

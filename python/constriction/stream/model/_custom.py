@@ -51,9 +51,10 @@ class CustomModel(Model):
         return self._count, spread(self._count, lambda place: real(cdf(start + place, *parameters)))
 
     def _interval(self, symbol: int, parameters: tuple[Any, ...]) -> tuple[int, int]:
-        """Returns the interval, if a decoder's search leads from each of its quantiles to the symbol.
+        """Returns the interval of a symbol.
 
-        If the function falls somewhere, the search may not lead to the symbol.
+        Raises ValueError if a decoder's search doesn't lead from each quantile of the interval to the symbol. This
+        happens only if the function falls somewhere.
         """
         left, weight = super()._interval(symbol, parameters)
         high, bound = self._bounds(parameters)

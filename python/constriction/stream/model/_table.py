@@ -47,7 +47,7 @@ class Rows(Model):
         return (ROW, row, None) if len(row) else None
 
     def rows(self, given: Sequence[Any]) -> Iterator[tuple[array[int], int, int]]:
-        """Yields rows of equal width, one row after another, and a bounded number of rows at a time."""
+        """Yields several rows of equal width at a time: their weights, the width, and the number of rows."""
         self._known(given)
         packed: array[int] = array(WORD)
         width = 0
