@@ -1,6 +1,6 @@
 /* Models with whole-number parameters: distributions over a range of whole numbers, with a location and a scale for
-   each symbol, and weights of counts. This file is a part of constriction.h, which includes it. What constriction.h
-   says of sizes, buffers, pointers and errors holds here too.
+   each symbol, and weights from counts. This file is a part of constriction.h, which includes it. What constriction.h
+   states about sizes, buffers, pointers and errors holds here too.
 
    FAMILIES. `family` is one of enum constriction_family. Each family is a standard distribution, moved by a location
    and stretched by a scale:
@@ -8,32 +8,31 @@
                                 location    scale
        CONSTRICTION_GAUSSIAN    mean        standard deviation
        CONSTRICTION_LAPLACE     mean        distance from the mean at which the density has fallen by the factor 1/e
-       CONSTRICTION_LOGISTIC    mean        that of the distribution function 1 / (1 + exp(-(x - mean) / scale))
+       CONSTRICTION_LOGISTIC    mean        `scale` in the distribution function 1 / (1 + exp(-(x - mean) / scale))
 
    UNITS. Locations and scales are whole numbers of units of 2^-16: a mean of 3.5 is 229376, and a deviation of 2.25
-   is 147456. A scale is above 0. If you have floats, round them once: llrint(65536 * mean). After that all numbers
-   are whole, and a table is the same on every machine.
+   is 147456. A scale is above 0. If you have floats, round each float once: llrint(65536 * mean). All later
+   computations are in whole numbers, so a table is the same on every machine.
 
    RANGE. Symbols stand for the whole numbers from `min` to `max`, which are at least 2 and at most 2^24 (2^12)
-   numbers. A symbol is its place in the range, as size_t: 0 stands for min, 1 for min + 1, and max - min for max. So
-   add min to what a decode returns, and subtract it from what you encode.
+   numbers. A symbol has type size_t, and is the number minus min: symbol 0 stands for min, symbol 1 for min + 1, and
+   symbol max - min for max. So add min to a decoded symbol, and subtract min from a number to encode.
 
    TABLE. Each symbol has a weight of 1, and the distribution shares out the rest of 2^24 (2^12). The share of the
-   whole number x is the part of the distribution between x - 1/2 and x + 1/2. The parts outside the range go to its
-   two ends. So every symbol of the range can be coded. The page MODELS.md has the definition, to the last unit.
+   whole number x is the probability between x - 1/2 and x + 1/2. The probability outside the range goes to the two
+   ends of the range. So every symbol of the range can be encoded. The page MODELS.md has the exact definition.
 
-   MIXTURES. A function .._mixture takes a row of `width` components of a family for each symbol. Rows stand one behind
-   another in component_weights, locations and scales: component k of symbol i is item width * i + k of each, so each
-   has width * symbol_count items. Below a place lies the weighted mean of what lies below it under the components. The
-   weights of a row are whole numbers that add up to at least 1 and at most 2^32. A weight may be 0. If you have
-   floats, round each once: llrint(2147483648 * weight).
+   MIXTURES. The functions .._mixture have a row of `width` components of one family for each symbol. One row follows
+   another in component_weights, locations and scales: component k of symbol i is item width * i + k of each list, so
+   each list has width * symbol_count items. The mixture's distribution function is the weighted mean of the
+   components' distribution functions. The weights of a row are whole numbers that add up to at least 1 and at most
+   2^32. A weight may be 0. If you have floats, round each float once: llrint(2147483648 * weight).
 
-   There are as many locations and as many scales as symbols. If several errors apply, the result is the first of
-   these: WRONG_LENGTH (another number of them, or as in the coder's functions); WRONG_INTERVAL (the range);
-   WRONG_WEIGHTS (a scale is 0, the family doesn't exist, width is 0, or the weights of a row add up to 0 or to more
-   than 2^32); INVALID_DATA for a state; IMPOSSIBLE_SYMBOL (a symbol
-   is past the range); the others as in the coder's functions. NO_MEMORY can replace only those behind
-   IMPOSSIBLE_SYMBOL. */
+   ERRORS. The functions .._quantized take one location and one scale for each symbol. If several errors apply, a call
+   returns the first of these: WRONG_LENGTH (another number of locations or scales, or as in constriction.h);
+   WRONG_INTERVAL (the range); WRONG_WEIGHTS (a scale is 0, the family doesn't exist, width is 0, or the weights of a
+   row add up to 0 or to more than 2^32); INVALID_DATA for the state; IMPOSSIBLE_SYMBOL (a symbol is past the range);
+   the other errors of constriction.h. NO_MEMORY can replace only those after IMPOSSIBLE_SYMBOL. */
 #ifndef CONSTRICTION_MODELS_H
 #define CONSTRICTION_MODELS_H
 
@@ -64,7 +63,7 @@ uint32_t constriction_ans_encode_quantized_reverse_u32(uint64_t *head, uint32_t 
                                                        const uint32_t *scales, size_t scale_count,
                                                        const size_t *symbols, size_t symbol_count, size_t *needed);
 
-/* Decodes symbol_count symbols and takes words off the top, also past the end of the data, as
+/* Decodes symbol_count symbols and takes words off the top. When no words are left, decoding continues as in
    constriction_ans_decode.
    Errors: WRONG_LENGTH (*len > word_count, or location_count or scale_count isn't symbol_count), WRONG_INTERVAL,
    WRONG_WEIGHTS, NO_MEMORY. */
@@ -74,7 +73,7 @@ uint32_t constriction_ans_decode_quantized_u32(uint64_t *head, const uint32_t *w
                                                const uint32_t *scales, size_t scale_count,
                                                size_t *symbols, size_t symbol_count);
 
-/* The range coder: encodes symbols, first to last.
+/* The range coder: encodes symbols in order, each with its own location and scale.
    Errors: WRONG_LENGTH (*len > capacity, or location_count or scale_count isn't symbol_count), WRONG_INTERVAL,
    WRONG_WEIGHTS, INVALID_DATA (no encoder has such numbers), IMPOSSIBLE_SYMBOL, NO_SPACE, NO_MEMORY. */
 uint32_t constriction_range_encode_quantized_u32(struct constriction_range_encoder_state_u32 *encoder,
@@ -84,10 +83,10 @@ uint32_t constriction_range_encode_quantized_u32(struct constriction_range_encod
                                                  const uint32_t *scales, size_t scale_count,
                                                  const size_t *symbols, size_t symbol_count, size_t *needed);
 
-/* Decodes symbol_count symbols. Past the end of the words it reads zero words.
+/* Decodes symbol_count symbols. After the last word it reads zero words.
    Errors: WRONG_LENGTH (pos > word_count, or location_count or scale_count isn't symbol_count), WRONG_INTERVAL,
-   WRONG_WEIGHTS, INVALID_DATA (no decoder has such numbers, or no encoder wrote such words under these models),
-   NO_MEMORY. */
+   WRONG_WEIGHTS, INVALID_DATA (no decoder has such numbers, or the words don't encode symbol_count symbols with these
+   models), NO_MEMORY. */
 uint32_t constriction_range_decode_quantized_u32(struct constriction_range_decoder_state_u32 *decoder,
                                                  const uint32_t *words, size_t word_count,
                                                  uint32_t family, int32_t min, int32_t max,
@@ -95,7 +94,7 @@ uint32_t constriction_range_decode_quantized_u32(struct constriction_range_decod
                                                  const uint32_t *scales, size_t scale_count,
                                                  size_t *symbols, size_t symbol_count);
 
-/* The chain coder: encodes symbols from the last to the first, the inverse of a decode.
+/* The chain coder: encodes symbols from the last to the first. An encode is the inverse of a decode.
    Errors: WRONG_LENGTH (*compressed_len > capacity, *remainders_len > remainders_count, or location_count or
    scale_count isn't symbol_count), WRONG_INTERVAL, WRONG_WEIGHTS, INVALID_DATA (no coder has such heads),
    IMPOSSIBLE_SYMBOL, OUT_OF_DATA (remainders is too short), NO_SPACE (in compressed), NO_MEMORY. */
@@ -121,7 +120,7 @@ uint32_t constriction_chain_decode_quantized_u32(struct constriction_chain_heads
                                                  const uint32_t *scales, size_t scale_count,
                                                  size_t *symbols, size_t symbol_count, size_t *needed);
 
-/* Mixtures, with the errors of the functions .._quantized. WRONG_LENGTH comes too if component_weight_count,
+/* Mixtures, with the errors of the functions .._quantized. WRONG_LENGTH also means that component_weight_count,
    location_count or scale_count isn't width * symbol_count. */
 uint32_t constriction_ans_encode_mixture_reverse_u32(uint64_t *head, uint32_t *words, size_t capacity, size_t *len,
                                                      uint32_t family, int32_t min, int32_t max, size_t width,
@@ -169,9 +168,9 @@ uint32_t constriction_chain_decode_mixture_u32(struct constriction_chain_heads_u
                                                const uint32_t *scales, size_t scale_count,
                                                size_t *symbols, size_t symbol_count, size_t *needed);
 
-/* Writes the interval of each symbol, as the functions .._intervals take it: the sum of the weights before the
-   symbol to lefts[i], and its own weight to ps[i]. With equal parameters and the symbols 0 to max - min, ps is a
-   whole table, which can be passed as `weights`.
+/* Writes the interval of each symbol, for the functions .._intervals. Writes the sum of the weights before the symbol
+   to lefts[i], and the symbol's weight to ps[i]. With the same location and scale for all symbols 0 to max - min, ps
+   is a whole table, which can be passed as `weights`.
    Errors: WRONG_LENGTH (location_count, scale_count, left_count or p_count isn't symbol_count), WRONG_INTERVAL,
    WRONG_WEIGHTS, IMPOSSIBLE_SYMBOL. */
 uint32_t constriction_quantized_intervals_u32(uint32_t family, int32_t min, int32_t max,
@@ -180,11 +179,11 @@ uint32_t constriction_quantized_intervals_u32(uint32_t family, int32_t min, int3
                                               const size_t *symbols, size_t symbol_count,
                                               uint32_t *lefts, size_t left_count, uint32_t *ps, size_t p_count);
 
-/* Writes weights in proportion to counts, which add up to 2^24. A count of 0 gets the weight 0, and each other count
-   gets at least 1. The others share what is left, rounded by the largest remainders. Of equal remainders the first
-   one comes first. Counts may be any, and their sum may exceed 2^64.
-   Errors: WRONG_LENGTH (weight_count isn't count_count); WRONG_WEIGHTS (no count is above 0, or more than 2^24 of
-   them are); NO_MEMORY. */
+/* Writes weights in proportion to counts. The weights add up to 2^24. A count of 0 gets the weight 0, and a count above
+   0 whose share is below 1 gets the weight 1. The other counts share the rest of 2^24 in proportion, rounded by the
+   largest remainders. Of equal remainders, the first one comes first. The sum of the counts may exceed 2^64.
+   Errors: WRONG_LENGTH (weight_count isn't count_count); WRONG_WEIGHTS (no count is above 0, or more than 2^24 counts
+   are above 0); NO_MEMORY. */
 uint32_t constriction_weights_of_counts_u32(const uint64_t *counts, size_t count_count,
                                             uint32_t *weights, size_t weight_count);
 
@@ -284,15 +283,15 @@ uint32_t constriction_weights_of_counts_u16(const uint64_t *counts, size_t count
 
 /* ==== The same by the names of the families ====
 
-   For NAME in gaussian, laplace, logistic, and both sizes, as inline functions:
+   Inline functions for both sizes, and for each NAME of gaussian, laplace and logistic:
 
         constriction_ans_encode_NAME_reverse_u32      constriction_ans_decode_NAME_u32
         constriction_range_encode_NAME_u32            constriction_range_decode_NAME_u32
         constriction_chain_encode_NAME_reverse_u32    constriction_chain_decode_NAME_u32
         constriction_NAME_intervals_u32               constriction_NAME_interval_u32
 
-   Each but the last is the function with `quantized` in place of the name, without the argument `family`. The last
-   writes the interval of one symbol, with one location and scale, to *left and *p.
+   Each function except the last does the same as the function with `quantized` in place of NAME, and has no argument
+   `family`. The last function writes the interval of one symbol, with one location and scale, to *left and *p.
    Errors: WRONG_INTERVAL, WRONG_WEIGHTS (the scale is 0), IMPOSSIBLE_SYMBOL. */
 #define CONSTRICTION_MODEL_ \
     int32_t min, int32_t max, const int64_t *locations, size_t location_count, const uint32_t *scales, size_t scale_count

@@ -1,9 +1,8 @@
-"""Builds the wheel, the archive of sources, and what `pip install -e` wants. It needs nothing but Python, and no
-network.
+"""Builds the wheel, the source archive, and the editable wheel for `pip install -e`. Needs Python, and no network.
 
-Each holds the shared object: what CONSTRICTION_LIBRARY says, else the one that lies in the package, else
-build/libconstriction.so of the repository, which tools/library makes first where it is not there. All that is known
-of the project stands in pyproject.toml, and its version in constriction/_version.py.
+The wheel and the source archive contain the shared object. It is the file that CONSTRICTION_LIBRARY names. Otherwise it
+is the file in the package, or else build/libconstriction.so of the repository. If that file doesn't exist,
+tools/library builds it. The metadata is in pyproject.toml, and the version is in constriction/_version.py.
 """
 
 from __future__ import annotations
@@ -37,7 +36,7 @@ INFO = f"{NAME}-{VERSION}.dist-info"
 
 
 def _metadata() -> bytes:
-    """What pyproject.toml says, in the form of a wheel."""
+    """Returns the metadata of pyproject.toml in the format of a wheel."""
     lists = {name: _said(rf"(?s)^{name} = \[(.*?)\]", PROJECT) for name in ("keywords", "classifiers")}
     urls = re.findall(r'^"(.*)" = "(.*)"$', PROJECT.split("[project.urls]")[1], re.MULTILINE)
     lines = ["Metadata-Version: 2.1", "Name: constriction-proved", f"Version: {VERSION}"]
@@ -70,23 +69,26 @@ def _library() -> bytes:
 
 
 def _tag(library: bytes) -> str:
-    """Any Python 3, on this system; on Linux on each whose C library is as old as the shared object allows."""
+    """Returns the wheel's tag: any Python 3 on this system.
+
+    On Linux the tag names the oldest C library that the shared object allows.
+    """
     system = sysconfig.get_platform().replace("-", "_").replace(".", "_")
     asked = [(int(a), int(b)) for a, b in re.findall(rb"GLIBC_(\d+)\.(\d+)", library)]
     if system.startswith("linux_") and asked:
-        least = (2, 5) if system == "linux_x86_64" else (2, 17)  # What there is no older tag of.
+        least = (2, 5) if system == "linux_x86_64" else (2, 17)  # There is no tag for older C libraries.
         system = "manylinux_{}_{}_".format(*max(least, *asked)) + system[len("linux_") :]
     return f"py3-none-{system}"
 
 
 def _sources() -> dict[str, bytes]:
-    """The package's files."""
+    """Returns the package's files."""
     names = sorted(it for it in (HERE / "constriction").rglob("*") if it.suffix == ".py" or it.name == "py.typed")
     return {it.relative_to(HERE).as_posix(): it.read_bytes() for it in names}
 
 
 def _wheel(folder: str, tag: str, files: dict[str, bytes]) -> str:
-    """Writes a wheel with these files to this folder, and answers its name."""
+    """Writes a wheel with these files to ``folder``, and returns the wheel's name."""
     files[f"{INFO}/METADATA"] = _metadata()
     files[f"{INFO}/WHEEL"] = f"Wheel-Version: 1.0\nGenerator: backend\nRoot-Is-Purelib: false\nTag: {tag}\n".encode()
     record = ""
@@ -102,20 +104,25 @@ def _wheel(folder: str, tag: str, files: dict[str, bytes]) -> str:
 
 
 def build_wheel(wheel_directory: str, config_settings: object = None, metadata_directory: str | None = None) -> str:
-    """Writes the wheel to this folder, and answers its name."""
+    """Writes the wheel to ``wheel_directory``, and returns the wheel's name."""
     library = _library()
     return _wheel(wheel_directory, _tag(library), {**_sources(), LIBRARY: library})
 
 
 def build_editable(wheel_directory: str, config_settings: object = None, metadata_directory: str | None = None) -> str:
-    """The same for `pip install -e`: a path to this folder, whose library is found in build/ or in the package."""
+    """Writes the wheel for `pip install -e`, and returns the wheel's name.
+
+    The wheel contains the path of this folder. The library is in build/ or in the package.
+    """
     _library()
     return _wheel(wheel_directory, "py3-none-any", {f"{NAME}.pth": f"{HERE}\n".encode()})
 
 
 def build_sdist(sdist_directory: str, config_settings: object = None) -> str:
-    """Writes the archive of sources to this folder, and answers its name. The library is in it as it is: the
-    toolchain builds it."""
+    """Writes the source archive to ``sdist_directory``, and returns the archive's name.
+
+    The archive contains the built library, because only the toolchain can build it.
+    """
     top = f"{NAME}-{VERSION}"
     files = {**_sources(), LIBRARY: _library(), "PKG-INFO": _metadata()}
     files.update({name: (HERE / name).read_bytes() for name in ("README.md", "backend.py", "pyproject.toml")})

@@ -47,12 +47,12 @@ EACH = of_models(
     "by_rows width (map (lowest 32) weights.now)", "let rows = Rows { weights, width }", "Rows<'_, u32>", "rows",
 )
 QUANTIZED = of_models(
-    "quantized", ", each under the model of its own location and scale ([`Families`])",
+    "quantized", ", each with the model of its own location and scale ([`Families`])",
     "family: u32, min: i32, max: i32, locations: &[i64], scales: &[u32]", "in_family family min max locations.now scales.now",
     "let models = Families::new(family, min, max, locations, scales)", "Families<'_>", "models",
 )
 MIXTURE = of_models(
-    "mixture", ", each under its own mixture of a family's distributions ([`Mixtures`])",
+    "mixture", ", each with its own mixture of a family's distributions ([`Mixtures`])",
     "family: u32, min: i32, max: i32, width: usize, component_weights: &[u32], locations: &[i64], scales: &[u32]",
     "in_mixture family min max width component_weights.now locations.now scales.now",
     "let components = Families::new(family, min, max, locations, scales); "
@@ -62,7 +62,7 @@ BYTES = of_symbols("bytes", 8)
 SHORTS = of_symbols("shorts", 16)
 INTERVALS = {
     r"_encode_": "_encode_intervals_",
-    r"symbols (.*), with .*": r"intervals \1. Interval `i` begins at `lefts[i]`, and its length is `ps[i]`.",
+    r"symbols (.*), with .*": r"intervals \1. Interval `i` begins at quantile `lefts[i]` and has length `ps[i]`.",
     r"weights: &\[u32\],\n    symbols: &\[usize\],": "lefts: &[u32],\n    ps: &[u32],",
     r"by_weights \(map \(lowest 32\) weights\.now\)": "intervals_from_u32 lefts.now",
     r"symbols\.now": "(map (lowest 32) ps.now)",
@@ -91,7 +91,6 @@ SELF_DELIMITED = {
 STACK = {r"_queue": "_stack", r"AsQueue": "AsStack", r"a queue": "a stack", r"in order": "from the last to the first"}
 HUFFMAN = {
     r"exp_golomb": "huffman", r"numbers": "symbols", r"alloc: Global,": "alloc: Global,\n    weights: &[u32],",
-    r"with Exp-Golomb codewords, from": "with the Huffman tree of the weights, from",
     r"with Exp-Golomb codewords": "with the Huffman tree of `weights`", r"symbols: &(mut )?\[u32\]": r"symbols: &\1[usize]",
     r"\(lowest 32\)": "(λ s. s)", r"OfNumbers 32": "OfWeights 32 (map (lowest 32) weights.now)",
     r"ExpGolomb::<u32>::new\(\)": "Tree { weights }",
@@ -149,7 +148,7 @@ PARTS = """impl {name} {{
         }}
     }}
 
-    /// Makes the struct from `parts`, which a call of `constriction_calls` has set or returned.
+    /// Creates the struct from `parts`, which a call of `constriction_calls` has set or returned.
     #[inline]
     pub fn of(parts: {type}) -> Self
         ensures {{ {value} result ≡ parts }}

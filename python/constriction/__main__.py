@@ -1,5 +1,7 @@
-"""``python -m constriction`` prints the version, and where the library is; ``python -m constriction --version`` the
-version alone."""
+"""``python -m constriction`` prints the version and the path of the library.
+
+``python -m constriction --version`` prints the version alone.
+"""
 
 from __future__ import annotations
 
@@ -9,7 +11,7 @@ from ._version import VERSION
 
 
 def main(arguments: list[str]) -> int:
-    """Prints what is asked for, and answers the status."""
+    """Prints what ``arguments`` ask for, and returns the exit status."""
     if arguments not in ([], ["--version"]):
         print("usage: python -m constriction [--version]", file=sys.stderr)
         return 2

@@ -1,7 +1,7 @@
-"""Lists of numbers as memory that C functions read and write.
+"""Lists of numbers in memory that C functions read and write.
 
-What a C function gets is always this package's own memory, so nobody else changes it during a call; and its address
-is asked for at the call, so none is left behind in a copy.
+A C function only gets memory of this package, so no other code changes it during a call. The package asks for the
+memory's address at each call, so no copy of a coder keeps an old address.
 """
 
 from __future__ import annotations
@@ -23,9 +23,9 @@ List = Union[Iterable[SupportsIndex], memoryview]
 Symbols = Union[SupportsIndex, List]
 #: One parameter of a model.
 Real = Union[SupportsFloat, SupportsIndex]
-#: A list of them.
+#: A list of parameters.
 Reals = Union[Iterable[Real], memoryview]
-#: One, a list of one for each symbol, or a row for each symbol.
+#: One parameter, a list with one for each symbol, or a row for each symbol.
 Parameter = Union[Real, Reals, Iterable[Reals]]
 
 WORD, SYMBOL, NUMBER = "I", "q", "d"
@@ -80,7 +80,7 @@ else:
 
 
 class Numbers(Array):
-    """An ``array.array`` that also equals lists and tuples of the same numbers.
+    """An ``array.array`` that is also equal to lists and tuples of the same numbers.
 
     ``numpy.asarray`` reads it without a copy.
     """
@@ -97,17 +97,20 @@ class Numbers(Array):
 
 
 def lent(memory: Any) -> Any:
-    """The memory of a writable buffer, as an argument. As long as this lives, the buffer stays where it is."""
+    """Returns the memory of a writable buffer as an argument of a C function.
+
+    The buffer doesn't move while the argument exists.
+    """
     return _Start.from_buffer(memory) if len(memory) else _NOWHERE
 
 
 def listed(memory: Any) -> tuple[Any, int]:
-    """The same, and how many numbers there are."""
+    """Returns the memory as ``lent`` does, and the number of items."""
     return lent(memory), len(memory)
 
 
 def room(code: str, count: int) -> Numbers:
-    """Room for so many numbers: all that this package makes for C functions is made here."""
+    """Returns a list of ``count`` zeros. All memory for C functions comes from this function."""
     if count < 0:
         raise ValueError("a count is wanted, which isn't negative")
     numbers = Numbers(code, (0,))
@@ -116,13 +119,15 @@ def room(code: str, count: int) -> Numbers:
 
 
 def numpy_module() -> Any:
-    """numpy where the program has loaded it, else None."""
+    """Returns numpy if the program has loaded it. Otherwise returns None."""
     return sys.modules.get("numpy")
 
 
 def answered(numbers: Numbers) -> Any:
-    """Numbers as a caller gets them: an array of numpy over the same memory where the program has loaded that, else
-    as they are."""
+    """Returns numbers as a caller gets them.
+
+    If the program has loaded numpy, these are a numpy array over the same memory. Otherwise they are ``numbers``.
+    """
     numpy = numpy_module()
     if numpy is None:
         return numbers

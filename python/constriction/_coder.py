@@ -1,4 +1,4 @@
-"""What coders share: one at a time changes a coder, all of a call is done or nothing, and copies go their own way."""
+"""The base class of coders. One call at a time changes a coder, as a whole or not at all. Copies are independent."""
 
 from __future__ import annotations
 
@@ -18,31 +18,34 @@ Self = TypeVar("Self", bound="Coder")
 
 
 def _restored(kind: Any, plain: tuple[Any, ...]) -> Any:
-    """The coder of this class whose state was made plain."""
+    """Creates a coder of class ``kind`` from a plain state."""
     it = kind.__new__(kind)
     it._begin(it._unplain(plain))
     return it
 
 
 class Coder:
-    """A state, which is a tuple and changes by an assignment alone, and a lock around each call."""
+    """A state and a lock. The state is a tuple, and an assignment replaces it as a whole. Each call holds the lock."""
 
     _lock: Any
     _busy: bool
     _state: Any
-    #: The memory of calls of one symbol, once there is such a call.
+    #: The memory for calls with one symbol, or None before the first such call.
     _lane: Lane | None
 
     def _begin(self, state: Any) -> None:
-        """Makes a coder of this state."""
+        """Initializes the coder with this state."""
         self._lock, self._busy, self._state, self._lane = RLock(), False, state, None
 
     def _made_lane(self) -> Lane:
-        """Makes the memory of calls of one symbol."""
+        """Creates the memory for calls with one symbol."""
         raise NotImplementedError
 
     def _changed(self, change: Callable[[Any], tuple[Any, Found]]) -> Found:
-        """Asks ``change`` for a new state and an answer. Where it raises, the state is as before."""
+        """Replaces the state by the one that ``change`` returns, and returns the other value of ``change``.
+
+        If ``change`` raises an exception, the state is unchanged.
+        """
         with self._lock:
             if self._busy:
                 raise RuntimeError("a coder was called by what its own call called, such as a model's function")
@@ -55,11 +58,14 @@ class Coder:
                 self._busy = False
 
     def _asked(self, ask: Callable[[Any], Found]) -> Found:
-        """Asks for something that can need the buffers, and changes nothing."""
+        """Returns the result of ``ask``, which reads the state and doesn't change it."""
         return self._changed(lambda state: (state, ask(state)))
 
     def _encoded_alone(self, symbol: Any, model: Any, given: tuple[Any, ...]) -> bool:
-        """Whether this is one symbol that a quick call encoded. Else nothing changed."""
+        """Encodes a single symbol with a quick call. Returns whether this succeeded.
+
+        Otherwise the coder is unchanged.
+        """
         if type(symbol) is not int:
             try:
                 symbol = index(symbol)
@@ -68,13 +74,16 @@ class Coder:
         return isinstance(model, Model) and (self._lane or self._made_lane()).encode(self, symbol, model, given)
 
     def _decoded_alone(self, model: Any, given: tuple[Any, ...]) -> int | None:
-        """One symbol that a quick call decoded, or None, where nothing changed."""
+        """Decodes a single symbol with a quick call, and returns the symbol.
+
+        Returns None if this isn't possible. The coder is then unchanged.
+        """
         if not isinstance(model, Model) or given and not model.missing:
             return None
         return (self._lane or self._made_lane()).decode(self, model, given)
 
     def _compared(self, state: Any) -> Any:
-        """What equal coders have alike."""
+        """Returns a value that is equal for equal coders."""
         return self._plain(state)
 
     def __eq__(self, other: object) -> bool:
@@ -82,30 +91,30 @@ class Coder:
             return NotImplemented
         return self is other or self._asked(self._compared) == other._asked(other._compared)  # type: ignore[attr-defined]
 
-    #: A coder changes, so it is no key of a dict.
+    #: A coder can change, so it can't be a key of a dict.
     __hash__ = None  # type: ignore[assignment]
 
     def __repr__(self) -> str:
         return f"<{type(self).__name__}: {self._said(self._state)}>"
 
     def _said(self, state: Any) -> str:
-        """How much a state holds."""
+        """Returns a text with the size of a state, for ``repr``."""
         raise NotImplementedError
 
     def _plain(self, state: Any) -> tuple[Any, ...]:
-        """The state as a copy of numbers and bytes."""
+        """Returns a copy of the state that consists of numbers and bytes."""
         raise NotImplementedError
 
     def _unplain(self, plain: tuple[Any, ...]) -> Any:
-        """The converse."""
+        """Returns the state from a plain state. This is the inverse of ``_plain``."""
         raise NotImplementedError
 
     def _extras(self) -> dict[str, Any]:
-        """What a class below or a caller put beside."""
+        """Returns the attributes that a subclass or a caller added."""
         return {name: it for name, it in vars(self).items() if name not in ("_lock", "_busy", "_state", "_lane")}
 
     def clone(self: Self) -> Self:
-        """A copy, which goes its own way."""
+        """Returns a copy. Later calls of one coder don't change the other."""
         it: Self = _restored(type(self), self._asked(self._plain))
         vars(it).update(self._extras())
         return it

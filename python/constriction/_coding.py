@@ -1,4 +1,4 @@
-"""Lists of symbols under a model, handed over to a coder's C functions."""
+"""Encodes and decodes lists of symbols with a model, by the C functions of a coder."""
 
 from __future__ import annotations
 
@@ -17,23 +17,23 @@ from .stream.model._base import TOTAL, Located
 
 __all__ = ["Call", "decoded", "encoded"]
 
-#: So many symbols are handed over at a time at least, and so many times the weights: what a call needs for them stays
-#: in the cache.
+#: A part of a list has at least this many symbols, and this many symbols for each weight. So a part stays in the
+#: cache.
 _SYMBOLS_AT_A_TIME, _WEIGHTS_AT_A_TIME = 1 << 16, 4
-#: A C function of a coder: the part of its name that says how models come, a state, the number of symbols, and the
-#: arguments for models and symbols; it answers the state behind.
+#: A C function of a coder. Its arguments are the part of the function's name for the kind of models, a state, the
+#: number of symbols, and the arguments for models and symbols. It returns the state after the call.
 Call = Callable[[str, Any, int, "tuple[Any, ...]"], Any]
 
 
 def _parts(count: int, weights: int) -> Iterator[slice]:
-    """A list some at a time. There is one part at least, since a call also looks at weights."""
+    """Yields slices of a list. There is at least one slice, because a call also checks the weights."""
     size = max(_SYMBOLS_AT_A_TIME, _WEIGHTS_AT_A_TIME * weights)
     for start in range(0, max(count, 1), size):
         yield slice(start, min(start + size, count))
 
 
 def model_wanted(model: Any, symbols: Any = None) -> NoReturn:
-    """Raises what a call means that hands in something else in a model's place."""
+    """Raises TypeError, because ``model`` isn't a model."""
     if isinstance(symbols, Model):
         raise TypeError("the symbols come first, and their model behind them")
     raise TypeError(f"a model is wanted, such as those of constriction.stream.model, and not a {type(model).__name__}")
@@ -42,7 +42,10 @@ def model_wanted(model: Any, symbols: Any = None) -> NoReturn:
 def encoded(
     state: Any, symbols: Symbols, model: Model, parameters: tuple[Any, ...], encode: Call, backwards: bool
 ) -> Any:
-    """The state behind these symbols. ``backwards``: the last one is encoded first."""
+    """Returns the state after an encode of the symbols.
+
+    With ``backwards`` the last symbol is encoded first.
+    """
     if not isinstance(model, Model):
         model_wanted(model, symbols)
     one = is_one(symbols)
@@ -84,7 +87,7 @@ def _other_lengths(symbols: int, others: int, names: str) -> WrongLengthError:
 
 
 def _explained(refused: Refusal, symbols: Any, model: Model, given: tuple[Any, ...]) -> Refusal:
-    """The same refusal, with what it is of: the symbol and its place, or what weights add up to."""
+    """Returns an exception with more details: the symbol and its index, or the sum of the weights."""
     if isinstance(refused, ImpossibleSymbolError) and refused.symbol is None:
         for place, (symbol, row) in enumerate(zip(map(whole, listed_of(symbols)), _rows(model, given))):
             at = symbol - model.first
@@ -96,7 +99,7 @@ def _explained(refused: Refusal, symbols: Any, model: Model, given: tuple[Any, .
 
 
 def _explained_weights(refused: Refusal, model: Model, given: tuple[Any, ...]) -> Refusal:
-    """What the first row of weights adds up to that isn't one."""
+    """Returns an exception that states the sum of the first row of weights with a wrong sum."""
     for place, row in enumerate(_rows(model, given) if given else (model.table(),)):
         which = f"row {place} of the weights" if given else "the weights"
         if not len(row):
@@ -107,7 +110,7 @@ def _explained_weights(refused: Refusal, model: Model, given: tuple[Any, ...]) -
 
 
 def _rows(model: Model, given: tuple[Any, ...]) -> Iterator[Sequence[int]]:
-    """For each symbol a row that is above 0 where the model has it."""
+    """Yields a row for each symbol, whose items are above 0 for the symbols of the model."""
     if not given:
         yield from repeat(model.table())
     elif model.has_rows:
@@ -122,7 +125,7 @@ def _rows(model: Model, given: tuple[Any, ...]) -> Iterator[Sequence[int]]:
 def _encoded_under_rows(
     state: Any, symbols: Symbols, model: Model, given: tuple[Any, ...], encode: Call, backwards: bool
 ) -> Any:
-    """The state behind these symbols, each of which has a row of weights."""
+    """Returns the state after an encode of the symbols, each with its own row of weights."""
     places = places_of(symbols, model.first)
     parts, end = [], 0
     for weights, width, count in model.rows([[it] for it in given] if is_one(symbols) else given):
@@ -137,7 +140,7 @@ def _encoded_under_rows(
 
 
 def shifted(places: Numbers, first: int) -> Numbers:
-    """Places in a table as symbols."""
+    """Converts indexes of a table to symbols: adds ``first`` to each index."""
     if not first or not len(places):
         return places
     numpy = numpy_module()
@@ -150,8 +153,8 @@ def shifted(places: Numbers, first: int) -> Numbers:
 def _in_parts(
     state: Any, count: int, weights: int, decode: Callable[[Any, slice, Numbers], Any]
 ) -> tuple[Any, Numbers]:
-    """The state behind so many symbols, some of which are decoded at a time, and they."""
-    symbols = room(SYMBOL, count)  # First of all: where there is no room for all of them, none is decoded.
+    """Returns the state after decoding ``count`` symbols in several parts, and the symbols."""
+    symbols = room(SYMBOL, count)  # Comes first: without memory for all symbols, none is decoded.
     size = next(_parts(count, weights)).stop
     if size == count:
         return decode(state, slice(0, count), symbols), symbols
@@ -165,7 +168,7 @@ def _in_parts(
 
 
 def _under_table(state: Any, model: Model, count: int, decode: Call) -> tuple[Any, Numbers]:
-    """The state behind so many symbols under the model's own table, and they."""
+    """Returns the state after decoding ``count`` symbols with the model's own table, and the symbols."""
     weights = model.table()
 
     def some(state: Any, part: slice, symbols: Numbers) -> Any:
@@ -175,7 +178,7 @@ def _under_table(state: Any, model: Model, count: int, decode: Call) -> tuple[An
 
 
 def _under_rows(state: Any, model: Model, given: tuple[Any, ...], decode: Call) -> tuple[Any, Numbers]:
-    """The state behind a symbol for each row of weights, and they."""
+    """Returns the state after decoding one symbol for each row of weights, and the symbols."""
     symbols = room(SYMBOL, 0)
     for weights, width, count in model.rows(given):
         some = room(SYMBOL, count)
@@ -187,12 +190,11 @@ def _under_rows(state: Any, model: Model, given: tuple[Any, ...], decode: Call) 
 def _under_each(
     state: Any, model: Model, given: tuple[Any, ...], decode: Call, quantile: Callable[[Any], int]
 ) -> tuple[Any, Numbers]:
-    """The state behind a symbol for each set of parameters, and they."""
+    """Returns the state after decoding one symbol for each set of parameters, and the symbols."""
     sets = model.parameters(given)
     places, place = room(SYMBOL, len(sets)), room(SYMBOL, 1)
     for i, parameters in enumerate(sets):
-        # Of a model only the one interval matters that the coder's next quantile is in: it is the middle one of
-        # three.
+        # Only the interval that contains the coder's next quantile matters. It is the middle one of three intervals.
         k, weights = model.around(quantile(state), parameters)
         state = decode("", state, 1, (*listed(weights), *listed(place)))
         places[i] = k + place[0] - 1
@@ -200,7 +202,7 @@ def _under_each(
 
 
 def _under_located(state: Any, located: Located, decode: Call) -> tuple[Any, Numbers]:
-    """The state behind a symbol for each location and scale, and they."""
+    """Returns the state after decoding one symbol for each location and scale, and the symbols."""
 
     def some(state: Any, part: slice, symbols: Numbers) -> Any:
         return decode(located.form, state, len(symbols), (*located.part(part).lent(), *listed(symbols)))
@@ -211,7 +213,7 @@ def _under_located(state: Any, located: Located, decode: Call) -> tuple[Any, Num
 def _under_parameters(
     state: Any, model: Model, given: tuple[Any, ...], decode: Call, quantile: Callable[[Any], int]
 ) -> tuple[Any, Numbers]:
-    """The same, by the way in which C functions take these parameters."""
+    """Does the same as ``_under_each``, in the way in which the C functions take these parameters."""
     if model.has_rows:
         return _under_rows(state, model, given, decode)
     located = model.located(given)
@@ -228,9 +230,9 @@ def decoded(
     decode: Call,
     quantile: Callable[[Any], int],
 ) -> tuple[Any, Any]:
-    """The state behind the next symbols, and they: one, or so many, or one for each set of parameters.
+    """Returns the state after the next symbols, and the symbols: one, ``amt``, or one for each set of parameters.
 
-    ``quantile`` is where in 0 .. 2^24 - 1 the next symbol's interval lies.
+    ``quantile`` returns the quantile that selects the next symbol, a number in 0 .. 2^24 - 1.
     """
     if not isinstance(model, Model):
         model_wanted(model)
@@ -240,7 +242,7 @@ def decoded(
         rest = (count_of(amt),)
         if model.missing:
             raise TypeError(f"the model has no {' and no '.join(model.missing)}: hand in a list of each, and no amt")
-    # A model by a function can go with and without parameters: there a single whole number is a number of symbols.
+    # A model of a function may have parameters or none. A single whole number is then a number of symbols.
     counted = len(rest) == 1 and not model.missing and is_one(rest[0]) and hasattr(rest[0], "__index__")
     if len(rest) == 1 and model.complete and not counted:
         raise TypeError(f"a number of symbols is wanted, a whole one, and not {rest[0]!r}")

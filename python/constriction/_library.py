@@ -14,13 +14,13 @@ __all__ = ["PATH", "ChainHeads", "RangeDecoderState", "RangeEncoderState", "call
 
 
 class RangeEncoderState(Structure):
-    """A range encoder beside its words."""
+    """The numbers of a range encoder."""
 
     _fields_ = [("lower", c_uint64), ("range", c_uint64), ("held", c_size_t), ("first", c_uint32)]
 
 
 class RangeDecoderState(Structure):
-    """A range decoder beside its words."""
+    """The numbers of a range decoder."""
 
     _fields_ = [("lower", c_uint64), ("range", c_uint64), ("point", c_uint64), ("pos", c_size_t)]
 
@@ -32,8 +32,11 @@ class ChainHeads(Structure):
 
 
 def _path() -> Path:
-    """Where the shared object is: what CONSTRICTION_LIBRARY says, from the current folder on; or in this package,
-    where it was installed; or in the repository's folder build/."""
+    """Returns the path of the shared object.
+
+    This is the path that CONSTRICTION_LIBRARY names, relative to the current folder. Otherwise the file is in this
+    package, or else in the repository's folder build/.
+    """
     said = os.environ.get("CONSTRICTION_LIBRARY")
     if said:
         return Path(said).absolute()
@@ -42,13 +45,15 @@ def _path() -> Path:
     return own if own.exists() else here.parents[1] / "build" / "libconstriction.so"
 
 
-#: Where the shared object is.
+#: The path of the shared object.
 PATH = _path()
 
 
 def _load() -> ctypes.CDLL:
-    """The shared object by its whole path, so that it is never one of the system's. Calls let go of the
-    interpreter's lock."""
+    """Loads the shared object by its absolute path, so that it is never a file of the system.
+
+    Calls release the interpreter's lock.
+    """
     if not PATH.is_file():
         raise ImportError(f"there is no {PATH}: build it by tools/library, or set CONSTRICTION_LIBRARY to where it is")
     return ctypes.CDLL(str(PATH))
@@ -130,7 +135,7 @@ def _functions() -> dict[str, Any]:
     for name, parameters in _PARAMETERS.items():
         function = getattr(_LIBRARY, f"constriction_{name}_u32", None)
         if function is None:
-            continue  # The library is of another version; a call says so.
+            continue  # The library has another version. A call raises an exception.
         function.argtypes, function.restype = parameters, c_uint32
         functions[name] = function
     return functions
@@ -140,22 +145,24 @@ _FUNCTIONS = _functions()
 
 
 def plain_function(name: str) -> Any:
-    """A C function whose arguments all come as instances of their types, which is quicker than a conversion of each.
+    """Returns a C function whose arguments have to be instances of its types. This saves a conversion of each argument.
 
-    Where the library has none of this name, the answer calls nothing, and says that nothing was done.
+    If the library has no such function, the result is a function that does nothing and returns an error.
     """
     if name not in _FUNCTIONS:
         return lambda *arguments: 1
     function = _LIBRARY[
         f"constriction_{name}_u32"
-    ]  # Of its own: what comes by its name as an attribute has types of arguments.
+    ]  # An object of its own, without types of arguments. An attribute of the library has them.
     function.restype = c_uint32
     return function
 
 
 def call(name: str, *arguments: Any, texts: dict[int, str] | None = None) -> None:
-    """Calls the C function of this name, and raises what its result means, with these texts in place of the usual
-    ones."""
+    """Calls the C function ``name``, and raises the exception of its result.
+
+    ``texts`` maps result codes to texts that replace the usual ones.
+    """
     function = _FUNCTIONS.get(name)
     if function is None:
         raise NotImplementedError(f"{PATH} is the library of another version: it has no constriction_{name}_u32")

@@ -1,4 +1,7 @@
-"""What callers hand in as numbers: whole numbers by ``operator.index``, floats by ``float``, each list as a copy."""
+"""Conversions of the numbers that callers pass: ``operator.index`` for whole numbers, ``float`` for floats.
+
+Lists for C functions are copied.
+"""
 
 from __future__ import annotations
 
@@ -16,25 +19,25 @@ __all__ = [
     "sequence_of", "table_of", "whole", "wholes_of", "words_of",
 ]  # fmt: skip
 
-#: The numbers that words and symbols can be.
+#: The least and the greatest number that a word and a symbol can be.
 _RANGES = {WORD: (0, (1 << 32) - 1), SYMBOL: (-(1 << 63), (1 << 63) - 1)}
 _WANTED = "whole numbers are wanted, and not {}: round them, and make integers of them, as by array.astype('int64')"
-#: The formats of memory that holds such numbers. What is past 63 bits is no place in a table, by either sign.
+#: The formats of memory that holds such numbers. No index of a table has more than 63 bits, so a sign doesn't matter.
 _ALIKE = {WORD: ("I", "L"), SYMBOL: ("q", "Q", "l", "L", "n", "N"), NUMBER: ("d",)}
 _FLOAT = frozenset((float,))
-#: No list has more symbols than this: they would take 2^51 bytes.
+#: The greatest number of symbols of a list. These symbols would take 2^51 bytes.
 _MOST = 1 << 48
-#: Tables that begin within this are shifted by numpy, since their symbols lie within twice of it.
+#: numpy shifts a table if the first symbol's absolute value is below this: then the sums fit 64 bits.
 _NEAR = 1 << 61
 
 
 def is_one(it: Any) -> bool:
-    """Whether this is one number, and no list."""
+    """Returns whether ``it`` is a single number, and no list."""
     return not hasattr(it, "__len__") and not hasattr(it, "__iter__") or getattr(it, "shape", None) == ()
 
 
 def whole(number: Any) -> int:
-    """A whole number. Floats are refused, even such as 2.0."""
+    """Converts a number to an int. Raises TypeError for floats, even for 2.0."""
     try:
         return index(number)
     except TypeError:
@@ -42,7 +45,7 @@ def whole(number: Any) -> int:
 
 
 def real(number: Any) -> float:
-    """A float. Text is refused, which ``float`` would read."""
+    """Converts a number to a float. Raises TypeError for text, which ``float`` would accept."""
     kind = type(number)
     if kind is float:
         return number  # type: ignore[no-any-return]
@@ -53,7 +56,7 @@ def real(number: Any) -> float:
 
 
 def count_of(number: Any) -> int:
-    """How many symbols are wanted."""
+    """Converts a number of symbols to an int. Raises ValueError if it isn't between 0 and 2^48."""
     try:
         count = index(number)
     except TypeError:
@@ -72,7 +75,7 @@ def _unmasked(numbers: Any) -> None:
 
 
 def _as_numpy(numbers: Any) -> Any:
-    """An array of numpy where these numbers are one, or say how to become one; else None."""
+    """Returns a numpy array if ``numbers`` is one or can be converted to one. Otherwise returns None."""
     numpy = numpy_module()
     if numpy is None or isinstance(numbers, (list, tuple, range, array)):
         return None
@@ -83,7 +86,7 @@ def _as_numpy(numbers: Any) -> Any:
 
 
 def _listed(numbers: Any) -> Any:
-    """Numbers that are no array of numpy, as something to go through."""
+    """Returns numbers that aren't a numpy array as something to iterate over."""
     if isinstance(numbers, str):
         raise TypeError("a list of numbers is wanted, and not text")
     if isinstance(numbers, (bytes, bytearray)):
@@ -103,12 +106,12 @@ def _listed(numbers: Any) -> Any:
 
 
 def sequence_of(numbers: Any) -> Any:
-    """The same list of numbers, or where it can be gone through once only, a list of them."""
+    """Returns the same list of numbers, or a list if ``numbers`` can be iterated only once."""
     return numbers if hasattr(numbers, "__len__") else list(_listed(numbers))
 
 
 def listed_of(numbers: Any) -> list[Any]:
-    """A list of numbers, or one alone, as a list of Python's. It says where a fault lies."""
+    """Returns a list of numbers, or a single number, as a Python list."""
     if is_one(numbers):
         return [numbers]
     table = _as_numpy(numbers)
@@ -116,7 +119,7 @@ def listed_of(numbers: Any) -> list[Any]:
 
 
 def plain_of(numbers: Any) -> Any:
-    """A list of numbers as an array of numpy where it is one, else as a list of Python's."""
+    """Returns a numpy array if ``numbers`` is one, and otherwise a Python list."""
     table = _as_numpy(numbers)
     return listed_of(numbers) if table is None else table
 
@@ -127,7 +130,7 @@ def _flat(dimensions: int) -> None:
 
 
 def _past(code: str, numbers: Any) -> bool:
-    """Whether an array of numpy has numbers past those of this type."""
+    """Returns whether a numpy array has numbers that don't fit the type ``code``."""
     if not numbers.size:
         return False
     least, greatest = _RANGES[code]
@@ -135,7 +138,7 @@ def _past(code: str, numbers: Any) -> bool:
 
 
 def _filled(code: str, numbers: Any) -> array[Any]:
-    """The numbers of an array of numpy, in memory of this package."""
+    """Returns the numbers of a numpy array in memory of this package."""
     numpy = numpy_module()
     memory = room(code, numbers.size)
     if len(memory):
@@ -145,14 +148,17 @@ def _filled(code: str, numbers: Any) -> array[Any]:
 
 
 def _wholes(table: Any) -> None:
-    """Refuses an array of numpy that is no list of whole numbers."""
+    """Raises TypeError if a numpy array isn't a list of whole numbers."""
     _flat(table.ndim)
     if table.dtype.kind not in "iub" and not (table.dtype.kind == "f" and not table.size):
         raise TypeError(_WANTED.format(f"of the type {table.dtype}"))
 
 
 def wholes_of(code: str, numbers: List) -> array[Any]:
-    """A copy of whole numbers. Raises TypeError of others, and OverflowError of those past the type."""
+    """Returns a copy of whole numbers.
+
+    Raises TypeError for other numbers, and OverflowError for numbers that don't fit the type.
+    """
     table = _as_numpy(numbers)
     if table is not None:
         _wholes(table)
@@ -164,7 +170,10 @@ def wholes_of(code: str, numbers: List) -> array[Any]:
 
 
 def _copied(code: str, numbers: Any) -> array[Any] | None:
-    """A copy of numbers that lie in memory as they do here, without a look at each; else None."""
+    """Returns a copy of numbers whose memory has this package's format, without a look at each number.
+
+    Returns None for other numbers.
+    """
     try:
         view = memoryview(numbers)
     except TypeError:
@@ -177,8 +186,10 @@ def _copied(code: str, numbers: Any) -> array[Any] | None:
 
 
 def words_of(words: List, name: str = "word", refused: type[Refusal] = InvalidDataError) -> array[Any]:
-    """A copy of words, each below 2^32. Raises TypeError of what is no whole number, and this refusal of one past a
-    word."""
+    """Returns a copy of words, each below 2^32.
+
+    Raises TypeError for numbers that aren't whole, and ``refused`` for a number that doesn't fit a word.
+    """
     if is_one(words):
         raise TypeError(f"a list of {name}s is wanted, and not a {type(words).__name__}")
     given = sequence_of(words)
@@ -190,14 +201,17 @@ def words_of(words: List, name: str = "word", refused: type[Refusal] = InvalidDa
 
 
 def _signed(symbols: Any) -> Iterable[int]:
-    """Whole numbers to go through: as they lie in memory where that holds them with their signs."""
+    """Returns whole numbers to iterate over, in their own memory if the memory's format has a sign."""
     if isinstance(symbols, array) and symbols.typecode == SYMBOL:
         return symbols
     return map(whole, _listed(symbols))
 
 
 def places_of(symbols: Any, first: int) -> array[Any]:
-    """One symbol or a list of them, as places in a table whose first symbol this is."""
+    """Converts a symbol or a list of symbols to indexes of a table whose first symbol is ``first``.
+
+    Raises ImpossibleSymbolError if an index doesn't fit 64 bits.
+    """
     try:
         if is_one(symbols):
             return array(SYMBOL, (whole(symbols) - first,))
@@ -214,12 +228,12 @@ def places_of(symbols: Any, first: int) -> array[Any]:
             numpy_module().frombuffer(places, dtype="int64")[:] -= first
         return places
     except OverflowError:
-        # No table has a place past 64 bits.
+        # No index of a table has more than 64 bits.
         raise ImpossibleSymbolError(IMPOSSIBLE_SYMBOL) from None
 
 
 def _real_table(numbers: Any) -> Any:
-    """A list of real numbers where it is an array of numpy, else None."""
+    """Returns a list of real numbers if it is a numpy array. Otherwise returns None."""
     table = _as_numpy(numbers)
     if table is not None:
         _flat(table.ndim)
@@ -229,7 +243,7 @@ def _real_table(numbers: Any) -> Any:
 
 
 def floats_of(numbers: Any) -> array[float]:
-    """A copy of a list of floats, or of one alone."""
+    """Returns a copy of a list of floats, or of a single float."""
     if is_one(numbers):
         return array(NUMBER, (real(numbers),))
     table = _real_table(numbers)
@@ -242,19 +256,25 @@ def floats_of(numbers: Any) -> array[float]:
 
 
 def reals_of(numbers: Any) -> Any:
-    """The same of a list; an array of numpy as one of 64 bits, itself where it is that already."""
+    """Does the same as ``floats_of``, for a list.
+
+    A numpy array becomes an array of 64-bit floats. If it is one already, it is returned without a copy.
+    """
     table = _real_table(numbers)
     return floats_of(numbers) if table is None else table.astype("float64", copy=False)
 
 
 def table_of(numbers: Any) -> Any:
-    """An array of numpy of two dimensions, where these are floats in such a one; else None."""
+    """Returns a numpy array of two dimensions if the numbers are floats in such an array. Otherwise returns None."""
     table = _as_numpy(numbers)
     return table if table is not None and table.ndim == 2 and table.dtype.kind == "f" and table.size else None
 
 
 def grid_of(numbers: Any) -> tuple[Any, int]:
-    """Rows of equally many floats, one behind another, and how many each has; a list of floats is one row."""
+    """Returns rows of equal width as one list of floats, and the width of a row.
+
+    A list of floats is one row.
+    """
     table = _as_numpy(numbers)
     if table is not None:
         if table.ndim not in (1, 2):
@@ -281,7 +301,7 @@ def _listed_rows(numbers: Any) -> Any:
 
 
 def rows_of(numbers: Any, row: Callable[[Any], array[Any]]) -> list[array[Any]]:
-    """A row for each symbol, of a list of lists or of a table of two dimensions."""
+    """Returns a row for each symbol, from a list of lists or a table of two dimensions."""
     table = _as_numpy(numbers)
     if table is None:
         if not isinstance(numbers, (list, tuple)):

@@ -1,9 +1,9 @@
-"""One symbol a call, without what a list costs: the same C functions, over memory that stays a coder's own.
+"""Calls with one symbol, without the cost of a list. They use the same C functions, and memory that belongs to a coder.
 
-A model that is used often has its sums of weights, so a decode finds its symbol by a search for the coder's quantile
-and hands three weights over: of all before it, its own, of all behind it. An encode hands an interval over. Whatever
-isn't plain (a symbol that a model doesn't know, weights that don't add up, a model of floats with parameters) goes
-the way of lists, which says what is wrong.
+A model that is used often keeps its sums of weights. So a decode searches for the symbol of the coder's quantile, and
+passes three weights: the sum of the weights before it, its own weight, and the sum of the weights after it. An encode
+passes an interval. All other cases go through the functions for lists, which report what is wrong: a symbol that the
+model doesn't have, weights with a wrong sum, or a model of floats with parameters.
 """
 
 from __future__ import annotations
@@ -22,16 +22,19 @@ from .stream.model._base import ENDS, TOTAL, UNITS, Model
 __all__ = ["Buffer", "Lane", "made", "memory_of"]
 
 _Way = Callable[[], int]
-#: Makes a tuple of a class below ``tuple`` without a call of Python's.
+#: Creates an instance of a subclass of ``tuple`` without a call of its ``__new__``.
 made: Any = tuple.__new__
 
 
 class Lane:
-    """The memory of a coder's calls of one symbol. Each coder has one, and its lock lets one call use it at a
-    time."""
+    """The memory for a coder's calls with one symbol. Each coder has one, and the coder's lock protects it."""
 
     def __init__(self, lead: tuple[Any, ...], encode: str, decode: str, behind_decode: tuple[Any, ...] = ()) -> None:
-        """``lead`` is the state as the C functions take it. The names have a gap for how a model comes."""
+        """Creates the memory.
+
+        ``lead`` is the state as arguments of the C functions. The names of the functions have a gap for the kind of
+        model.
+        """
         self._interval, self._three, self._place = array(WORD, (0, 0)), array(WORD, (0, 0, 0)), array(SYMBOL, (0,))
         self._location, self._scale, self._row, self._width = c_int64(), c_uint32(), c_void_p(), c_size_t()
         self._family, self._least, self._greatest, self._model = c_uint32(), c_int32(), c_int32(), None
@@ -47,24 +50,27 @@ class Lane:
         self._decode_units = _bound(decode.format("_quantized"), *lead, *family, *symbol, *behind_decode)
         self._decode_row = _bound(decode.format(""), *lead, *row, *symbol, *behind_decode)
 
-    #: The state that is in this memory, where that is known, and for how many more calls its buffers have room.
+    #: The state in this memory, or None if it isn't known, and the number of calls for which its buffers have room.
     _kept: Any = None
     _spare = 0
 
     def load(self, state: Any) -> Any:
-        """Writes a state to this memory, and answers it. There is room for a word more at least."""
+        """Writes a state to this memory, and returns the state.
+
+        The state then has room for at least one more word.
+        """
         raise NotImplementedError
 
     def loaded(self, before: Any) -> Any:
-        """The state that is in this memory now."""
+        """Returns the state that is in this memory."""
         raise NotImplementedError
 
     def quantile(self, state: Any) -> int:
-        """Where in 0 .. 2^24 - 1 the next symbol's interval lies, or past that where it can't be said."""
+        """Returns the quantile that selects the next symbol, or a number of at least 2^24 if there is none."""
         raise NotImplementedError
 
     def encode(self, coder: Any, symbol: int, model: Model, given: tuple[Any, ...]) -> bool:
-        """Encodes a symbol, and says whether it did; else nothing changed."""
+        """Encodes a symbol. Returns whether this succeeded. Otherwise the coder is unchanged."""
         order = None if given else model._often
         if order is None:
             order = model.alone(given)
@@ -83,7 +89,7 @@ class Lane:
             self._spare, self._kept = (
                 self._spare - 1,
                 None,
-            )  # Should it be interrupted, nothing is known of this memory.
+            )  # After an interrupt the state in this memory isn't known.
             if kind == ENDS:
                 left = first[place - 1] if place else 0
                 interval = self._interval
@@ -97,7 +103,7 @@ class Lane:
             return True
 
     def _encode_by(self, kind: int, place: int, model: Model, first: Any, second: Any) -> int:
-        """The call under a location and a scale, or a row of weights."""
+        """Calls the C function for a location and a scale, or for a row of weights."""
         self._place[0] = place
         if kind == UNITS:
             self._take_units(model, first, second)
@@ -106,11 +112,11 @@ class Lane:
         return self._encode_row()
 
     def decode(self, coder: Any, model: Model, given: tuple[Any, ...]) -> int | None:
-        """The next symbol; or None, where nothing changed."""
+        """Decodes the next symbol. Returns None if this isn't possible, and the coder is then unchanged."""
         order = None if given else model._often
         if order is None:
             if given and model.has_rows and hasattr(given[0], "__len__"):
-                return None  # A list of rows, and a list comes out.
+                return None  # A list of rows decodes to a list of symbols.
             order = model.alone(given)
             if order is None:
                 return None
@@ -124,7 +130,7 @@ class Lane:
             self._spare, self._kept = (
                 self._spare - 1,
                 None,
-            )  # Should it be interrupted, nothing is known of this memory.
+            )  # After an interrupt the state in this memory isn't known.
             if kind == ENDS:
                 quantile = self.quantile(state)
                 if quantile >= TOTAL:
@@ -154,23 +160,24 @@ class Lane:
 
 
 class Buffer:
-    """A buffer of words as arguments: where it is, and how many words it has room for."""
+    """The address of a buffer of words, and the number of words for which it has room, as arguments."""
 
     def __init__(self) -> None:
         self.address, self.capacity, self._memory = c_void_p(), c_size_t(), None
 
     def take(self, memory: Numbers) -> None:
-        """Notes where this memory is. It stays there as long as it lives, since nothing makes it longer."""
+        """Stores the address of ``memory``. The memory doesn't move while it exists, because no code makes it longer.
+        """
         if memory is not self._memory:
             self.address.value, self.capacity.value = memory.buffer_info()
             self._memory = memory  # type: ignore[assignment]
 
 
 def _bound(name: str, *arguments: Any) -> _Way:
-    """A C function with these arguments, which are memory that is read at each call."""
+    """Returns a C function with these arguments. Each call reads the arguments' memory."""
     return partial(plain_function(name), *arguments)
 
 
 def memory_of(numbers: array[int]) -> c_void_p:
-    """Where these numbers are, as an argument. They have to live as long as that."""
+    """Returns the address of these numbers as an argument. The numbers have to exist as long as the argument."""
     return c_void_p(numbers.buffer_info()[0])

@@ -1,5 +1,4 @@
-"""Floats as whole numbers, each rounded once: to the nearest, and from the middle to the even one. So it is with
-numpy and without."""
+"""Conversions of floats to whole numbers. Each float is rounded once, half to even, with or without numpy."""
 
 from __future__ import annotations
 
@@ -17,45 +16,50 @@ __all__ = [
     "unit_of", "wrong_row",
 ]  # fmt: skip
 
-#: A location or a scale of 1 has so many units.
+#: The number of units in a location or a scale of 1.
 UNITS_OF_ONE = 65536.0
-#: Locations are brought within this. A table is the same for all that lie so far outside of its range.
+#: The limit of locations. A table is the same for all locations that are so far outside of the table's range.
 FARTHEST = 2.0**46
-#: The least scale, a unit, and the greatest, 2^32 - 1 units.
+#: The least scale, 1 unit, and the greatest scale, 2^32 - 1 units.
 NARROWEST, WIDEST = 1 / UNITS_OF_ONE, 65536.0 - 1 / UNITS_OF_ONE
-#: Two weights add up to so much.
+#: The sum of the two weights of a Bernoulli model.
 _TOTAL = 16777216.0
-#: A component's weight of 1 has so many units, and a row's weights add up to so much at most.
+#: The number of units in a component's weight of 1, and the greatest sum of a row's weights.
 _SHARES, _MOST_SHARES = 2.0**31, 2.0
-#: The count of the greatest probability of a list has so many bits.
+#: The number of bits in the count of the greatest probability of a list.
 _COUNT_BITS = 62
 
 
-#: Of lists as short as this Python's own functions are faster than those of numpy.
+#: For lists that aren't longer than this, Python's own functions are faster than those of numpy.
 _FEW = 32
-#: A least float and a greatest one.
+#: The least float of a list, and the greatest float.
 Ends = tuple[float, float]
 
 
 def _numpy_for(floats: Any) -> Any:
-    """numpy, where it is loaded and these are not few, or are an array of it; else None."""
+    """Returns numpy if it is loaded, and if there are many floats or they are a numpy array.
+
+    Otherwise returns None.
+    """
     return numpy_module() if len(floats) > _FEW or not isinstance(floats, array) else None
 
 
 def _seen(numpy: Any, floats: Any) -> Any:
-    """The same floats as an array of numpy, without a copy."""
+    """Returns the same floats as a numpy array, without a copy."""
     return floats if isinstance(floats, numpy.ndarray) else numpy.frombuffer(floats, dtype="float64")
 
 
 def _ends(floats: Any) -> Ends:
-    """The least and the greatest of these floats, both 1 where there are none. Where one isn't finite, both are
-    NaN."""
+    """Returns the least and the greatest of these floats.
+
+    Both are 1 if there are no floats. Both are NaN if a float isn't finite.
+    """
     numpy = _numpy_for(floats)
     if not len(floats):
         return 1.0, 1.0
     if numpy is not None:
         table = _seen(numpy, floats)
-        least, greatest = float(table.min()), float(table.max())  # NaN, where one is.
+        least, greatest = float(table.min()), float(table.max())  # NaN if one float is NaN.
         return (least, greatest) if isfinite(least) and isfinite(greatest) else (nan, nan)
     return (min(floats), max(floats)) if all(map(isfinite, floats)) else (nan, nan)
 
@@ -63,7 +67,10 @@ def _ends(floats: Any) -> Ends:
 def _fault(
     name: str, floats: array[float], good: Callable[[float], bool], wanted: str, width: int | None = None
 ) -> ValueError:
-    """The error of the first float that isn't good. ``width``: so many of them are of each symbol."""
+    """Returns the exception for the first float that isn't good.
+
+    ``width`` is the number of floats for each symbol, if there are several.
+    """
     place, number = next((i, it) for i, it in enumerate(floats) if not good(it))
     which = f"{name} {place}" if len(floats) > 1 else f"a {name}"
     if width is not None:
@@ -72,7 +79,10 @@ def _fault(
 
 
 def _rounded(code: str, floats: array[float], unit: float, within: Ends, ends: Ends) -> array[int]:
-    """Floats brought within these bounds, in units, of which a whole has so many; their own ends are known."""
+    """Returns the floats in units, rounded, and limited to the bounds ``within``.
+
+    ``unit`` is the number of units in 1. ``ends`` are the least and the greatest float.
+    """
     numpy = _numpy_for(floats)
     if numpy is not None:
         table = _seen(numpy, floats)
@@ -90,13 +100,15 @@ def _rounded(code: str, floats: array[float], unit: float, within: Ends, ends: E
 
 
 def moved(floats: array[float], origin: float) -> array[float]:
-    """Floats less an origin."""
+    """Returns each float minus ``origin``."""
     return array(NUMBER, map((-origin).__add__, floats)) if origin else floats
 
 
 def unit_of(number: Any, origin: float, least: float, greatest: float) -> int | None:
-    """One float less an origin, in units, as lists of them are rounded; None of a list, and of what isn't within
-    these bounds."""
+    """Returns a float minus ``origin``, in units, rounded like a list of floats.
+
+    Returns None for a list, and for a float outside the bounds.
+    """
     if type(number) is not float:
         if not hasattr(number, "__float__") and type(number) is not int or hasattr(number, "__len__"):
             return None
@@ -106,7 +118,7 @@ def unit_of(number: Any, origin: float, least: float, greatest: float) -> int | 
 
 
 def locations_of(name: str, floats: array[float], width: int | None = None) -> array[int]:
-    """Locations in units of 2^-16. Raises ValueError of what isn't finite."""
+    """Returns locations in units of 2^-16. Raises ValueError if one isn't finite."""
     ends = _ends(floats)
     if isnan(ends[0]):
         raise _fault(name, floats, isfinite, "be finite", width)
@@ -114,8 +126,10 @@ def locations_of(name: str, floats: array[float], width: int | None = None) -> a
 
 
 def scales_of(name: str, floats: array[float], width: int | None = None) -> array[int]:
-    """Scales in units of 2^-16, from the least that there is to the greatest. Raises ValueError of what isn't
-    positive and finite."""
+    """Returns scales in units of 2^-16, limited to the least and the greatest scale.
+
+    Raises ValueError if a scale isn't positive and finite.
+    """
     ends = _ends(floats)
     if not ends[0] > 0:
         raise _fault(name, floats, lambda it: 0 < it < inf, "be positive and finite", width)
@@ -123,10 +137,10 @@ def scales_of(name: str, floats: array[float], width: int | None = None) -> arra
 
 
 def component_weights_of(floats: array[float], width: int) -> array[int]:
-    """Weights of components in units of 2^-31, of which each symbol has a row of this width.
+    """Returns the weights of components in units of 2^-31. Each symbol has a row of ``width`` weights.
 
-    Raises ValueError of what isn't finite or is negative, and WrongWeightsError of a weight from 2 on, or of a row
-    without components. What else rows add up to is the C functions' own matter.
+    Raises ValueError if a weight is negative or not finite, and WrongWeightsError if a weight is at least 2, or if
+    ``width`` is 0. The C functions check the sums of the rows.
     """
     ends = _ends(floats)
     if not ends[0] >= 0:
@@ -137,7 +151,7 @@ def component_weights_of(floats: array[float], width: int) -> array[int]:
 
 
 def wrong_row(floats: Any, width: int) -> WrongWeightsError:
-    """The error of the first row of weights that adds up to nothing, or to too much, or of rows of none."""
+    """Returns the exception for the first row of weights whose sum is 0 or too large, or for rows of width 0."""
     if not width:
         return WrongWeightsError("a mixture has at least one component, and rows of none were handed in")
     for start in range(0, len(floats), width):
@@ -152,7 +166,10 @@ def wrong_row(floats: Any, width: int) -> WrongWeightsError:
 
 
 def parts_of(probabilities: array[float]) -> array[int]:
-    """Probabilities in parts of 2^-24, from 1 to 2^24 - 1. Raises ValueError of what doesn't lie between 0 and 1."""
+    """Returns probabilities in units of 2^-24, from 1 to 2^24 - 1.
+
+    Raises ValueError if a probability isn't between 0 and 1.
+    """
     ends = _ends(probabilities)
     if not (ends[0] >= 0 and ends[1] <= 1):
         raise _fault("probability", probabilities, lambda it: 0 <= it <= 1, "lie between 0 and 1")
@@ -160,10 +177,10 @@ def parts_of(probabilities: array[float]) -> array[int]:
 
 
 def counts_of(probabilities: Any) -> array[int]:
-    """Counts in proportion to probabilities, each 1 at least: floats as an array, of numpy too.
+    """Returns counts in proportion to probabilities. Each count is at least 1.
 
-    A probability is rounded to a whole multiple of 2^-62 times the power of two above the greatest one. Raises
-    ValueError where there is none above 0, or one that is negative or not finite.
+    The probabilities are an array of floats or a numpy array. Each is rounded to a multiple of 2^-62 times the power of
+    two above the greatest one. Raises ValueError if none is above 0, or if one is negative or not finite.
     """
     least, greatest = _ends(probabilities)
     if not least >= 0:
@@ -182,7 +199,10 @@ def counts_of(probabilities: Any) -> array[int]:
 
 
 def counts_of_rows(table: Any) -> array[int] | None:
-    """The counts of each row of an array of numpy, one behind another; None where a row has no such counts."""
+    """Returns the counts of each row of a numpy array, one row after another.
+
+    Returns None if a row has no such counts.
+    """
     numpy = numpy_module()
     rows = table.astype("float64")
     greatest = rows.max(axis=1)
@@ -196,7 +216,7 @@ def counts_of_rows(table: Any) -> array[int] | None:
 
 
 def _counts_of_table(table: Any) -> array[int] | None:
-    """What ``counts_of_wholes`` makes, of an array of numpy; None where there is a fault."""
+    """Does the same as ``counts_of_wholes`` for a numpy array. Returns None if the counts are invalid."""
     numpy = numpy_module()
     if not table.size or int(table.min()) < 0:
         return None
@@ -212,10 +232,10 @@ def _counts_of_table(table: Any) -> array[int] | None:
 
 
 def counts_of_wholes(counts: Any) -> array[int]:
-    """Counts as they are, but that 0 counts as the least share that there is, and that from 2^64 on the greatest
-    gets 62 bits.
+    """Returns counts in the same proportions, with at most 64 bits each.
 
-    They come as a list or as an array of numpy. Raises ValueError where there is none above 0, or one that is negative.
+    A count of 0 becomes the least count, 1. If a count is at least 2^64, all counts are rounded, so that the greatest
+    has 62 bits. ``counts`` is a list or a numpy array. Raises ValueError if none is above 0, or if one is negative.
     """
     if not isinstance(counts, list):
         return _counts_of_table(counts) or counts_of_wholes(counts.tolist())
@@ -233,7 +253,7 @@ def counts_of_wholes(counts: Any) -> array[int]:
 
 
 def _halved(count: int, times: int) -> int:
-    """A whole number less so many bits, to the nearest, and from the middle to the even one."""
+    """Returns ``count / 2^times``, rounded to the nearest whole number, half to even."""
     quotient, rest = count >> times, count & (1 << times) - 1
     middle = 1 << times - 1
     return quotient + (rest > middle or rest == middle and quotient & 1)

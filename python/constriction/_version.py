@@ -1,4 +1,7 @@
-"""The version of this project, from which all others are taken: the package, ``constriction.pc``, the archive's
-name. That of the C header and of ``constriction_version()`` is the same, which a test sees."""
+"""The version of this project.
+
+The package, ``constriction.pc`` and the archive's name take the version from this file. A test checks that the C header
+and ``constriction_version()`` have the same version.
+"""
 
 VERSION = "0.5.0"

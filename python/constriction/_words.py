@@ -12,16 +12,19 @@ __all__ = ["Words", "copied", "packed", "unpacked"]
 
 
 class Words(NamedTuple):
-    """The first so many words of a buffer. The last one in use is the top. What lies behind them may be anything.
+    """The first ``length`` words of a buffer. The last of them is the top. The other words have no meaning.
 
-    A longer list of words may lie in the same buffer; it is a coder's lock that lets only one of them be in use.
+    A longer list of words may be in the same buffer. A coder's lock makes sure that only one list is used at a time.
     """
 
     memory: Numbers
     length: int
 
     def reserve(self, more: int) -> Words:
-        """The same words with room for so many more: themselves where there is room, else a copy."""
+        """Returns the same words, with room for ``more`` more words.
+
+        The words are copied only if the buffer has too little room.
+        """
         wanted, capacity = self.length + more, len(self.memory)
         if wanted <= capacity:
             return self
@@ -30,22 +33,22 @@ class Words(NamedTuple):
         return Words(memory, self.length)
 
     def lent(self) -> tuple[Any, int]:
-        """The buffer as C functions take it."""
+        """Returns the buffer as arguments of a C function."""
         return lent(self.memory), len(self.memory)
 
     def numbers(self) -> Numbers:
-        """A copy of the words in use."""
+        """Returns a copy of the words in use."""
         copy = room(WORD, self.length)
         memoryview(copy)[:] = memoryview(self.memory)[: self.length]
         return copy
 
     def clone(self) -> Words:
-        """A copy in a buffer of its own."""
+        """Returns a copy in a buffer of its own."""
         return Words(self.numbers(), self.length)
 
 
 def copied(given: List = ()) -> Words:
-    """A copy of these words."""
+    """Returns a copy of these words."""
     memory = words_of(given)
     copy = room(WORD, max(len(memory), 4))
     memoryview(copy)[: len(memory)] = memoryview(memory)
@@ -53,19 +56,19 @@ def copied(given: List = ()) -> Words:
 
 
 def packed(numbers: Words) -> bytes:
-    """Words as bytes, for pickles: the lowest first, on each machine."""
+    """Returns the words as bytes for pickles. The lowest byte comes first on every machine."""
     return swapped(numbers.numbers()).tobytes()
 
 
 def unpacked(data: bytes) -> Words:
-    """The converse."""
+    """Returns the words from bytes. This is the inverse of ``packed``."""
     memory = room(WORD, 0)
     memory.frombytes(data)
     return Words(swapped(memory), len(memory))
 
 
 def swapped(numbers: Numbers) -> Numbers:
-    """These words with the lowest byte first; the converse of itself."""
+    """Returns these words with the lowest byte first. The function is its own inverse."""
     if sys.byteorder == "big":
         numbers.byteswap()
     return numbers

@@ -1,6 +1,6 @@
-"""What is raised where a call is refused. The coder is as before then.
+"""The exceptions that calls raise if they refuse their arguments. The coder is then unchanged.
 
-Want of memory raises the built-in :class:`MemoryError`.
+If there is no memory, a call raises the built-in :class:`MemoryError`.
 """
 
 from __future__ import annotations
@@ -18,40 +18,41 @@ __all__ = [
 
 
 class Refusal(ValueError):
-    """A call was refused, and nothing changed. Each reason is a class below this one."""
+    """A call refused its arguments, and changed nothing. Each subclass is one reason."""
 
 
 class ImpossibleSymbolError(Refusal, KeyError):
-    """A model doesn't know its symbol. It is also a :class:`KeyError`, as in the Rust crate's package.
+    """A model has no entry for a symbol. This class is also a :class:`KeyError`, as in the Rust crate's package.
 
-    ``symbol`` is the first such symbol, and ``place`` where in the list it stands; of a single symbol that is None.
+    ``symbol`` is the first such symbol, and ``place`` is the symbol's index in the list. For a single symbol ``place``
+    is None.
     """
 
     symbol: int | None = None
     place: int | None = None
 
     def __str__(self) -> str:
-        return Exception.__str__(self)  # That of KeyError would put the text in quotes.
+        return Exception.__str__(self)  # KeyError.__str__ would put the text in quotes.
 
 
 class WrongWeightsError(Refusal):
-    """Weights don't add up to 2^24; or a Huffman tree's are none, or add up to too much."""
+    """Weights don't add up to 2^24, or a Huffman tree has no weights, or the sum of its weights is too large."""
 
 
 class WrongIntervalError(Refusal):
-    """An interval is empty, or ends past 2^24."""
+    """An interval is empty or ends past 2^24."""
 
 
 class WrongLengthError(Refusal):
-    """A length or a position is past the end, or two lists don't have the lengths that fit each other."""
+    """A length or a position is past the end, or the lengths of two lists don't match."""
 
 
 class NoSpaceError(Refusal):
-    """A buffer is too short. This package makes its buffers long enough, so it is a fault of the package."""
+    """A buffer is too short. This package makes its buffers long enough, so this exception is a bug in the package."""
 
 
 class InvalidDataError(Refusal):
-    """The words, or the numbers of a state, are those of no coder."""
+    """No coder has the words or the numbers of the state, or the words don't encode the symbols."""
 
 
 class OutOfDataError(Refusal):
@@ -74,7 +75,7 @@ NO_SUCH_POSITION = "there is no such position"
 
 
 def impossible(symbol: int, place: int | None, first: int, count: int) -> ImpossibleSymbolError:
-    """The refusal of a symbol, of which the model has so many from the first one on."""
+    """Returns the exception for a symbol. The model has the ``count`` symbols from ``first`` upwards."""
     where = "" if place is None else f" at place {place}"
     if 0 <= symbol - first < count:
         text = f"{IMPOSSIBLE_SYMBOL} Its model gives symbol {symbol}{where} the weight 0."
@@ -98,6 +99,6 @@ _CLASSES: dict[int, tuple[type[Exception], str]] = {
 
 
 def refusal(code: int, texts: dict[int, str] | None = None) -> Exception:
-    """The exception of a result that isn't 0, with the call's own text where it has one."""
+    """Returns the exception for a result code that isn't 0. ``texts`` maps codes to the call's own texts."""
     kind, text = _CLASSES[code]
     return kind((texts or {}).get(code, text))

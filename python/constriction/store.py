@@ -1,4 +1,4 @@
-"""Chunks of symbols in the words of one range coder, each of which is read by itself.
+"""Stores: chunks of symbols in the words of one range encoder. Each chunk can be decoded alone.
 
 >>> from constriction.stream.model import Uniform
 >>> store = Store.build([[1, 0, 3], [], [2]], Uniform(4))
@@ -28,7 +28,7 @@ from .stream.queue import RangeEncoder
 
 __all__ = ["MOST_SYMBOLS", "Entry", "Store"]
 
-#: The most symbols that the chunks of a store have together.
+#: The greatest total number of symbols in the chunks of a store.
 MOST_SYMBOLS = 1 << 20
 
 TOO_MANY_SYMBOLS = "too many symbols"
@@ -36,13 +36,13 @@ NO_SUCH_CHUNK = "no such chunk"
 INVALID_CHUNK = "invalid chunk"
 BAD_INDEX = "bad index"
 
-#: How many words a decoder reads before its first symbol.
+#: The number of words that a decoder reads before its first symbol.
 _WORDS_OF_A_STATE = 2
 _STATES = 1 << 64
 
 
 class Entry(NamedTuple):
-    """Where a chunk begins, as a position of the range coder, and how many symbols it has."""
+    """The entry of a chunk: the range encoder's position where the chunk begins, and the number of symbols."""
 
     position: int
     state: tuple[int, int]
@@ -59,7 +59,7 @@ _BYTES, _WORDS = frozenset(("B", "b", "c")), frozenset(("I", "L", "=I", "<I" if 
 
 
 def _as_bytes(words: Any) -> memoryview:
-    """The buffer of words, byte by byte and without a copy."""
+    """Returns the buffer of words as bytes, without a copy."""
     view = memoryview(words)
     if view.ndim != 1 or view.format not in (_BYTES if view.itemsize == 1 else _WORDS if view.itemsize == 4 else ()):
         raise TypeError(
@@ -70,14 +70,15 @@ def _as_bytes(words: Any) -> memoryview:
 
 
 class Store:
-    """Chunks under one model. Its words may lie in any buffer: an ``array.array('I')``, a numpy array of ``uint32``,
-    or their bytes, the lowest of each word first, in ``bytes`` or a file that was mapped by ``mmap``. Of these a
-    look-up reads those of its chunk alone, which it copies; none is looked at before. The buffer must not change as
-    long as the store is used.
+    """Chunks of symbols that were encoded with one model.
+
+    The words may be in any buffer: an ``array.array('I')``, a numpy array of ``uint32``, or bytes with the lowest byte
+    of each word first, for example a file that ``mmap`` maps. Decoding a chunk copies at most one word for each symbol
+    of the chunk, and two more, and reads no other words. The buffer must not change while the store is in use.
     """
 
     def __init__(self, words: Any, index: Iterable[Sequence[Any]], model: Model) -> None:
-        """As :meth:`from_parts`."""
+        """Creates a store from its parts. See :meth:`from_parts`."""
         if model.missing:
             raise TypeError("a model without missing parameters is wanted")
         self._words, self._index, self._model = words, [_entry(it) for it in index], model
@@ -90,11 +91,12 @@ class Store:
 
     @classmethod
     def build(cls, chunks: Iterable[List], model: Model) -> Store:
-        """A store of these chunks: one range coder takes them in order, and its words are sealed so that any may
-        follow them.
+        """Builds a store: encodes the chunks in order with one range encoder.
 
-        Raises :class:`ImpossibleSymbolError`, and :class:`WrongLengthError` where the chunks have more than
-        ``MOST_SYMBOLS`` symbols together.
+        The seal of the words is self-delimiting, so other words may follow.
+
+        Raises :class:`ImpossibleSymbolError` if the model has no entry for a symbol, and :class:`WrongLengthError` if
+        the chunks have more than ``MOST_SYMBOLS`` symbols in total.
         """
         encoder, index, left = RangeEncoder(), [], MOST_SYMBOLS
         for chunk in chunks:
@@ -109,11 +111,10 @@ class Store:
 
     @classmethod
     def from_parts(cls, words: Any, index: Iterable[Sequence[Any]], model: Model) -> Store:
-        """The store of these words and this index, such as ``words`` and ``index`` of a store are. The words are not
-        copied.
+        """Creates a store from its parts: ``words`` and ``index`` of a store. The words are not copied.
 
-        Raises :class:`WrongLengthError` where an entry begins past the words, or the chunks have more than
-        ``MOST_SYMBOLS`` symbols together.
+        Raises :class:`WrongLengthError` if an entry begins past the end of the words, or if the chunks have more than
+        ``MOST_SYMBOLS`` symbols in total.
         """
         return cls(words, index, model)
 
@@ -124,11 +125,11 @@ class Store:
 
     @property
     def index(self) -> list[Entry]:
-        """Where each chunk begins, and how many symbols it has."""
+        """A list of the entries of all chunks."""
         return list(self._index)
 
     def _words_from(self, place: int, count: int) -> array[Any]:
-        """A copy of so many words from a place on, or of all that there are."""
+        """Returns a copy of ``count`` words that begin at word ``place``, or of fewer words if the buffer ends."""
         copy = room(WORD, 0)
         with _as_bytes(self._words) as all_bytes:
             copy.frombytes(all_bytes[4 * place : 4 * (place + count)])
@@ -137,10 +138,10 @@ class Store:
         return copy
 
     def chunk(self, i: int) -> Any:
-        """The symbols of a chunk, of which 0 is the first.
+        """Decodes chunk number ``i``. The first chunk is number 0.
 
-        Raises :class:`IndexError` where there are fewer chunks, and :class:`InvalidDataError` where the words hold
-        no such symbols, which doesn't come in a store that was built.
+        Raises :class:`IndexError` if there is no such chunk, and :class:`InvalidDataError` if the words don't encode
+        the chunk's symbols. A store that :meth:`build` returned never raises :class:`InvalidDataError`.
         """
         place = whole(i)
         if not 0 <= place < len(self._index):
@@ -149,7 +150,7 @@ class Store:
         if not all(0 <= it < _STATES for it in entry.state):
             raise errors.InvalidDataError(INVALID_CHUNK)
         symbols = room(SYMBOL, entry.count)
-        # No symbol takes more than one word, so no others are read.
+        # Each symbol takes at most one word, so the decoder needs no other words.
         words = self._words_from(entry.position, entry.count + _WORDS_OF_A_STATE)
         weights, decoder, texts = self._model.table(), RangeDecoderState(), {7: INVALID_CHUNK}
         call("range_seek", byref(decoder), lent(words), len(words), 0, *entry.state, texts=texts)
@@ -164,7 +165,7 @@ class Store:
         return len(self._index)
 
     def __getitem__(self, i: Any) -> Any:
-        """A chunk, from the last one on by a negative number; or a list of chunks by a slice."""
+        """Decodes one chunk, or the chunks of a slice. A negative number counts from the last chunk."""
         if isinstance(i, slice):
             return [self.chunk(k) for k in range(*i.indices(len(self)))]
         place = whole_index(i)

@@ -32,7 +32,7 @@ fn write_stack(alloc: Global, bits: &[bool]) -> Option<Vec<u32>> {
     coder.into_compressed().ok()
 }
 
-/// Fills `bits` with the bits of a queue, in order. Returns `false` if `words` hold too few bits.
+/// Fills `bits` with the first bits of a queue, in order. Returns `false` if the queue has fewer bits than `bits`.
 #[inline(never)]
 fn read_queue(words: Vec<u32>, bits: &mut [bool]) -> bool {
     let mut decoder = DefaultQueueDecoder::from_compressed(Cursor::new_at_write_beginning(words));
@@ -45,9 +45,9 @@ fn read_queue(words: Vec<u32>, bits: &mut [bool]) -> bool {
     true
 }
 
-/// Fills `bits` with the bits of a stack. The bit that was written last comes first.
+/// Fills `bits` with the top bits of a stack. The bit that was written last comes first.
 ///
-/// Returns `false` if `words` hold too few bits, or if the last word is 0.
+/// Returns `false` if the stack has fewer bits than `bits`, or if the last word is 0.
 #[inline(never)]
 fn read_stack(words: Vec<u32>, bits: &mut [bool]) -> bool {
     let Ok(mut coder) = DefaultStackCoder::from_compressed(words) else {
@@ -94,7 +94,7 @@ pub extern "C" fn constriction_bench_bits_write_stack(
     give_out(write_stack(alloc, bits), out)
 }
 
-/// Fills `bits` with the first bits of a queue, given as `words`. Returns `false` after a failure.
+/// Fills `bits` with the first bits of the queue that `words` holds. Returns `false` after a failure.
 #[unsafe(no_mangle)]
 pub extern "C" fn constriction_bench_bits_read_queue(
     alloc: Global,
@@ -107,7 +107,7 @@ pub extern "C" fn constriction_bench_bits_read_queue(
     }
 }
 
-/// Fills `bits` with the top bits of a stack, given as `words`. The bit that was written last comes first.
+/// Fills `bits` with the top bits of the stack that `words` holds. The bit that was written last comes first.
 ///
 /// Returns `false` after a failure, for example if the stack has fewer bits than `bits`.
 #[unsafe(no_mangle)]

@@ -12,7 +12,7 @@ use constriction_words::BitArray;
 use std::alloc::Global;
 use std::num::NonZero;
 
-/// A table of weights at a precision of 24 bits, with a list that shortens the search for a quantile.
+/// A table of weights at a precision of 24 bits, with a list that shortens the search for a quantile's symbol.
 ///
 /// The quantiles are divided into 4096 parts of equal length. The list has the symbol of each part's first quantile. A
 /// decode searches upward from this symbol. All weights are above 0, and all listed symbols are below 256.
@@ -29,7 +29,7 @@ pub struct BucketTable {
 }
 
 impl BucketTable {
-    /// Makes the table of `weights`.
+    /// Creates the table of `weights`.
     ///
     /// Returns `None` if a weight is 0, if the weights don't add up to `2^24`, if a symbol to list is above 255, or if
     /// there is no memory.
@@ -54,9 +54,9 @@ impl BucketTable {
     }
 }
 
-/// Returns the symbol of the first quantile of the part with the number `part`.
+/// Returns the symbol of the first quantile of part number `part`.
 ///
-/// Returns `None` if the symbol isn't below `count` and below 256, or if its start in `starts` is above this quantile.
+/// Returns `None` if the symbol is at least `count` or above 255, or if its start in `starts` is above this quantile.
 fn first_of(table: &WeightTable<u32, 24>, starts: &[u32], count: usize, part: u32) -> Option<u8>
     requires starts { length starts.now ≡ count + 1 }
     requires part { part < 4096 }
@@ -73,7 +73,7 @@ fn first_of(table: &WeightTable<u32, 24>, starts: &[u32], count: usize, part: u3
     Some(symbol as u8)
 }
 
-/// Returns the symbol of the first quantile of each part.
+/// Returns the list of the symbols of the parts' first quantiles.
 ///
 /// Returns `None` if [`first_of`] returns `None` for a part, or if there is no memory.
 fn firsts_of(

@@ -37,7 +37,7 @@ where
     true
 }
 
-/// Encodes symbols from the last to the first on `coder`. Returns `false` if an encode fails.
+/// Encodes symbols from the last to the first with `coder`. Returns `false` if an encode fails.
 #[inline(always)]
 pub fn encode_each<
     Word: WordOf<State>,

@@ -11,7 +11,7 @@ use constriction_symbol::reading::ReadBitStream;
 use constriction_symbol::writing::WriteBitStream;
 use std::alloc::Global;
 
-/// Encodes symbols in order to a new queue of bits, and returns the queue's words.
+/// Encodes symbols in order onto a new queue of bits, and returns the queue's words.
 ///
 /// Returns `None` if a symbol has no codeword, or if there is no memory.
 #[inline(never)]
@@ -29,7 +29,7 @@ fn encode_queue<C: EncoderCodebook>(
     coder.into_compressed().ok()
 }
 
-/// Encodes symbols from the last to the first to a new stack of bits, and returns the stack's words.
+/// Encodes symbols from the last to the first onto a new stack of bits, and returns the stack's words.
 ///
 /// Returns `None` if a symbol has no codeword, or if there is no memory.
 #[inline(never)]
@@ -96,7 +96,7 @@ where
     true
 }
 
-/// Encodes numbers to a queue of bits, from first to last, with Exp-Golomb codewords.
+/// Encodes numbers in order onto a queue of bits, with Exp-Golomb codewords.
 ///
 /// Copies the words to `out`, as many as fit. Returns the total number of words, or 0 after a failure.
 #[unsafe(no_mangle)]
@@ -108,7 +108,7 @@ pub extern "C" fn constriction_bench_golomb_encode_queue(
     give_out(encode_queue(alloc, numbers, &ExpGolomb::<u32>::new()), out)
 }
 
-/// Encodes numbers to a stack of bits, from last to first, with Exp-Golomb codewords.
+/// Encodes numbers from the last to the first onto a stack of bits, with Exp-Golomb codewords.
 ///
 /// Copies the words to `out`, as many as fit. Returns the total number of words, or 0 after a failure.
 #[unsafe(no_mangle)]
@@ -150,7 +150,7 @@ pub extern "C" fn constriction_bench_golomb_decode_stack(
     }
 }
 
-/// Encodes symbols to a queue of bits, from first to last, with the Huffman tree of `weights`.
+/// Encodes symbols in order onto a queue of bits, with the Huffman tree of `weights`.
 ///
 /// Copies the words to `out`, as many as fit. Returns the total number of words, or 0 after a failure.
 #[unsafe(no_mangle)]
@@ -166,7 +166,7 @@ pub extern "C" fn constriction_bench_huffman_encode_queue(
     }
 }
 
-/// Encodes symbols to a stack of bits, from last to first, with the Huffman tree of `weights`.
+/// Encodes symbols from the last to the first onto a stack of bits, with the Huffman tree of `weights`.
 ///
 /// Copies the words to `out`, as many as fit. Returns the total number of words, or 0 after a failure.
 #[unsafe(no_mangle)]
@@ -182,7 +182,7 @@ pub extern "C" fn constriction_bench_huffman_encode_stack(
     }
 }
 
-/// Returns the decoder's Huffman tree of `weights` and a copy of `words`.
+/// Builds the Huffman tree of `weights` for decoding. Returns the tree and a copy of `words`.
 ///
 /// Returns `None` if the weights make no tree, or if there is no memory.
 fn tree_and_words(
@@ -231,7 +231,7 @@ pub extern "C" fn constriction_bench_huffman_decode_stack(
     }
 }
 
-/// Makes the encoder's Huffman tree of `weights`. Returns the number of its symbols, or 0 after a failure.
+/// Builds the Huffman tree of `weights` for encoding. Returns the tree's number of symbols, or 0 after a failure.
 #[unsafe(no_mangle)]
 pub extern "C" fn constriction_bench_huffman_make_encoder(alloc: Global, weights: &[u32]) -> usize {
     match EncoderHuffmanTree::from_probabilities(alloc, weights) {
@@ -240,7 +240,7 @@ pub extern "C" fn constriction_bench_huffman_make_encoder(alloc: Global, weights
     }
 }
 
-/// Makes the decoder's Huffman tree of `weights`. Returns the number of its symbols, or 0 after a failure.
+/// Builds the Huffman tree of `weights` for decoding. Returns the tree's number of symbols, or 0 after a failure.
 #[unsafe(no_mangle)]
 pub extern "C" fn constriction_bench_huffman_make_decoder(alloc: Global, weights: &[u32]) -> usize {
     match DecoderHuffmanTree::from_probabilities(alloc, weights) {

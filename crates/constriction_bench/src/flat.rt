@@ -24,7 +24,7 @@ pub struct Flat<Probability: WordOf<u32>, const PRECISION: usize> {
 }
 
 impl<Probability: WordOf<u32>, const PRECISION: usize> Flat<Probability, PRECISION> {
-    /// Makes the model of `2^bits` symbols. Returns `None` if `bits` is 0, above 31 or above `PRECISION`.
+    /// Creates the model of `2^bits` symbols. Returns `None` if `bits` is 0, above 31 or above `PRECISION`.
     pub fn new(bits: u32) -> Option<Self>
         requires { (1 ≤ PRECISION) × (PRECISION ≤ Probability.BITS) }
         ensures some { IfSome result

@@ -27,7 +27,7 @@ pub struct LookupTable {
 }
 
 impl LookupTable {
-    /// Makes the table of `weights`.
+    /// Creates the table of `weights`.
     ///
     /// Returns `None` if a weight is 0, if the weights don't add up to `2^12`, if there are more than 256 weights, or
     /// if there is no memory.
@@ -51,7 +51,7 @@ impl LookupTable {
 
 /// Returns the symbol of `quantile`.
 ///
-/// Returns `None` if the symbol isn't below `count` and below 256, or if `quantile` lies outside the symbol's interval
+/// Returns `None` if the symbol is at least `count` or above 255, or if `quantile` lies outside the symbol's interval
 /// according to `starts`.
 fn symbol_at(
     table: &WeightTable<u16, 12>,
@@ -73,7 +73,7 @@ fn symbol_at(
     Some(symbol as u8)
 }
 
-/// Returns the symbol of each quantile.
+/// Returns the list of the symbols of all 4096 quantiles.
 ///
 /// Returns `None` if [`symbol_at`] returns `None` for a quantile, or if there is no memory.
 fn symbols_of(

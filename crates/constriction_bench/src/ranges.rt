@@ -14,7 +14,7 @@ use constriction_stream::encoding::Encode;
 use constriction_words::{BitArray, WordOf};
 use std::alloc::Global;
 
-/// Encodes symbols in order on a new encoder, and returns the words that the encoder exports.
+/// Encodes symbols in order with a new encoder, and returns the words that the encoder exports.
 ///
 /// Returns `None` if the model has no entry for a symbol, or if there is no memory.
 #[inline(never)]
@@ -65,7 +65,7 @@ where
 
 /// Encodes symbols as [`encode_range`] does, and copies the words to `out`, as many as fit.
 ///
-/// Returns how many words there are, or 0 if [`encode_range`] returns `None`.
+/// Returns the total number of words, or 0 if [`encode_range`] returns `None`.
 pub fn encode_range_out<
     Word: WordOf<State>,
     State: BitArray,

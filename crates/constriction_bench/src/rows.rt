@@ -5,9 +5,9 @@ use constriction_base::weights::WeightTable;
 use constriction_models::lookup::ContiguousLookupDecoderModel;
 use std::alloc::Global;
 
-/// Fills `symbols` with symbols decoded from `words` on a stack coder, with the library's lookup model of `weights`.
+/// Fills `symbols` with symbols that a stack coder decodes from `words`. Returns `false` after a failure.
 ///
-/// Returns `false` after a failure.
+/// The model is the library's lookup model of `weights`, [`ContiguousLookupDecoderModel`].
 #[unsafe(no_mangle)]
 pub extern "C" fn constriction_bench_ans_decode_u16u32p12_rows(
     alloc: Global,

@@ -11,7 +11,7 @@ use constriction_stream::encoding::Encode;
 use constriction_words::{BitArray, WordOf};
 use std::alloc::Global;
 
-/// Encodes symbols from the last to the first on a new coder, and returns the words that the coder exports.
+/// Encodes symbols from the last to the first onto a new coder, and returns the words that the coder exports.
 ///
 /// Returns `None` if the model has no entry for a symbol, or if there is no memory.
 #[inline(never)]
@@ -77,7 +77,7 @@ pub fn reload_all<Word: WordOf<State>, State: BitArray>(words: Vec<Word>) -> Opt
 
 /// Encodes symbols as [`encode_all`] does, and copies the words to `out`, as many as fit.
 ///
-/// Returns how many words there are, or 0 if [`encode_all`] returns `None`.
+/// Returns the total number of words, or 0 if [`encode_all`] returns `None`.
 pub fn encode_out<
     Word: WordOf<State>,
     State: BitArray,
@@ -115,7 +115,7 @@ where
 
 /// Imports a copy of `words` into a coder, exports the words again, and copies them to `out`, as many as fit.
 ///
-/// Returns how many words there are, or 0 if the last word is 0 or there is no memory.
+/// Returns the total number of words, or 0 if the last word is 0 or there is no memory.
 pub fn reload_out<Word: WordOf<State>, State: BitArray>(
     alloc: Global,
     words: &[Word],

@@ -1,4 +1,4 @@
-//! The starts of the intervals of a model's symbols, as a list.
+//! Listing the starts of the intervals of a model's symbols.
 
 ghost use Rattle.std.specs.Prelude.{◌-◌, ◌<◌, IfSome};
 ghost use Rattle.constriction_bench.specs.Starts.{AreStarts};
@@ -7,7 +7,7 @@ use constriction_base::model::{EncoderModel, EntropyModel};
 use constriction_words::{BitArray, WordOf};
 use std::alloc::Global;
 
-/// Returns the starts of the intervals of the symbols below `count`, and then the end of the last of these intervals.
+/// Returns the first quantile of each symbol below `count`, and then the end of the last symbol's interval.
 ///
 /// Returns `None` if one of these symbols has no entry in `model`, if an interval doesn't begin where the previous
 /// symbol's interval ends, or if there is no memory.

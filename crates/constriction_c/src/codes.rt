@@ -1,7 +1,7 @@
 //! The code that a C function returns for the result of its call.
 //!
-//! The contract of a C function has each clause of its call's contract. `answer_by_code` turns the returned code into
-//! the result that these clauses describe.
+//! The contract of a C function contains each clause of its call's contract. `answer_by_code` converts the returned
+//! code to the result that these clauses describe.
 
 ghost use Rattle.std.specs.Prelude.{◌≡◌, ℕ, Err};
 ghost use Rattle.constriction_inputs.specs.declared.refusal.Refusal.TheVariants.{NoSpace};
@@ -13,7 +13,7 @@ use constriction_inputs::refusal::Refusal;
 ///
 /// The errors `ImpossibleSymbol`, `WrongWeights`, `WrongInterval`, `WrongLength`, `NoSpace`, `NoMemory`, `InvalidData`
 /// and `OutOfData` have the codes 1 to 8, in this order. For `NoSpace(count)` this function also sets `needed` to
-/// `count`, the number of words that the buffer has to hold. Otherwise it leaves `needed` unchanged.
+/// `count`, the number of words that the buffer has to hold. For any other result it leaves `needed` unchanged.
 #[inline]
 pub fn code_of(answer: Result<(), Refusal>, needed: &mut usize) -> u32
     ensures code { answer_by_code result needed.new ≡ answer }

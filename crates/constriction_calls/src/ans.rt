@@ -15,11 +15,11 @@
 //!   lengths of `lefts` and `ps` differ, or an index of the weights doesn't fit the type of the decoded symbols.
 //! - `WrongInterval`: an interval is empty or ends past `2 ^ PRECISION`, or a family's range has fewer than two symbols
 //!   or more than `2 ^ PRECISION` symbols.
-//! - `WrongWeights`: the caller's weights or distributions make no models. The variant
+//! - `WrongWeights`: the caller's weights or distributions are invalid. The variant
 //!   [`constriction_inputs::refusal::Refusal::WrongWeights`] lists the cases.
-//! - `InvalidData`: no state exports the words to import, or the head to export has no binary form.
+//! - `InvalidData`: the last of the words to import is 0, or the state to export has no binary form.
 //! - `ImpossibleSymbol`: a model has no entry for its symbol.
-//! - `NoSpace(needed)`: the buffer is too short. `needed` is the number of words that it has to hold.
+//! - `NoSpace(needed)`: the buffer is too short. `needed` is the number of words that the buffer has to hold.
 //! - `NoMemory`: there is no memory. The call may return `NoMemory` in place of `NoSpace`.
 //!
 //! # Examples

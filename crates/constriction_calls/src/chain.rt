@@ -1,7 +1,7 @@
 //! The chain coder over a caller's buffers.
 //!
 //! The caller keeps the coder: two heads, a buffer of compressed words, and a buffer of remainders. The first words of
-//! each buffer are in use, and the last of them is the top word. The caller passes the number of words in use of each
+//! each buffer are in use, and the last of them is the top word. The caller passes the number of words in use for each
 //! buffer. A decode reads compressed words and writes remainders. An encode reads remainders and writes compressed
 //! words. The remainders hold the part of each quantile that the decoded symbol doesn't determine.
 //!
@@ -12,12 +12,13 @@
 //!
 //! - `WrongLength`: a number of words in use is past its buffer's end, the arguments of the models don't match the
 //!   number of symbols, or an index of the weights doesn't fit the type of the decoded symbols.
-//! - `WrongInterval`, `WrongWeights`: the arguments make no models. [`constriction_inputs::models`] describes these
-//!   cases.
-//! - `InvalidData`: no coder has these heads.
+//! - `WrongInterval`, `WrongWeights`: the arguments of the models are invalid. [`constriction_inputs::models`]
+//!   describes these cases.
+//! - `InvalidData`: the caller's heads aren't the heads of any coder.
 //! - `ImpossibleSymbol`: a model has no entry for its symbol.
 //! - `OutOfData`: the coder needs a word from the buffer that it reads, and no word is left there.
-//! - `NoSpace(needed)`: the buffer to write to is too short. `needed` is the number of words that it has to hold.
+//! - `NoSpace(needed)`: the buffer to write to is too short. `needed` is the number of words that this buffer has to
+//!   hold.
 //! - `NoMemory`: there is no memory.
 
 mod decoding;

@@ -1,4 +1,4 @@
-//! Symbols of a type narrower than `usize`, such as bytes, and lists of their numbers as `usize`.
+//! Conversions between symbols of a narrow type, such as bytes, and numbers of type `usize`.
 
 ghost use Rattle.std.specs.Prelude.{◌≡◌, ◌↔◌, ◌≤◌, ◌%◌, ◌^◌, length, map, IfSome, IsTrue};
 ghost use Rattle.constriction_base.specs.Models.{AreKnown, items_of};
@@ -8,7 +8,7 @@ use constriction_inputs::known::is_known;
 use constriction_words::{BitArray, WordOf};
 use std::alloc::Global;
 
-/// Returns the numbers of `symbols`, or `None` if there is no memory for them.
+/// Converts each symbol to `usize`. Returns `None` if there is no memory for the list.
 pub(crate) fn widened<S: WordOf<usize>>(alloc: Global, symbols: &[S]) -> Option<Vec<usize>>
     ensures { IfSome result (λ wide. wide.items ≡ map S.number symbols.now) }
 {
@@ -21,7 +21,7 @@ pub(crate) fn widened<S: WordOf<usize>>(alloc: Global, symbols: &[S]) -> Option<
     Some(wide)
 }
 
-/// Sets each symbol to the lowest bits of the number at the same index of `wide`.
+/// Sets each symbol to the lowest `S::BITS` bits of the number at the same index of `wide`.
 ///
 /// The caller proves that both lists have the same length.
 pub(crate) fn narrow_into<S: WordOf<usize>>(wide: &[usize], symbols: &mut [S])
@@ -33,7 +33,7 @@ pub(crate) fn narrow_into<S: WordOf<usize>>(wide: &[usize], symbols: &mut [S])
     }
 }
 
-/// Returns whether each symbol is an index of `weights` with a weight above 0. The call needs no memory.
+/// Returns whether each symbol has a weight above 0 in `weights`. The call needs no memory.
 pub(crate) fn are_known<P: BitArray, S: WordOf<usize>, const PRECISION: usize>(
     weights: &[P],
     symbols: &[S],
@@ -49,7 +49,7 @@ pub(crate) fn are_known<P: BitArray, S: WordOf<usize>, const PRECISION: usize>(
     true
 }
 
-/// Returns whether the type of the symbols has a number for each of `count` indexes.
+/// Returns whether all numbers below `count` fit the symbol type `S`.
 pub(crate) fn has_numbers<S: WordOf<usize>>(count: usize) -> bool
     ensures { IsTrue result ↔ (count ≤ 2 ^ S.BITS) }
 {

@@ -1,7 +1,7 @@
 //! The range coder over a caller's buffers.
 //!
 //! The caller keeps an encoder or a decoder as a few numbers, and a buffer of words. The first `len` words of an
-//! encoder's buffer are the words that it wrote, in the order of writing. A decoder reads a whole buffer.
+//! encoder's buffer are the words that it wrote, in the order of writing. All words of a decoder's buffer are in use.
 //!
 //! - [`encoding`]: encoding symbols.
 //! - [`decoding`]: decoding symbols.
@@ -13,11 +13,11 @@
 //!
 //! A call that fails changes nothing. Each call first checks for these errors, in this order:
 //!
-//! - `WrongLength` exactly if `len`, or the decoder's position, is past the buffer's end, or if an index of
-//!   the weights doesn't fit the type of the decoded symbols.
-//! - `WrongLength`, `WrongInterval` or `WrongWeights` exactly if the call takes models, and
+//! - `WrongLength` if and only if `len` or the decoder's position is past the buffer's end, or an index of the weights
+//!   doesn't fit the type of the decoded symbols.
+//! - `WrongLength`, `WrongInterval` or `WrongWeights` if and only if the call takes models, and
 //!   [`constriction_inputs::models::Models::check`] returns the error.
-//! - `InvalidData` exactly if no encoder or decoder has the numbers that the caller passes for it, or if the number of
+//! - `InvalidData` if and only if no encoder or decoder has the numbers that the caller passes for it, or the number of
 //!   held words plus the number of symbols to encode is above `2^64 - 18`.
 //!
 //! The errors that a call itself documents come after these.

@@ -1,4 +1,4 @@
-//! Encoding lists of symbols with codebooks, and decoding them, over a caller's buffers.
+//! Encoding and decoding lists of symbols with codebooks, over a caller's buffers.
 //!
 //! A caller chooses the codebook with a value of a type that implements [`Codes`]. The types are `ExpGolomb` for
 //! numbers, and [`Tree`] for the Huffman tree of weights.
@@ -15,9 +15,9 @@
 //! - `WrongWeights`: the weights make no Huffman tree. There are no weights or too many, or their sum doesn't fit their
 //!   type.
 //! - `ImpossibleSymbol`: a symbol has no codeword.
-//! - `NoSpace(needed)`: the buffer is too short. `needed` is the number of words that it has to hold.
+//! - `NoSpace(needed)`: the buffer is too short. `needed` is the number of words that the buffer has to hold.
 //! - `OutOfData`: the words end before all symbols are decoded.
-//! - `InvalidData`: the next bits begin with no codeword, or the last word of a stack is 0.
+//! - `InvalidData`: the next bits don't begin with a codeword, or the last word of a stack is 0.
 //!
 //! If there is no memory, the call returns `NoMemory`, unless `WrongLength`, `WrongWeights` or `ImpossibleSymbol`
 //! applies.
@@ -44,15 +44,18 @@ pub use trees::Tree;
 /// A caller's choice of a codebook.
 ///
 /// An implementor defines the codewords (`book`). It proves that the codebooks for encoding and for decoding have these
-/// codewords. It also proves which error is returned if the weights make no tree, if a symbol has no codeword, or if
-/// there is no memory.
+/// codewords. It also proves which error its calls return if the weights make no tree, if a symbol has no codeword, or
+/// if there is no memory.
 pub trait Codes {
+    /// The type of the symbols.
     type Symbol: Copy + Drop;
 
+    /// The codebook for encoding.
     type Encoder: EncoderCodebook<Symbol = Self::Symbol>;
 
+    /// The codebook for decoding.
     type Decoder: DecoderCodebook<Symbol = Self::Symbol, InvalidCodeword = Self::Wrong>;
-    /// The error of the decoder's codebook for bits that begin with no codeword.
+    /// The error that `Decoder` returns for bits that don't begin with a codeword.
     type Wrong: Drop;
 
     /// Defines the codewords of numbers: by Exp-Golomb, or by the Huffman tree of weights.
@@ -61,23 +64,23 @@ pub trait Codes {
     /// Assigns a number to each symbol. The symbol's codeword is the codeword of that number in `book`.
     ghost number: { Self.Symbol → ℕ };
 
-    /// Makes the codebook for encoding. Returns `None` if the weights make no tree, or if there is no memory.
+    /// Creates the codebook for encoding. Returns `None` if the weights make no tree, or if there is no memory.
     fn encoder(&self, alloc: Global) -> Option<Self::Encoder>
         ensures tree { OnSome result (MakesCode (2 ^ 62 - 1) (book self.now)) }
         ensures codewords { IfSome result (λ made. (s : Self.Symbol) → Self.Encoder.codeword made s
             ≡ codeword_in number (book self.now) s) };
 
-    /// Returns why `symbols` weren't encoded: `WrongWeights`, `ImpossibleSymbol` or `NoMemory`, the first that applies.
+    /// Returns the reason why an encode of `symbols` failed. The call needs no memory.
     ///
-    /// The call needs no memory.
+    /// The reason is the first that applies of `WrongWeights`, `ImpossibleSymbol` and `NoMemory`.
     fn refused(&self, symbols: &[Self::Symbol]) -> Refusal
         ensures { PutsNone number (book self.now) symbols.now result };
 
-    /// Makes the codebook for decoding.
+    /// Creates the codebook for decoding.
     ///
     /// # Errors
     ///
-    /// - `WrongWeights` exactly if the weights make no tree.
+    /// - `WrongWeights` if and only if the weights make no tree.
     /// - `NoMemory` if there is no memory.
     fn decoder(&self, alloc: Global) -> Result<Self::Decoder, Refusal>
         ensures asks { Asks WrongWeights (MakesCode (2 ^ 63 - 1) (book self.now)) (Else Memory) result }

@@ -2,8 +2,8 @@
 
 - :mod:`~constriction.stream.stack`: ``AnsCoder``, last in first out.
 - :mod:`~constriction.stream.queue`: ``RangeEncoder`` and ``RangeDecoder``, first in first out.
-- :mod:`~constriction.stream.chain`: ``ChainCoder``, which reads each symbol from 24 bits of its own.
-- :mod:`~constriction.stream.model`: what symbols there are, and how likely each is.
+- :mod:`~constriction.stream.chain`: ``ChainCoder``, which decodes each symbol from 24 bits of its own.
+- :mod:`~constriction.stream.model`: models, which assign a probability to each symbol.
 """
 
 from . import chain, model, queue, stack

@@ -1,4 +1,4 @@
-"""The chain coder: each symbol is read from 24 bits of the data, whatever the models of the other symbols are."""
+"""The chain coder: decodes each symbol from 24 bits of the data, whatever the models of the other symbols are."""
 
 from __future__ import annotations
 
@@ -18,7 +18,7 @@ __all__ = ["ChainCoder"]
 
 
 class _State(NamedTuple):
-    """Two stacks of words, and a head above each: of the remainders and of the compressed words."""
+    """Two stacks of words, and the two heads: the remainders head and the compressed head."""
 
     compressed: Words
     remainders: Words
@@ -26,7 +26,7 @@ class _State(NamedTuple):
 
 
 class _Call:
-    """The arguments of a call that moves words between the two stacks, and the state behind it."""
+    """The arguments of a C call that moves words between the two stacks, and the state after the call."""
 
     def __init__(self, compressed: Words, remainders: Words, heads: tuple[int, int]) -> None:
         self._compressed, self._remainders, self._heads = compressed, remainders, ChainHeads(*heads)
@@ -44,7 +44,7 @@ class _Call:
 
 
 def _encode(kind: str, state: _State, count: int, arguments: tuple[Any, ...]) -> _State:
-    it = _Call(state.compressed.reserve(count), state.remainders, state.heads)  # A step moves one word at most.
+    it = _Call(state.compressed.reserve(count), state.remainders, state.heads)  # A step moves at most one word.
     texts = {8: errors.OUT_OF_REMAINDERS}
     call(f"chain_encode{kind}_reverse", *it.arguments(), *arguments, byref(it.needed), texts=texts)
     return it.state()
@@ -57,7 +57,10 @@ def _decode(kind: str, state: _State, count: int, arguments: tuple[Any, ...]) ->
 
 
 def _quantile(state: _State) -> int:
-    """Which of the 2^24 quantiles the next symbol's interval has: bits left over, or those of the next word."""
+    """Returns the quantile that selects the next symbol: 24 bits left over, or 24 bits of the next word.
+
+    Raises OutOfDataError if a word is needed and none is left.
+    """
     bits, words = state.heads[1], state.compressed
     if bits < 1 << 24:
         if not words.length:
@@ -76,7 +79,10 @@ class _Lane(Lane):
         super().__init__(lead, "chain_encode{}_reverse", "chain_decode{}", (byref(c_size_t()),))
 
     def load(self, state: _State) -> _State:
-        """Each step moves one word at most, by a decode to the remainders, by an encode back."""
+        """Writes a state to this memory, and returns the state.
+
+        Each stack gets room for one more word, because a decode or an encode moves at most one word.
+        """
         compressed, remainders = state.compressed.reserve(1), state.remainders.reserve(1)
         self._below.take(compressed.memory)
         self._above.take(remainders.memory)
@@ -100,8 +106,10 @@ class _Lane(Lane):
 
 
 class ChainCoder(Coder):
-    """Two stacks of words: a decode takes from ``compressed`` and puts what is left over on ``remainders``, an
-    encode the other way.
+    """A chain coder with words of 32 bits: two stacks of words, ``compressed`` and ``remainders``.
+
+    A decode takes words off ``compressed``, and puts the part of each quantile that the symbol doesn't determine on
+    ``remainders``. An encode is the inverse.
 
     >>> from constriction.stream.model import Uniform
     >>> coder = ChainCoder([0x11223344, 0x100])
@@ -113,11 +121,14 @@ class ChainCoder(Coder):
     """
 
     def __init__(self, data: List, is_remainders: bool = False, seal: bool = False) -> None:
-        """A coder over a copy of these words, the last of which isn't 0.
+        """Imports a coder from ``data``, a list of words. The coder copies the words.
 
-        With ``seal`` they may be any words, and ``get_data(unseal=True)`` gives them back. With ``is_remainders``
-        they are what ``get_remainders`` gave, its two lists put together, or the second one alone.
-        Raises :class:`InvalidDataError` where they are too few or end with a zero word.
+        - By default the words are compressed words, and the last word must not be 0.
+        - With ``seal`` the words may be any, and ``get_data(unseal=True)`` is the inverse.
+        - With ``is_remainders`` the words are the second list that ``get_remainders`` returned, or both lists,
+          concatenated.
+
+        Raises :class:`InvalidDataError` if there are too few words, or if they end with a zero word.
         """
         if is_remainders and seal:
             raise ValueError("remainders can't be sealed")
@@ -145,9 +156,10 @@ class ChainCoder(Coder):
         ...
 
     def decode(self, model: Model, *amt_or_parameters: Any, amt: Any = None) -> Any:
-        """Decodes symbols: one, or a list of ``amt``, or one for each set of parameters.
+        """Decodes one symbol, a list of ``amt`` symbols, or one symbol for each set of parameters.
 
-        Raises :class:`OutOfDataError` where the words end; the coder is as before then.
+        Raises :class:`OutOfDataError` if the coder needs another compressed word and none is left. After an error the
+        coder is unchanged.
         """
         if amt is None:
             lane = self._lane
@@ -164,10 +176,13 @@ class ChainCoder(Coder):
         return self._lane
 
     def encode_reverse(self, symbols: Symbols, model: Model, *parameters: Parameter) -> None:
-        """Encodes a symbol, or a list of them from the last one to the first: the converse of ``decode``.
+        """Encodes a symbol, or a list of symbols from the last to the first. An encode is the inverse of ``decode``.
 
-        Raises :class:`ImpossibleSymbolError`, :class:`WrongWeightsError`, and :class:`OutOfDataError` where the
-        remainders end; the coder is as before then.
+        If the model has missing parameters, pass a list of each after the model.
+
+        Raises :class:`ImpossibleSymbolError` if the model has no entry for a symbol, :class:`WrongWeightsError` if the
+        model's weights are invalid, and :class:`OutOfDataError` if the coder needs another word of remainders and none
+        is left. After an error the coder is unchanged.
         """
         lane = self._lane
         if (
@@ -181,10 +196,12 @@ class ChainCoder(Coder):
             self._changed(lambda it: (encoded(it, symbols, model, parameters, _encode, True), None))
 
     def get_data(self, unseal: bool = False) -> tuple[Answer, Answer]:
-        """The remainders left, and the data: put together, the second behind the first, they are what the coder
-        began with, once all that was decoded is encoded again. The coder stays as it is.
+        """Returns two lists: the remainders that are left, and the compressed words with the remainders head.
 
-        Raises :class:`InvalidDataError` where the coder holds no whole number of words.
+        Once all decoded symbols are encoded again, the two lists, concatenated, are the words that the coder was
+        imported from. With ``unseal`` they are words for ``ChainCoder(words, seal=True)``. The coder is unchanged.
+
+        Raises :class:`InvalidDataError` if the coder doesn't hold a whole number of words.
         """
         name = "chain_into_binary" if unseal else "chain_into_compressed"
 
@@ -195,8 +212,11 @@ class ChainCoder(Coder):
         return answered(left), answered(data)
 
     def get_remainders(self) -> tuple[Answer, Answer]:
-        """The data left, and the remainders: each alone, or put together, can be handed to a coder. This one stays
-        as it is."""
+        """Returns two lists: the compressed words that are left, and the remainders with both heads.
+
+        ``ChainCoder(data, is_remainders=True)`` imports the second list, or both lists, concatenated. The coder is
+        unchanged.
+        """
 
         def ask(state: _State) -> tuple[Numbers, Numbers]:
             return state.compressed.numbers(), _export(
@@ -217,7 +237,7 @@ class ChainCoder(Coder):
 
 
 def _export(name: str, words: Words, heads: tuple[int, int]) -> Numbers:
-    """The words with those of the heads. The state stays as it is."""
+    """Returns a copy of the words, followed by the words of the heads. The state is unchanged."""
     length, needed = c_size_t(words.length), c_size_t(0)
     texts = {7: errors.NO_WHOLE_WORDS}
     call(name, byref(ChainHeads(*heads)), *words.lent(), byref(length), byref(needed), texts=texts)

@@ -1,4 +1,4 @@
-"""The range coder: what is encoded first is decoded first."""
+"""The range coder: the symbol that was encoded first is decoded first."""
 
 from __future__ import annotations
 
@@ -22,7 +22,7 @@ _WHOLE = (1 << 64) - 1
 
 
 class _Writing(NamedTuple):
-    """Words, and an encoder's numbers beside them."""
+    """The words that an encoder wrote, and the encoder's numbers."""
 
     words: Words
     numbers: tuple[int, int, int, int]
@@ -43,14 +43,14 @@ def _new_encoder() -> tuple[int, int, int, int]:
 
 
 def _encode(kind: str, state: _Writing, count: int, arguments: tuple[Any, ...]) -> _Writing:
-    words = state.words.reserve(state.held + count)  # A step shifts one word out at most.
+    words = state.words.reserve(state.held + count)  # A step shifts out at most one word.
     it, length, needed = RangeEncoderState(*state.numbers), c_size_t(words.length), c_size_t(0)
     call(f"range_encode{kind}", byref(it), *words.lent(), byref(length), *arguments, byref(needed))
     return _Writing(Words(words.memory, length.value), _numbers(it))
 
 
 class _Reading(NamedTuple):
-    """Words, which nothing changes, and a decoder's numbers beside them."""
+    """The words that a decoder reads, and the decoder's numbers. No call changes the words."""
 
     words: Words
     numbers: tuple[int, int, int, int]
@@ -70,7 +70,7 @@ def _decode(kind: str, state: _Reading, count: int, arguments: tuple[Any, ...]) 
 
 
 def _quantile(state: _Reading) -> int:
-    """Which of the 2^24 quantiles the next symbol's interval has. Words that no encoder wrote can have none."""
+    """Returns the quantile that selects the next symbol. Raises InvalidDataError if no encoder wrote the words."""
     lower, length, point, _ = state.numbers
     quantile = ((point - lower) & _WHOLE) // (length >> 24)
     if quantile >> 24:
@@ -103,7 +103,7 @@ class _WritingLane(Lane):
 
 class _ReadingLane(Lane):
     def __init__(self) -> None:
-        # Four numbers of 64 bits, as those of a RangeDecoderState.
+        # Four numbers of 64 bits, like the fields of a RangeDecoderState.
         self._words, self._numbers, self._length = Buffer(), array("Q", (0,) * 4), c_size_t()
         super().__init__((memory_of(self._numbers), self._words.address, self._length), "", "range_decode{}")
 
@@ -112,7 +112,7 @@ class _ReadingLane(Lane):
         self._words.take(words.memory)
         for i, number in enumerate(numbers):
             self._numbers[i] = number
-        self._length.value, self._spare = words.length, 1 << 62  # It writes no words.
+        self._length.value, self._spare = words.length, 1 << 62  # A decoder writes no words.
         return state
 
     def loaded(self, before: _Reading) -> _Reading:
@@ -124,7 +124,7 @@ class _ReadingLane(Lane):
 
 
 class RangeEncoder(Coder):
-    """The writing end of a queue of symbols, in words of 32 bits.
+    """A range encoder with words of 32 bits. A decoder returns the symbols in the order of encoding.
 
     >>> from constriction.stream.model import QuantizedGaussian
     >>> encoder, heights = RangeEncoder(), QuantizedGaussian(120, 220, 172.5, 9.25)
@@ -135,14 +135,16 @@ class RangeEncoder(Coder):
     """
 
     def __init__(self) -> None:
-        """An encoder without symbols."""
+        """Creates an encoder that has encoded no symbols."""
         self._begin(_Writing(copied(), _new_encoder()))
 
     def encode(self, symbols: Symbols, model: Model, *parameters: Parameter) -> None:
-        """Encodes a symbol, or a list of them, the first one first.
+        """Encodes a symbol, or a list of symbols in order.
 
-        Where the model has no parameters of its own, a list of each follows. Raises :class:`ImpossibleSymbolError`
-        and :class:`WrongWeightsError`; the encoder is as before then.
+        If the model has missing parameters, pass a list of each after the model.
+
+        Raises :class:`ImpossibleSymbolError` if the model has no entry for a symbol, and :class:`WrongWeightsError` if
+        the model's weights are invalid. After an error the encoder is unchanged.
         """
         lane = self._lane
         if (
@@ -160,7 +162,7 @@ class RangeEncoder(Coder):
         return self._lane
 
     def _sealed(self, state: _Writing, self_delimiting: bool) -> Words:
-        """All words with the seal. The state stays as it is."""
+        """Returns all words of the encoder, followed by the seal. The state is unchanged."""
         words = state.words.reserve(state.held + 2)
         it, length, needed = RangeEncoderState(*state.numbers), c_size_t(words.length), c_size_t(0)
         name = "range_into_self_delimited" if self_delimiting else "range_into_compressed"
@@ -168,10 +170,10 @@ class RangeEncoder(Coder):
         return Words(words.memory, length.value)
 
     def get_compressed(self, self_delimiting: bool = False) -> Answer:
-        """A copy of the words with the seal. The encoder stays as it is.
+        """Returns a copy of the words, followed by the seal. The encoder is unchanged.
 
-        With ``self_delimiting`` the seal holds whatever words follow: a decoder that begins here reads the symbols
-        too where other words come behind these.
+        With ``self_delimiting`` other words may follow: a decoder that begins at the first word decodes the symbols
+        even if other words follow the seal.
         """
         found: Answer = answered(self._compressed(self_delimiting))
         return found
@@ -180,29 +182,33 @@ class RangeEncoder(Coder):
         return self._asked(lambda state: self._sealed(state, self_delimiting).numbers())
 
     def get_decoder(self) -> RangeDecoder:
-        """A decoder of the symbols up to now."""
+        """Returns a decoder of the symbols that were encoded so far."""
         return RangeDecoder(self._compressed())
 
     def num_words(self) -> int:
-        """How many words ``get_compressed`` gives."""
+        """Returns the number of words that ``get_compressed`` returns."""
         return self._asked(lambda state: self._sealed(state, False).length)
 
     def num_bits(self) -> int:
-        """How many bits ``get_compressed`` gives."""
+        """Returns the number of bits that ``get_compressed`` returns: 32 for each word."""
         return 32 * self.num_words()
 
     def is_empty(self) -> bool:
-        """Whether no symbol was encoded."""
+        """Returns whether no symbol was encoded."""
         state: _Writing = self._state
         return state.numbers[1] == _WHOLE and not state.words.length
 
     def pos(self) -> tuple[int, tuple[int, int]]:
-        """The position, for a decoder's ``seek``: how many words were written or are held back, and the interval."""
+        """Returns the position, for a decoder's ``seek``.
+
+        The position is the number of words that the encoder wrote or holds back, and the lower end and length of its
+        interval.
+        """
         state: _Writing = self._state
         return state.words.length + state.held, state.numbers[:2]
 
     def clear(self) -> None:
-        """Drops all symbols."""
+        """Removes all symbols."""
         self._changed(lambda state: (_Writing(Words(state.words.memory, 0), _new_encoder()), None))
 
     def _said(self, state: _Writing) -> str:
@@ -216,10 +222,10 @@ class RangeEncoder(Coder):
 
 
 class RangeDecoder(Coder):
-    """The reading end of a queue of symbols."""
+    """A range decoder with words of 32 bits. See :class:`RangeEncoder` for an example."""
 
     def __init__(self, compressed: List) -> None:
-        """A decoder at the beginning of these words, which are copied."""
+        """Creates a decoder at the beginning of ``compressed``. The decoder copies the words."""
         words, it = copied(compressed), RangeDecoderState()
         call("range_from_compressed", lent(words.memory), words.length, byref(it))
         self._begin(_reading(words, it))
@@ -241,10 +247,10 @@ class RangeDecoder(Coder):
         ...
 
     def decode(self, model: Model, *amt_or_parameters: Any, amt: Any = None) -> Any:
-        """Decodes symbols: one, or a list of ``amt``, or one for each set of parameters.
+        """Decodes one symbol, a list of ``amt`` symbols, or one symbol for each set of parameters.
 
-        Raises :class:`InvalidDataError` where no encoder wrote such words under such a model; the decoder is as
-        before then.
+        Raises :class:`InvalidDataError` if the words don't encode such symbols with the model. After an error the
+        decoder is unchanged.
         """
         if amt is None:
             lane = self._lane
@@ -261,8 +267,11 @@ class RangeDecoder(Coder):
         return self._lane
 
     def seek(self, position: int, state: tuple[int, int]) -> None:
-        """Goes to a position that the words' encoder recorded by ``pos``. Raises :class:`WrongLengthError` or
-        :class:`InvalidDataError` where the words have no such position."""
+        """Moves the decoder to a position that the encoder's ``pos`` returned.
+
+        Raises :class:`WrongLengthError` if ``position`` is past the end of the words, and :class:`InvalidDataError` if
+        no encoder has the interval ``state``.
+        """
         place, (lower, length) = whole(position), map(whole, state)
 
         def go(now: _Reading) -> tuple[_Reading, None]:
@@ -278,7 +287,7 @@ class RangeDecoder(Coder):
         self._changed(go)
 
     def maybe_exhausted(self) -> bool:
-        """False where certainly some symbols are left."""
+        """Returns ``False`` if symbols are certainly left, and ``True`` if the decoder may have decoded all symbols."""
         state: _Reading = self._state
         maybe = c_uint32(0)
         call("range_maybe_exhausted", byref(RangeDecoderState(*state.numbers)), *state.lent(), byref(maybe))

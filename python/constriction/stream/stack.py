@@ -1,4 +1,4 @@
-"""The stack coder (ANS): what is encoded last is decoded first."""
+"""The stack coder (ANS): the symbol that was encoded last is decoded first."""
 
 from __future__ import annotations
 
@@ -20,8 +20,11 @@ __all__ = ["AnsCoder"]
 
 
 class _State(NamedTuple):
-    """Words, and the head above them. The first ``top`` words of the buffer are as they were when the coder had so
-    many: those that a decode took off lie there until others are written in their place."""
+    """The words in use, and the head above them.
+
+    The first ``top`` words of the buffer are as they were when the coder had ``top`` words. A decode leaves the words
+    that it takes off in the buffer, until an encode writes other words in their place.
+    """
 
     words: Words
     head: int
@@ -29,13 +32,14 @@ class _State(NamedTuple):
 
 
 def _behind(before: _State, words: Words, length: int, head: int) -> _State:
-    """The state behind a step, whose buffer is that of these words."""
+    """Returns the state after a step. The step left ``length`` words in use in the buffer of ``words``, and ``head``.
+    """
     kept = length <= before.words.length and words.memory is before.words.memory
     return _State(Words(words.memory, length), head, before.top if kept else length)
 
 
 def _encode(kind: str, state: _State, count: int, arguments: tuple[Any, ...]) -> _State:
-    words = state.words.reserve(count)  # A step writes one word at most.
+    words = state.words.reserve(count)  # A step writes at most one word.
     head, length, needed = c_uint64(state.head), c_size_t(words.length), c_size_t(0)
     call(f"ans_encode{kind}_reverse", byref(head), *words.lent(), byref(length), *arguments, byref(needed))
     return _behind(state, words, length.value, head.value)
@@ -48,7 +52,7 @@ def _decode(kind: str, state: _State, count: int, arguments: tuple[Any, ...]) ->
 
 
 def _quantile(state: _State) -> int:
-    """Which of the 2^24 quantiles the next symbol's interval has."""
+    """Returns the quantile that selects the next symbol: a number below 2^24."""
     return state.head & 0xFFFFFF
 
 
@@ -80,7 +84,7 @@ class _Lane(Lane):
 
 
 class AnsCoder(Coder):
-    """A stack of symbols, in words of 32 bits.
+    """A stack coder (ANS) with words of 32 bits. It decodes symbols in the reverse order of encoding.
 
     >>> from constriction.stream.model import QuantizedGaussian
     >>> coder, heights = AnsCoder(), QuantizedGaussian(120, 220, 172.5, 9.25)
@@ -92,10 +96,12 @@ class AnsCoder(Coder):
     """
 
     def __init__(self, compressed: List | None = None, seal: bool = False) -> None:
-        """An empty coder, or the one whose ``get_compressed`` gave these words, which are copied.
+        """Creates an empty coder, or imports a coder from ``compressed``: words that ``get_compressed`` returned.
 
-        With ``seal`` the words may be any at all, as for bits back, and ``get_binary`` gives them back.
-        Raises :class:`InvalidDataError` where the last word is 0 and ``seal`` isn't set.
+        The coder copies the words. With ``seal`` the words may be any, for example for bits-back coding, and
+        ``get_binary`` is the inverse.
+
+        Raises :class:`InvalidDataError` if the last word is 0 and ``seal`` isn't set.
         """
         words, head = copied(() if compressed is None else compressed), c_uint64(0)
         if compressed is not None:
@@ -107,11 +113,13 @@ class AnsCoder(Coder):
         self._begin(_State(words, head.value, words.length))
 
     def encode_reverse(self, symbols: Symbols, model: Model, *parameters: Parameter) -> None:
-        """Encodes a symbol, or a list of them from the last one to the first, so that ``decode`` gives them in the
-        list's order.
+        """Encodes a symbol, or a list of symbols from the last to the first.
 
-        Where the model has no parameters of its own, a list of each follows. Raises :class:`ImpossibleSymbolError`
-        and :class:`WrongWeightsError`; the coder is as before then.
+        ``decode`` returns the symbols in the order of the list. If the model has missing parameters, pass a list of
+        each after the model.
+
+        Raises :class:`ImpossibleSymbolError` if the model has no entry for a symbol, and :class:`WrongWeightsError` if
+        the model's weights are invalid. After an error the coder is unchanged.
         """
         lane = self._lane
         if (
@@ -141,9 +149,9 @@ class AnsCoder(Coder):
         ...
 
     def decode(self, model: Model, *amt_or_parameters: Any, amt: Any = None) -> Any:
-        """Takes symbols off: one, or a list of ``amt``, or one for each set of parameters.
+        """Decodes one symbol, a list of ``amt`` symbols, or one symbol for each set of parameters.
 
-        An empty coder gives symbols too: nothing says where the encoded ones end.
+        An empty coder decodes to symbols too, so the caller has to know the number of encoded symbols.
         """
         if amt is None:
             lane = self._lane
@@ -160,15 +168,19 @@ class AnsCoder(Coder):
         return self._lane
 
     def get_compressed(self, unseal: bool = False) -> Answer:
-        """A copy of the words with those of the head. The coder stays as it is. With ``unseal`` that is
-        ``get_binary``."""
+        """Returns a copy of the words, followed by the words of the head. The coder is unchanged.
+
+        With ``unseal`` the call does the same as ``get_binary``.
+        """
         return self._exported("ans_into_binary" if unseal else "ans_into_compressed")
 
     def get_binary(self) -> Answer:
-        """A copy of the words with those of the head below its leading 1: the converse of ``AnsCoder(words,
-        seal=True)``.
+        """Returns a copy of the words, followed by the words of the head below its leading 1.
 
-        Raises :class:`InvalidDataError` where the head holds no whole number of words.
+        ``AnsCoder(words, seal=True)`` imports these words. The coder is unchanged.
+
+        Raises :class:`InvalidDataError` if the head is 0, or if the number of bits below its leading 1 isn't a multiple
+        of 32.
         """
         return self._exported("ans_into_binary")
 
@@ -184,35 +196,40 @@ class AnsCoder(Coder):
         return found
 
     def num_words(self) -> int:
-        """How many words ``get_compressed`` gives."""
+        """Returns the number of words that ``get_compressed`` returns."""
         state: _State = self._state
         return state.words.length + (state.head.bit_length() + 31) // 32
 
     def num_bits(self) -> int:
-        """How many bits ``get_compressed`` gives."""
+        """Returns the number of bits that ``get_compressed`` returns: 32 for each word."""
         return 32 * self.num_words()
 
     def num_valid_bits(self) -> int:
-        """How many bits carry information: those below the head's leading 1, and those of the other words."""
+        """Returns the number of bits that carry information.
+
+        These are the bits below the head's leading 1, and all bits of the other words.
+        """
         state: _State = self._state
         return 32 * state.words.length + max(state.head.bit_length() - 1, 0)
 
     def is_empty(self) -> bool:
-        """Whether there is nothing to decode."""
+        """Returns whether the coder has no words and its head is 0."""
         state: _State = self._state
         return not state.head and not state.words.length
 
     def pos(self) -> tuple[int, int]:
-        """The position, for ``seek``: how many words are below the head, and the head."""
+        """Returns the position, for ``seek``: the number of words below the head, and the head."""
         state: _State = self._state
         return state.words.length, state.head
 
     def seek(self, position: SupportsIndex, state: SupportsIndex) -> None:
-        """Goes to a recorded position: back, which drops what was encoded since, or forth again to where the coder
-        was, as far as only decodes came in between. No word is copied, so many positions of the same words can be
-        gone to in any order.
+        """Moves the coder to a position that ``pos`` returned.
 
-        Raises :class:`WrongLengthError` past the words."""
+        The coder can move back, and forward again as long as no encode has written over the words in between. The call
+        copies no words, so a coder can visit many positions of the same words in any order.
+
+        Raises :class:`WrongLengthError` if the coder has no such position.
+        """
         length, head = whole(position), whole(state)
 
         def go(now: _State) -> tuple[_State, None]:
@@ -223,7 +240,7 @@ class AnsCoder(Coder):
         self._changed(go)
 
     def clear(self) -> None:
-        """Drops all symbols."""
+        """Removes all symbols."""
         self._changed(lambda state: (_State(Words(state.words.memory, 0), 0, 0), None))
 
     def _compared(self, state: _State) -> Any:

@@ -1,8 +1,8 @@
 """Codewords of whole bits, in words of 32 bits.
 
-Each symbol can have a codebook of its own. The C functions code whole lists under one codebook; here they make long
-lists' codewords, and the codewords of a tree, which single symbols have, are compared with theirs. Where codewords
-lie is counted in Python.
+Each symbol can have a codebook of its own. The C functions encode and decode whole lists with one codebook. This
+package uses them for long lists. For single symbols it computes codewords in Python, and compares the codewords of a
+tree with those of the C functions. Python code keeps the positions of the codewords.
 
 >>> tree = EncoderHuffmanTree([2, 2, 4, 1, 1])
 >>> encoder = QueueEncoder()

@@ -1,4 +1,4 @@
-"""Bits in bytes: each byte is filled from its lowest bit up, and words from their lowest byte."""
+"""Bits in bytes: bits fill a byte from its lowest bit up, and bytes fill a word from its lowest byte up."""
 
 from __future__ import annotations
 
@@ -12,13 +12,16 @@ __all__ = ["Bits", "bits_of", "words_with"]
 
 
 class Bits(NamedTuple):
-    """The first so many bits of a buffer. What lies behind them may be anything."""
+    """The first ``length`` bits of a buffer. The other bits of the buffer have no meaning."""
 
     memory: bytearray
     length: int
 
     def put(self, bits: int, count: int) -> Bits:
-        """These bits behind those there, the lowest first. Only the buffer behind those there changes."""
+        """Returns these bits, followed by ``count`` bits of the number ``bits``, lowest first.
+
+        The call changes the buffer only after the first ``length`` bits.
+        """
         start, low = self.length >> 3, self.length & 7
         if low:
             bits = self.memory[start] & ((1 << low) - 1) | bits << low
@@ -27,21 +30,21 @@ class Bits(NamedTuple):
         return Bits(self.memory, self.length + count)
 
     def get(self, place: int) -> int:
-        """One bit."""
+        """Returns the bit at index ``place``."""
         return self.memory[place >> 3] >> (place & 7) & 1
 
     def part(self, start: int, end: int) -> int:
-        """The bits from one place to another as a number, the lowest first."""
+        """Returns the bits from index ``start`` to before index ``end`` as a number, lowest first."""
         number = int.from_bytes(self.memory[start >> 3 : (end + 7) >> 3], "little") >> (start & 7)
         return number & ((1 << (end - start)) - 1)
 
     def clone(self) -> Bits:
-        """A copy in a buffer of its own."""
+        """Returns a copy in a buffer of its own."""
         return Bits(self.memory[: (self.length + 7) >> 3], self.length)
 
 
 def bits_of(words: List) -> Bits:
-    """A copy of all bits of these words."""
+    """Returns a copy of all bits of these words."""
     given = words_of(words)
     copy = room(WORD, 0)
     copy.extend(given)
@@ -49,7 +52,7 @@ def bits_of(words: List) -> Bits:
 
 
 def words_with(bits: int, count: int) -> Numbers:
-    """So many bits as words, filled up with zeros."""
+    """Returns ``count`` bits as words. Zero bits fill the last word."""
     words = room(WORD, 0)
     words.frombytes(bits.to_bytes((count + 31) // 32 * 4, "little"))
     return swapped(words)

@@ -1,4 +1,4 @@
-"""What codebooks give to the coders of bits."""
+"""The base class of codebooks."""
 
 from __future__ import annotations
 
@@ -14,7 +14,7 @@ __all__ = ["Codebook", "codebook_wanted"]
 
 
 def codebook_wanted(codebook: Any) -> None:
-    """Refuses what is no codebook."""
+    """Raises TypeError if ``codebook`` isn't a codebook."""
     if not isinstance(codebook, Codebook):
         raise TypeError(
             f"a codebook is wanted, such as a Huffman tree or ExpGolomb(), and not a {type(codebook).__name__}"
@@ -22,35 +22,37 @@ def codebook_wanted(codebook: Any) -> None:
 
 
 class Codebook:
-    """Codewords, one at a time in Python, and whole lists by the C functions."""
+    """A codebook. It has codewords of single symbols in Python, and encodes whole lists with C functions."""
 
     def codeword(self, symbol: int) -> tuple[int, int]:
-        """A symbol's codeword as a number, its first bit the lowest, and its length. Raises
-        :class:`ImpossibleSymbolError`."""
+        """Returns a symbol's codeword as a number, whose lowest bit comes first, and the codeword's length in bits.
+
+        Raises :class:`ImpossibleSymbolError` if the symbol has no codeword.
+        """
         raise NotImplementedError
 
     def read(self, bit: Callable[[], int]) -> int:
-        """The symbol of the codeword that these bits begin with."""
+        """Reads bits with ``bit`` until they are a codeword, and returns the codeword's symbol."""
         raise NotImplementedError
 
     def longest(self) -> int:
-        """How long codewords can be."""
+        """Returns the length of the longest codeword in bits."""
         raise NotImplementedError
 
     def encoded(self, symbols: array[Any], stack: bool) -> Numbers:
-        """The words of these symbols by a C function, in a queue or in a stack."""
+        """Encodes symbols with a C function as a queue or as a stack, and returns the words."""
         raise NotImplementedError
 
     def decoded(self, words: array[Any], count: int, stack: bool) -> Numbers:
-        """So many symbols by a C function, from the beginning of a queue or from the top of a stack."""
+        """Decodes ``count`` symbols with a C function, from the words of a queue or of a stack."""
         raise NotImplementedError
 
     def num_symbols(self) -> int:
-        """How many symbols there are: 0, 1, .."""
+        """Returns the number of symbols. The symbols are 0, 1, .."""
         raise NotImplementedError
 
     def impossible(self, symbols: Any) -> ImpossibleSymbolError:
-        """The refusal of the first of these that is no symbol here."""
+        """Returns the exception for the first of these symbols that has no codeword."""
         count = self.num_symbols()
         for place, symbol in enumerate(map(whole, listed_of(symbols))):
             if not 0 <= symbol < count:
@@ -58,5 +60,5 @@ class Codebook:
         raise AssertionError("each is a symbol")
 
     def symbols(self, symbols: Any) -> array[Any]:
-        """A list of symbols, or one alone, as the C functions take them."""
+        """Returns a list of symbols, or a single symbol, as a list for the C functions."""
         raise NotImplementedError

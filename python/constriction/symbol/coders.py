@@ -1,4 +1,4 @@
-"""Codewords one behind another, as a queue or as a stack of bits."""
+"""Coders of codewords: a queue of bits, and a stack of bits."""
 
 from __future__ import annotations
 
@@ -14,7 +14,7 @@ from ._codebook import Codebook, codebook_wanted
 
 __all__ = ["QueueDecoder", "QueueEncoder", "StackCoder"]
 
-#: Lists at least so long go through the C functions; shorter ones symbol by symbol.
+#: The least length of a list that the C functions encode or decode. Python code does shorter lists.
 _LONG = 64
 
 
@@ -24,7 +24,7 @@ def _symbol_codeword(symbol: Any, codebook: Codebook) -> tuple[int, int]:
 
 
 def _all_or_nothing(coder: Coder, listed: Any, codebook: Codebook, change: Callable[[Bits], tuple[Bits, None]]) -> None:
-    """Makes this change, whose refusal says which of the symbols it is of."""
+    """Makes a change. If it fails, raises an exception that names the symbol without a codeword."""
     try:
         coder._changed(change)
     except errors.ImpossibleSymbolError:
@@ -32,21 +32,24 @@ def _all_or_nothing(coder: Coder, listed: Any, codebook: Codebook, change: Calla
 
 
 class _Place(NamedTuple):
-    """Bits, and how many of them were read."""
+    """Bits, and the number of bits that were read."""
 
     bits: Bits
     place: int
 
 
 class QueueEncoder(Coder):
-    """Puts codewords behind one another; the first is decoded first. Each symbol can have a codebook of its own."""
+    """Encodes codewords one after another. The first is decoded first. Each symbol can have a codebook of its own."""
 
     def __init__(self) -> None:
-        """An encoder without symbols."""
+        """Creates an encoder that has encoded no symbols."""
         self._begin(Bits(bytearray(), 0))
 
     def encode(self, symbols: Symbols, codebook: Codebook) -> None:
-        """Puts symbols behind those before. Raises :class:`ImpossibleSymbolError`; the encoder is as before then."""
+        """Encodes a symbol, or a list of symbols in order.
+
+        Raises :class:`ImpossibleSymbolError` if a symbol has no codeword. After an error the encoder is unchanged.
+        """
         codebook_wanted(codebook)
         if is_one(symbols):
             return self.encode_symbol(symbols, codebook)  # type: ignore[arg-type]
@@ -64,17 +67,20 @@ class QueueEncoder(Coder):
         _all_or_nothing(self, listed, codebook, change)
 
     def encode_symbol(self, symbol: SupportsIndex, codebook: Codebook) -> None:
-        """Puts one symbol behind those before."""
+        """Encodes one symbol."""
         codeword = _symbol_codeword(symbol, codebook)
         self._changed(lambda bits: (bits.put(*codeword), None))
 
     def get_compressed(self) -> tuple[Answer, int]:
-        """The words of the codewords, filled up with zero bits, and how many bits the codewords have."""
+        """Returns the words, and the total number of bits of all codewords.
+
+        Zero bits fill the last word.
+        """
         words, count = self._asked(lambda bits: (words_with(bits.part(0, bits.length), bits.length), bits.length))
         return answered(words), count
 
     def get_decoder(self) -> QueueDecoder:
-        """A decoder of the symbols up to now."""
+        """Returns a decoder of the symbols that were encoded so far."""
         return QueueDecoder(self._asked(lambda bits: words_with(bits.part(0, bits.length), bits.length)))
 
     def _said(self, state: Bits) -> str:
@@ -88,11 +94,10 @@ class QueueEncoder(Coder):
 
 
 class QueueDecoder(Coder):
-    """Reads codewords from the beginning of words, and keeps its place. Each symbol can have a codebook of its
-    own."""
+    """Decodes codewords in the order of encoding. Each symbol can have a codebook of its own."""
 
     def __init__(self, compressed: List) -> None:
-        """A decoder at the beginning of these words, which are copied."""
+        """Creates a decoder at the beginning of ``compressed``. The decoder copies the words."""
         self._begin(_Place(bits_of(compressed), 0))
 
     @overload
@@ -104,8 +109,11 @@ class QueueDecoder(Coder):
         ...
 
     def decode(self, codebook: Codebook, amt: SupportsIndex | None = None) -> int | Answer:
-        """The next symbol, or a list of ``amt``. Raises :class:`OutOfDataError` and :class:`InvalidDataError`; the
-        decoder is as before then."""
+        """Decodes the next symbol, or a list of the next ``amt`` symbols.
+
+        Raises :class:`OutOfDataError` if the words end before all symbols are decoded, and :class:`InvalidDataError` if
+        the next bits don't begin with a codeword. After an error the decoder is unchanged.
+        """
         codebook_wanted(codebook)
         if amt is None:
             return self.decode_symbol(codebook)
@@ -114,7 +122,7 @@ class QueueDecoder(Coder):
         return found
 
     def decode_symbol(self, codebook: Codebook) -> int:
-        """The next symbol."""
+        """Decodes the next symbol."""
         return self._changed(lambda state: _read(state, codebook))
 
     def _said(self, state: _Place) -> str:
@@ -128,7 +136,7 @@ class QueueDecoder(Coder):
 
 
 def _read(state: _Place, codebook: Codebook) -> tuple[_Place, int]:
-    """The next symbol of a queue."""
+    """Decodes the next symbol of a queue. Returns the state after it, and the symbol."""
     bits, place = state
 
     def bit() -> int:
@@ -143,7 +151,10 @@ def _read(state: _Place, codebook: Codebook) -> tuple[_Place, int]:
 
 
 def _read_list(state: _Place, codebook: Codebook, count: int) -> tuple[_Place, Numbers]:
-    """The next so many symbols of a queue, by a C function where it is a long list that is all there."""
+    """Decodes the next ``count`` symbols of a queue. Returns the state after them, and the symbols.
+
+    For a long list the call uses a C function, if the words hold the whole list.
+    """
     if count >= _LONG:
         bits, place = state
         end = min(bits.length, place + count * codebook.longest())
@@ -158,40 +169,44 @@ def _read_list(state: _Place, codebook: Codebook, count: int) -> tuple[_Place, N
 
 
 def _by_library(codebook: Codebook, bits: int, length: int, count: int, stack: bool) -> tuple[Numbers, int] | None:
-    """So many symbols by a C function, and how many bits they had; None where they are not all there."""
+    """Decodes ``count`` symbols with a C function. Returns the symbols, and the number of bits of their codewords.
+
+    Returns None if the bits don't hold all symbols.
+    """
     try:
         words = words_with(bits | 1 << length, length + 1) if stack else words_with(bits, length)
         found = codebook.decoded(words, count, stack)
     except errors.Refusal:
-        return None  # Which refusal it is says the way by single symbols.
+        return None  # Decoding single symbols raises the exception.
     size = sum(codebook.codeword(it)[1] for it in found)
     if size > length:
-        return None  # The zeros behind the last bit were read.
+        return None  # The C function read zeros after the last bit.
     symbols = room(SYMBOL, 0)
     symbols.fromlist(found.tolist())
     return symbols, size
 
 
 class StackCoder(Coder):
-    """A stack of codewords: the last one put on is the first one taken off. Each symbol can have a codebook of its
-    own."""
+    """A stack of codewords: the last one encoded is the first one decoded. Each symbol can have its own codebook."""
 
     def __init__(self, compressed: List | None = None) -> None:
-        """An empty stack, or the one whose ``get_compressed`` gave these words, which are copied.
+        """Creates an empty stack, or imports a stack from ``compressed``: words that ``get_compressed`` returned.
 
-        Raises :class:`InvalidDataError` where the last word is 0.
+        The coder copies the words. Raises :class:`InvalidDataError` if the last word is 0.
         """
         words = words_of(() if compressed is None else compressed)
         if len(words) and not words[-1]:
             raise errors.InvalidDataError(errors.NOT_ENOUGH_WORDS)
         bits = bits_of(words)
-        # The highest bit that is 1 ends the stack.
+        # The highest bit 1 ends the stack.
         length = 32 * (len(words) - 1) + words[-1].bit_length() - 1 if len(words) else 0
         self._begin(Bits(bits.memory, length))
 
     def encode_reverse(self, symbols: Symbols, codebook: Codebook) -> None:
-        """Puts symbols on top, from the last one to the first. Raises :class:`ImpossibleSymbolError`; the stack is
-        as before then."""
+        """Encodes a symbol, or a list of symbols from the last to the first.
+
+        Raises :class:`ImpossibleSymbolError` if a symbol has no codeword. After an error the stack is unchanged.
+        """
         codebook_wanted(codebook)
         if is_one(symbols):
             return self.encode_symbol(symbols, codebook)  # type: ignore[arg-type]
@@ -208,7 +223,7 @@ class StackCoder(Coder):
         _all_or_nothing(self, listed, codebook, change)
 
     def encode_symbol(self, symbol: SupportsIndex, codebook: Codebook) -> None:
-        """Puts one symbol on top."""
+        """Encodes one symbol."""
         codeword = _turned(*_symbol_codeword(symbol, codebook))
         self._changed(lambda bits: (bits.put(*codeword), None))
 
@@ -221,8 +236,11 @@ class StackCoder(Coder):
         ...
 
     def decode(self, codebook: Codebook, amt: SupportsIndex | None = None) -> int | Answer:
-        """Takes off the symbol on top, or a list of the ``amt`` topmost. Raises :class:`OutOfDataError` and
-        :class:`InvalidDataError`; the stack is as before then."""
+        """Decodes the symbol on top of the stack, or a list of the ``amt`` symbols on top.
+
+        Raises :class:`OutOfDataError` if the stack has too few bits, and :class:`InvalidDataError` if the bits on top
+        don't begin with a codeword. After an error the stack is unchanged.
+        """
         codebook_wanted(codebook)
         if amt is None:
             return self.decode_symbol(codebook)
@@ -231,16 +249,18 @@ class StackCoder(Coder):
         return found
 
     def decode_symbol(self, codebook: Codebook) -> int:
-        """Takes off the symbol on top."""
+        """Decodes the symbol on top of the stack."""
         return self._changed(lambda bits: _take(bits, codebook))
 
     def is_empty(self) -> bool:
-        """Whether there is nothing to decode."""
+        """Returns whether the stack is empty."""
         return not self._state.length
 
     def get_compressed(self) -> tuple[Answer, int]:
-        """The words of the codewords, closed by a bit 1 and filled up with zero bits, and how many bits the
-        codewords have."""
+        """Returns the words, and the total number of bits of all codewords.
+
+        In the words, a bit 1 follows the codewords, and zero bits fill the last word.
+        """
 
         def export(bits: Bits) -> tuple[Numbers, int]:
             return words_with(bits.part(0, bits.length) | 1 << bits.length, bits.length + 1), bits.length
@@ -259,12 +279,12 @@ class StackCoder(Coder):
 
 
 def _turned(bits: int, count: int) -> tuple[int, int]:
-    """A codeword from its last bit to its first."""
+    """Returns the bits of a codeword in the reverse order, and their number."""
     return int(format(bits, f"0{count}b")[::-1], 2) if count else 0, count
 
 
 def _take(bits: Bits, codebook: Codebook) -> tuple[Bits, int]:
-    """The symbol on top of a stack."""
+    """Decodes the symbol on top of a stack. Returns the bits that are left, and the symbol."""
     place = bits.length
 
     def bit() -> int:
@@ -279,7 +299,10 @@ def _take(bits: Bits, codebook: Codebook) -> tuple[Bits, int]:
 
 
 def _take_list(bits: Bits, codebook: Codebook, count: int) -> tuple[Bits, Numbers]:
-    """The so many topmost symbols of a stack, by a C function where it is a long list that is all there."""
+    """Decodes the ``count`` symbols on top of a stack. Returns the bits that are left, and the symbols.
+
+    For a long list the call uses a C function, if the stack holds the whole list.
+    """
     if count >= _LONG:
         start = max(0, bits.length - count * codebook.longest())
         found = _by_library(codebook, bits.part(start, bits.length), bits.length - start, count, True)

@@ -1,4 +1,4 @@
-"""Exp-Golomb codewords of numbers below 2^32."""
+"""Exp-Golomb codewords of the numbers below 2^32."""
 
 from __future__ import annotations
 
@@ -18,7 +18,10 @@ __all__ = ["ExpGolomb"]
 
 
 class ExpGolomb(Codebook):
-    """The codewords: for ``n + 1`` of ``k + 1`` bits ``k`` zeros, then its bits from the highest down."""
+    """The codebook of Exp-Golomb codewords for the numbers below 2^32.
+
+    If ``n + 1`` has ``k + 1`` bits, the codeword of ``n`` is ``k`` zeros and then the bits of ``n + 1``, highest first.
+    """
 
     def codeword(self, symbol: int) -> tuple[int, int]:
         if not 0 <= symbol < 1 << 32:
@@ -54,7 +57,7 @@ class ExpGolomb(Codebook):
 
     def encoded(self, symbols: array[Any], stack: bool) -> Numbers:
         count = len(symbols)
-        words, length, needed = room(WORD, 3 * count + 1), c_size_t(0), c_size_t(0)  # A codeword has 65 bits at most.
+        words, length, needed = room(WORD, 3 * count + 1), c_size_t(0), c_size_t(0)  # A codeword has at most 65 bits.
         name = "exp_golomb_encode_stack" if stack else "exp_golomb_encode_queue"
         call(name, lent(symbols), count, lent(words), len(words), byref(length), byref(needed))
         return Words(words, length.value).numbers()

@@ -1,4 +1,4 @@
-"""Huffman trees: a codeword for each of some weights, the shorter the greater the weight."""
+"""Huffman trees: codebooks in which a symbol with a greater weight has a codeword that isn't longer."""
 
 from __future__ import annotations
 
@@ -19,13 +19,13 @@ from ._codebook import Codebook
 
 __all__ = ["DecoderHuffmanTree", "EncoderHuffmanTree"]
 
-#: Floats are taken as weights out of this many, so that many symbols have a sum below 2^32.
+#: The sum of the weights for floats, before rounding down. It is below 2^32.
 _SHARES = 1 << 31
 _TOO_LARGE = "sum of weights too large"
 
 
 def _weights(probabilities: List) -> array[int]:
-    """Whole numbers of any type as they are; floats by their share."""
+    """Returns whole numbers as they are, and floats as their shares of 2^31, rounded down."""
     if is_one(probabilities):
         raise TypeError(f"a list of weights is wanted, and not a {type(probabilities).__name__}")
     given = sequence_of(probabilities)
@@ -48,27 +48,34 @@ def _weights(probabilities: List) -> array[int]:
 
 
 class _Tree(Codebook):
-    """Weights, whose tree each call of a C function makes; and the same tree in Python for single symbols."""
+    """The codebook of a Huffman tree.
+
+    Each call of a C function builds the tree from the weights. For single symbols the same tree is built in Python.
+    """
 
     def __init__(self, probabilities: List) -> None:
-        """Whole weights whose sum is below 2^32 are taken as they are; floats by their share, in Python, which isn't
-        proved.
+        """Creates the tree of these weights: whole numbers with a sum below 2^32, or floats.
 
-        Raises :class:`WrongWeightsError` where there are none, or their sum is too large.
+        Whole numbers are used as they are. Floats are converted to shares in Python. This conversion isn't proved.
+
+        Raises :class:`WrongWeightsError` if there are no weights, if their sum is too large, or if a weight is negative
+        or not finite.
         """
         self._weights = _weights(probabilities)
         self._texts = {2: _TOO_LARGE if len(self._weights) else "no weights", 8: errors.CODEWORD_ENDED}
         self._grown: tuple[list[tuple[int, int]], list[tuple[int, int]]] | None = None
-        # No symbols: this only tests the weights.
+        # Encodes no symbols: this only checks the weights.
         self.encoded(array(SYMBOL), False)
 
     def num_symbols(self) -> int:
-        """How many symbols there are."""
+        """Returns the number of symbols."""
         return len(self._weights)
 
     def _tree(self) -> tuple[list[tuple[int, int]], list[tuple[int, int]]]:
-        """The codewords, and the two children of each union. It is made where it is first asked for, and compared
-        with the words of the C function."""
+        """Returns the codewords, and the two children of each inner node.
+
+        The first call builds the tree, and compares the codewords with those of the C function.
+        """
         if self._grown is None:
             unions, codewords = _merged(self._weights)
             found = bits_of(self.encoded(array(SYMBOL, range(len(codewords))), False))
@@ -107,7 +114,7 @@ class _Tree(Codebook):
     def encoded(self, symbols: array[Any], stack: bool) -> Numbers:
         weights, length, needed = self._weights, c_size_t(0), c_size_t(0)
         name = "huffman_encode_stack" if stack else "huffman_encode_queue"
-        # First as if a symbol took a word, which is more than most lists take.
+        # The first call has room for one word for each symbol. Most lists need less.
         words = room(WORD, len(symbols) + 1)
         arguments = (lent(weights), len(weights), lent(symbols), len(symbols))
         try:
@@ -126,8 +133,10 @@ class _Tree(Codebook):
 
 
 def _merged(weights: array[int]) -> tuple[list[tuple[int, int]], list[tuple[int, int]]]:
-    """The children of each union, and the codewords: the two least by (weight, index) are merged, and a union comes
-    behind all others."""
+    """Returns the two children of each inner node, and the codewords.
+
+    The two nodes with the least (weight, index) are merged first. An inner node's index is above all indexes before.
+    """
     leaves = len(weights)
     heap = [(weight, i) for i, weight in enumerate(weights)]
     heapify(heap)
@@ -145,8 +154,8 @@ def _merged(weights: array[int]) -> tuple[list[tuple[int, int]], list[tuple[int,
 
 
 class EncoderHuffmanTree(_Tree):
-    """The tree of some weights, for encoding."""
+    """The Huffman tree of a list of weights, for encoding."""
 
 
 class DecoderHuffmanTree(_Tree):
-    """The tree of some weights, for decoding."""
+    """The Huffman tree of a list of weights, for decoding."""

@@ -11,7 +11,7 @@ use constriction_chain::SmallChainCoder;
 use constriction_words::WordOf;
 use std::alloc::Global;
 
-/// Makes a coder from a copy of `words`, which are in binary form.
+/// Creates a coder from a copy of `words`, which are in binary form.
 ///
 /// Returns `None` if there are too few words, or if there is no memory.
 fn coder_of(alloc: Global, words: &[u16]) -> Option<SmallChainCoder> {
@@ -19,7 +19,7 @@ fn coder_of(alloc: Global, words: &[u16]) -> Option<SmallChainCoder> {
     SmallChainCoder::from_binary(alloc, words).ok()
 }
 
-/// Makes a coder from a copy of `remainders`.
+/// Creates a coder from a copy of `remainders`.
 ///
 /// Returns `None` if no coder has these remainders, or if there is no memory.
 fn coder_back(alloc: Global, remainders: &[u16]) -> Option<SmallChainCoder> {
@@ -47,9 +47,10 @@ fn give_words(coder: SmallChainCoder, out: &mut [u16]) -> usize {
     }
 }
 
-/// Fills `symbols` with symbols decoded from the coder `found`, and copies the remainders to `out`, as many as fit.
+/// Fills `symbols` with symbols that the coder `found` decodes, and copies its remainders to `out`, as many as fit.
 ///
-/// Returns how many words the remainders have, or 0 if `found` is `None`, a decode fails or there is no memory.
+/// Returns the total number of words of the remainders, or 0 if `found` is `None`, if a decode fails, or if there is no
+/// memory.
 #[inline(never)]
 fn decode_out<M: DecoderModel<12, Symbol = usize>>(
     found: Option<SmallChainCoder>,
@@ -70,10 +71,10 @@ where
     }
 }
 
-/// Encodes symbols from the last to the first on the coder `found`, and copies its words to `out`, as many as fit.
+/// Encodes symbols from the last to the first with the coder `found`, and copies its words to `out`, as many as fit.
 ///
-/// The words are in binary form. Returns how many there are, or 0 if `found` is `None`, if an encode fails, or if
-/// [`give_words`] returns 0.
+/// The words are the compressed words in binary form. Returns the total number of words, or 0 if `found` is `None`, if
+/// an encode fails, or if [`give_words`] returns 0.
 #[inline(never)]
 fn encode_out<M: EncoderModel<12, Symbol = usize>>(
     found: Option<SmallChainCoder>,
@@ -112,7 +113,7 @@ pub extern "C" fn constriction_bench_chain_decode_u16u32p12_table(
     decode_out(coder_of(alloc, words), symbols, &table, out)
 }
 
-/// Encodes symbols from the last to the first onto `remainders`, with a table of weights.
+/// Encodes symbols from the last to the first with a coder of `remainders`, with a table of weights.
 ///
 /// Copies the compressed words, in binary form, to `out`, as many as fit. Returns the total number of compressed
 /// words, or 0 after a failure.
@@ -148,7 +149,7 @@ pub extern "C" fn constriction_bench_chain_decode_u16u32p12_flat(
     decode_out(coder_of(alloc, words), symbols, &flat, out)
 }
 
-/// Encodes symbols below `2^bits` from the last to the first onto `remainders`, with equal weights.
+/// Encodes symbols below `2^bits` from the last to the first with a coder of `remainders`, with equal weights.
 ///
 /// Copies the compressed words, in binary form, to `out`, as many as fit. Returns the total number of compressed
 /// words, or 0 after a failure.

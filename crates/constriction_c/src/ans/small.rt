@@ -38,7 +38,7 @@ pub extern "C" fn constriction_ans_encode_reverse_u16(
     code_of(answer, needed)
 }
 
-/// Decodes symbols with one table of weights for all symbols.
+/// Decodes symbols into `symbols`, with one table of weights for all symbols.
 ///
 /// Calls [`decode_by_weights`] and returns the code of its result ([`code_of`]).
 #[unsafe(no_mangle)]

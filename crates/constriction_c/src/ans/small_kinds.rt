@@ -41,7 +41,7 @@ pub extern "C" fn constriction_ans_encode_each_reverse_u16(
     code_of(answer, needed)
 }
 
-/// Decodes symbols with a row of `width` weights for each symbol.
+/// Decodes symbols into `symbols`, with a row of `width` weights for each symbol.
 ///
 /// Calls [`decode`] and returns the code of its result ([`code_of`]).
 #[unsafe(no_mangle)]
@@ -62,7 +62,7 @@ pub extern "C" fn constriction_ans_decode_each_u16(
     code_without_space(answer)
 }
 
-/// Encodes intervals from the last to the first. Interval `i` begins at `lefts[i]`, and its length is `ps[i]`.
+/// Encodes intervals from the last to the first. Interval `i` begins at quantile `lefts[i]` and has length `ps[i]`.
 ///
 /// Calls [`encode_intervals_reverse`] and returns the code of its result ([`code_of`]).
 #[unsafe(no_mangle)]
@@ -82,7 +82,7 @@ pub extern "C" fn constriction_ans_encode_intervals_reverse_u16(
     code_of(answer, needed)
 }
 
-/// Encodes symbols from the last to the first, each under the model of its own location and scale ([`Families`]).
+/// Encodes symbols from the last to the first, each with the model of its own location and scale ([`Families`]).
 ///
 /// Calls [`encode_reverse`] and returns the code of its result ([`code_of`]).
 #[unsafe(no_mangle)]
@@ -107,7 +107,7 @@ pub extern "C" fn constriction_ans_encode_quantized_reverse_u16(
     code_of(answer, needed)
 }
 
-/// Decodes symbols, each under the model of its own location and scale ([`Families`]).
+/// Decodes symbols into `symbols`, each with the model of its own location and scale ([`Families`]).
 ///
 /// Calls [`decode`] and returns the code of its result ([`code_of`]).
 #[unsafe(no_mangle)]
@@ -131,7 +131,7 @@ pub extern "C" fn constriction_ans_decode_quantized_u16(
     code_without_space(answer)
 }
 
-/// Encodes symbols from the last to the first, each under its own mixture of a family's distributions ([`Mixtures`]).
+/// Encodes symbols from the last to the first, each with its own mixture of a family's distributions ([`Mixtures`]).
 ///
 /// Calls [`encode_reverse`] and returns the code of its result ([`code_of`]).
 #[unsafe(no_mangle)]
@@ -160,7 +160,7 @@ pub extern "C" fn constriction_ans_encode_mixture_reverse_u16(
     code_of(answer, needed)
 }
 
-/// Decodes symbols, each under its own mixture of a family's distributions ([`Mixtures`]).
+/// Decodes symbols into `symbols`, each with its own mixture of a family's distributions ([`Mixtures`]).
 ///
 /// Calls [`decode`] and returns the code of its result ([`code_of`]).
 #[unsafe(no_mangle)]
@@ -210,7 +210,7 @@ pub extern "C" fn constriction_ans_encode_bytes_reverse_u16(
     code_of(answer, needed)
 }
 
-/// Decodes symbols of type `u8` with one table of weights for all symbols.
+/// Decodes symbols of type `u8` into `symbols`, with one table of weights for all symbols.
 ///
 /// Calls [`decode_narrow`] and returns the code of its result ([`code_of`]).
 #[unsafe(no_mangle)]
@@ -252,7 +252,7 @@ pub extern "C" fn constriction_ans_encode_shorts_reverse_u16(
     code_of(answer, needed)
 }
 
-/// Decodes symbols of type `u16` with one table of weights for all symbols.
+/// Decodes symbols of type `u16` into `symbols`, with one table of weights for all symbols.
 ///
 /// Calls [`decode_narrow`] and returns the code of its result ([`code_of`]).
 #[unsafe(no_mangle)]

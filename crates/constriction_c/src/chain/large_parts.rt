@@ -19,7 +19,7 @@ impl ChainHeadsU32 {
         }
     }
 
-    /// Makes the struct from `parts`, which a call of `constriction_calls` has set or returned.
+    /// Creates the struct from `parts`, which a call of `constriction_calls` has set or returned.
     #[inline]
     pub fn of(parts: ChainHeads<u32, u64>) -> Self
         ensures { large_heads result ≡ parts }

@@ -22,7 +22,7 @@ pub struct ChainHeadsU16 {
     pub compressed: u16,
 }
 
-/// Decodes symbols with one table of weights for all symbols.
+/// Decodes symbols into `symbols`, with one table of weights for all symbols.
 ///
 /// Calls [`decode_by_weights`] and returns the code of its result ([`code_of`]).
 #[unsafe(no_mangle)]

@@ -19,7 +19,7 @@ use constriction_calls::chain::{
 use constriction_inputs::models::{Families, Mixtures, Rows};
 use std::alloc::Global;
 
-/// Decodes symbols with a row of `width` weights for each symbol.
+/// Decodes symbols into `symbols`, with a row of `width` weights for each symbol.
 ///
 /// Calls [`decode`] and returns the code of its result ([`code_of`]).
 #[unsafe(no_mangle)]
@@ -77,7 +77,7 @@ pub extern "C" fn constriction_chain_encode_each_reverse_u16(
     code_of(answer, needed)
 }
 
-/// Encodes intervals from the last to the first. Interval `i` begins at `lefts[i]`, and its length is `ps[i]`.
+/// Encodes intervals from the last to the first. Interval `i` begins at quantile `lefts[i]` and has length `ps[i]`.
 ///
 /// Calls [`encode_intervals_reverse`] and returns the code of its result ([`code_of`]).
 #[unsafe(no_mangle)]
@@ -104,7 +104,7 @@ pub extern "C" fn constriction_chain_encode_intervals_reverse_u16(
     code_of(answer, needed)
 }
 
-/// Decodes symbols, each under the model of its own location and scale ([`Families`]).
+/// Decodes symbols into `symbols`, each with the model of its own location and scale ([`Families`]).
 ///
 /// Calls [`decode`] and returns the code of its result ([`code_of`]).
 #[unsafe(no_mangle)]
@@ -136,7 +136,7 @@ pub extern "C" fn constriction_chain_decode_quantized_u16(
     code_of(answer, needed)
 }
 
-/// Encodes symbols from the last to the first, each under the model of its own location and scale ([`Families`]).
+/// Encodes symbols from the last to the first, each with the model of its own location and scale ([`Families`]).
 ///
 /// Calls [`encode_reverse`] and returns the code of its result ([`code_of`]).
 #[unsafe(no_mangle)]
@@ -168,7 +168,7 @@ pub extern "C" fn constriction_chain_encode_quantized_reverse_u16(
     code_of(answer, needed)
 }
 
-/// Decodes symbols, each under its own mixture of a family's distributions ([`Mixtures`]).
+/// Decodes symbols into `symbols`, each with its own mixture of a family's distributions ([`Mixtures`]).
 ///
 /// Calls [`decode`] and returns the code of its result ([`code_of`]).
 #[unsafe(no_mangle)]
@@ -204,7 +204,7 @@ pub extern "C" fn constriction_chain_decode_mixture_u16(
     code_of(answer, needed)
 }
 
-/// Encodes symbols from the last to the first, each under its own mixture of a family's distributions ([`Mixtures`]).
+/// Encodes symbols from the last to the first, each with its own mixture of a family's distributions ([`Mixtures`]).
 ///
 /// Calls [`encode_reverse`] and returns the code of its result ([`code_of`]).
 #[unsafe(no_mangle)]
@@ -240,7 +240,7 @@ pub extern "C" fn constriction_chain_encode_mixture_reverse_u16(
     code_of(answer, needed)
 }
 
-/// Decodes symbols of type `u8` with one table of weights for all symbols.
+/// Decodes symbols of type `u8` into `symbols`, with one table of weights for all symbols.
 ///
 /// Calls [`decode_narrow`] and returns the code of its result ([`code_of`]).
 #[unsafe(no_mangle)]
@@ -296,7 +296,7 @@ pub extern "C" fn constriction_chain_encode_bytes_reverse_u16(
     code_of(answer, needed)
 }
 
-/// Decodes symbols of type `u16` with one table of weights for all symbols.
+/// Decodes symbols of type `u16` into `symbols`, with one table of weights for all symbols.
 ///
 /// Calls [`decode_narrow`] and returns the code of its result ([`code_of`]).
 #[unsafe(no_mangle)]

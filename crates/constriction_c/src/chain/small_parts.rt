@@ -19,7 +19,7 @@ impl ChainHeadsU16 {
         }
     }
 
-    /// Makes the struct from `parts`, which a call of `constriction_calls` has set or returned.
+    /// Creates the struct from `parts`, which a call of `constriction_calls` has set or returned.
     #[inline]
     pub fn of(parts: ChainHeads<u16, u32>) -> Self
         ensures { small_heads result ≡ parts }

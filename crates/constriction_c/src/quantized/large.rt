@@ -1,4 +1,4 @@
-//! Intervals under the models of families, and weights from counts, with 32-bit words and a precision of 24 bits.
+//! Intervals in the models of families, and weights from counts, with 32-bit words and a precision of 24 bits.
 
 ghost use Rattle.std.specs.Prelude.{map};
 ghost use Rattle.constriction_c.specs.Codes.{answer_by_code};
@@ -12,7 +12,9 @@ use constriction_inputs::quantized::counts::put_weights_of_counts;
 use constriction_inputs::quantized::intervals::intervals_of_quantized;
 use std::alloc::Global;
 
-/// Writes the interval of each symbol under the symbol's own location and scale, at a precision of 24 bits.
+/// Writes the interval of each symbol in the model with the symbol's location and scale, at a precision of 24 bits.
+///
+/// The interval of `symbols[i]` begins at quantile `lefts[i]` and has length `ps[i]`.
 ///
 /// Calls [`intervals_of_quantized`] and returns the code of its result ([`code_of`](crate::codes::code_of)).
 #[unsafe(no_mangle)]
@@ -33,7 +35,7 @@ pub extern "C" fn constriction_quantized_intervals_u32(
     code_without_space(intervals_of_quantized::<u32, 24>(&models, symbols, lefts, ps))
 }
 
-/// Writes a weight for each count, in proportion to the count apart from rounding. The weights add up to `2^24`.
+/// Writes a weight for each count, proportional to the count up to rounding. The weights add up to `2^24`.
 ///
 /// Calls [`put_weights_of_counts`] and returns the code of its result ([`code_of`](crate::codes::code_of)).
 #[unsafe(no_mangle)]

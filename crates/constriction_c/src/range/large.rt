@@ -108,7 +108,7 @@ pub extern "C" fn constriction_range_from_compressed_u32(
     0
 }
 
-/// Decodes symbols in order, with one table of weights for all symbols.
+/// Decodes symbols into `symbols`, in order, with one table of weights for all symbols.
 ///
 /// Calls [`decode_by_weights`] and returns the code of its result ([`code_of`]).
 #[unsafe(no_mangle)]

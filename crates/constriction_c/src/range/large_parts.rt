@@ -21,7 +21,7 @@ impl RangeEncoderU32 {
         }
     }
 
-    /// Makes the struct from `parts`, which a call of `constriction_calls` has set or returned.
+    /// Creates the struct from `parts`, which a call of `constriction_calls` has set or returned.
     #[inline]
     pub fn of(parts: EncoderParts<u32, u64>) -> Self
         ensures { large_encoder result ≡ parts }
@@ -49,7 +49,7 @@ impl RangeDecoderU32 {
         }
     }
 
-    /// Makes the struct from `parts`, which a call of `constriction_calls` has set or returned.
+    /// Creates the struct from `parts`, which a call of `constriction_calls` has set or returned.
     #[inline]
     pub fn of(parts: DecoderParts<u64>) -> Self
         ensures { large_decoder result ≡ parts }

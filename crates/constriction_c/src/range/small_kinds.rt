@@ -42,7 +42,7 @@ pub extern "C" fn constriction_range_encode_each_u16(
     code_of(answer, needed)
 }
 
-/// Decodes symbols in order, with a row of `width` weights for each symbol.
+/// Decodes symbols into `symbols`, in order, with a row of `width` weights for each symbol.
 ///
 /// Calls [`decode`] and returns the code of its result ([`code_of`]).
 #[unsafe(no_mangle)]
@@ -64,7 +64,7 @@ pub extern "C" fn constriction_range_decode_each_u16(
     code_without_space(answer)
 }
 
-/// Encodes intervals in order. Interval `i` begins at `lefts[i]`, and its length is `ps[i]`.
+/// Encodes intervals in order. Interval `i` begins at quantile `lefts[i]` and has length `ps[i]`.
 ///
 /// Calls [`encode_intervals`] and returns the code of its result ([`code_of`]).
 #[unsafe(no_mangle)]
@@ -86,7 +86,7 @@ pub extern "C" fn constriction_range_encode_intervals_u16(
     code_of(answer, needed)
 }
 
-/// Encodes symbols in order, each under the model of its own location and scale ([`Families`]).
+/// Encodes symbols in order, each with the model of its own location and scale ([`Families`]).
 ///
 /// Calls [`encode`] and returns the code of its result ([`code_of`]).
 #[unsafe(no_mangle)]
@@ -113,7 +113,7 @@ pub extern "C" fn constriction_range_encode_quantized_u16(
     code_of(answer, needed)
 }
 
-/// Decodes symbols in order, each under the model of its own location and scale ([`Families`]).
+/// Decodes symbols into `symbols`, in order, each with the model of its own location and scale ([`Families`]).
 ///
 /// Calls [`decode`] and returns the code of its result ([`code_of`]).
 #[unsafe(no_mangle)]
@@ -138,7 +138,7 @@ pub extern "C" fn constriction_range_decode_quantized_u16(
     code_without_space(answer)
 }
 
-/// Encodes symbols in order, each under its own mixture of a family's distributions ([`Mixtures`]).
+/// Encodes symbols in order, each with its own mixture of a family's distributions ([`Mixtures`]).
 ///
 /// Calls [`encode`] and returns the code of its result ([`code_of`]).
 #[unsafe(no_mangle)]
@@ -169,7 +169,7 @@ pub extern "C" fn constriction_range_encode_mixture_u16(
     code_of(answer, needed)
 }
 
-/// Decodes symbols in order, each under its own mixture of a family's distributions ([`Mixtures`]).
+/// Decodes symbols into `symbols`, in order, each with its own mixture of a family's distributions ([`Mixtures`]).
 ///
 /// Calls [`decode`] and returns the code of its result ([`code_of`]).
 #[unsafe(no_mangle)]
@@ -221,7 +221,7 @@ pub extern "C" fn constriction_range_encode_bytes_u16(
     code_of(answer, needed)
 }
 
-/// Decodes symbols of type `u8` in order, with one table of weights for all symbols.
+/// Decodes symbols of type `u8` into `symbols`, in order, with one table of weights for all symbols.
 ///
 /// Calls [`decode_narrow`] and returns the code of its result ([`code_of`]).
 #[unsafe(no_mangle)]
@@ -265,7 +265,7 @@ pub extern "C" fn constriction_range_encode_shorts_u16(
     code_of(answer, needed)
 }
 
-/// Decodes symbols of type `u16` in order, with one table of weights for all symbols.
+/// Decodes symbols of type `u16` into `symbols`, in order, with one table of weights for all symbols.
 ///
 /// Calls [`decode_narrow`] and returns the code of its result ([`code_of`]).
 #[unsafe(no_mangle)]

@@ -21,7 +21,7 @@ impl RangeEncoderU16 {
         }
     }
 
-    /// Makes the struct from `parts`, which a call of `constriction_calls` has set or returned.
+    /// Creates the struct from `parts`, which a call of `constriction_calls` has set or returned.
     #[inline]
     pub fn of(parts: EncoderParts<u16, u32>) -> Self
         ensures { small_encoder result ≡ parts }
@@ -49,7 +49,7 @@ impl RangeDecoderU16 {
         }
     }
 
-    /// Makes the struct from `parts`, which a call of `constriction_calls` has set or returned.
+    /// Creates the struct from `parts`, which a call of `constriction_calls` has set or returned.
     #[inline]
     pub fn of(parts: DecoderParts<u32>) -> Self
         ensures { small_decoder result ≡ parts }

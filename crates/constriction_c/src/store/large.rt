@@ -33,7 +33,7 @@ pub extern "C" fn constriction_store_build_u32(
     )
 }
 
-/// Fills `symbols` with the symbols of one chunk of a store.
+/// Decodes one chunk of a store into `symbols`.
 ///
 /// `pos`, `lower` and `range` are the chunk's numbers in the lists `positions`, `lowers` and `ranges`, as
 /// `constriction_store_build_u32` writes them.

@@ -34,7 +34,7 @@ pub extern "C" fn constriction_store_build_u16(
     )
 }
 
-/// Fills `symbols` with the symbols of one chunk of a store.
+/// Decodes one chunk of a store into `symbols`.
 ///
 /// `pos`, `lower` and `range` are the chunk's numbers in the lists `positions`, `lowers` and `ranges`, as
 /// `constriction_store_build_u16` writes them.

@@ -29,7 +29,7 @@ pub extern "C" fn constriction_exp_golomb_encode_queue_u32(
     code_of(answer, needed)
 }
 
-/// Fills `symbols` with numbers decoded from a queue of bits, with Exp-Golomb codewords.
+/// Decodes numbers into `symbols` from a queue of bits, with Exp-Golomb codewords.
 ///
 /// Calls [`decode_queue`] and returns the code of its result ([`code_of`]).
 #[unsafe(no_mangle)]
@@ -43,7 +43,7 @@ pub extern "C" fn constriction_exp_golomb_decode_queue_u32(
     code_without_space(decode_queue(alloc, &ExpGolomb::<u32>::new(), words, symbols))
 }
 
-/// Encodes numbers with Exp-Golomb codewords, from bit `bit` of `words` on.
+/// Encodes numbers in order with Exp-Golomb codewords, starting at bit `bit` of `words`.
 ///
 /// Calls [`encode_at`] and returns the code of its result ([`code_of`]).
 #[unsafe(no_mangle)]
@@ -61,7 +61,7 @@ pub extern "C" fn constriction_exp_golomb_encode_at_u32(
     code_of(answer, needed)
 }
 
-/// Decodes numbers with Exp-Golomb codewords, from bit `bit` of `words` on.
+/// Decodes numbers into `symbols` with Exp-Golomb codewords, starting at bit `bit` of `words`.
 ///
 /// Calls [`decode_at`] and returns the code of its result ([`code_of`]).
 #[unsafe(no_mangle)]

@@ -31,7 +31,7 @@ pub extern "C" fn constriction_exp_golomb_encode_stack_u32(
     code_of(answer, needed)
 }
 
-/// Fills `symbols` with numbers decoded from a stack of bits, with Exp-Golomb codewords.
+/// Decodes numbers into `symbols` from a stack of bits, with Exp-Golomb codewords.
 ///
 /// Calls [`decode_stack`] and returns the code of its result ([`code_of`]).
 #[unsafe(no_mangle)]
@@ -64,7 +64,7 @@ pub extern "C" fn constriction_huffman_encode_queue_u32(
     code_of(answer, needed)
 }
 
-/// Fills `symbols` with symbols decoded from a queue of bits, with the Huffman tree of `weights`.
+/// Decodes symbols into `symbols` from a queue of bits, with the Huffman tree of `weights`.
 ///
 /// Calls [`decode_queue`] and returns the code of its result ([`code_of`]).
 #[unsafe(no_mangle)]
@@ -80,7 +80,7 @@ pub extern "C" fn constriction_huffman_decode_queue_u32(
     code_without_space(decode_queue(alloc, &Tree { weights }, words, symbols))
 }
 
-/// Encodes symbols with the Huffman tree of the weights, from bit `bit` of `words` on.
+/// Encodes symbols in order with the Huffman tree of `weights`, starting at bit `bit` of `words`.
 ///
 /// Calls [`encode_at`] and returns the code of its result ([`code_of`]).
 #[unsafe(no_mangle)]
@@ -99,7 +99,7 @@ pub extern "C" fn constriction_huffman_encode_at_u32(
     code_of(answer, needed)
 }
 
-/// Decodes symbols with the Huffman tree of the weights, from bit `bit` of `words` on.
+/// Decodes symbols into `symbols` with the Huffman tree of `weights`, starting at bit `bit` of `words`.
 ///
 /// Calls [`decode_at`] and returns the code of its result ([`code_of`]).
 #[unsafe(no_mangle)]
@@ -135,7 +135,7 @@ pub extern "C" fn constriction_huffman_encode_stack_u32(
     code_of(answer, needed)
 }
 
-/// Fills `symbols` with symbols decoded from a stack of bits, with the Huffman tree of `weights`.
+/// Decodes symbols into `symbols` from a stack of bits, with the Huffman tree of `weights`.
 ///
 /// Calls [`decode_stack`] and returns the code of its result ([`code_of`]).
 #[unsafe(no_mangle)]

@@ -1,4 +1,4 @@
-//! Decoding symbols from a state that the caller keeps. The calls read words, and write none.
+//! Decoding symbols from a state that the caller keeps. The calls write no words.
 
 ghost use Rattle.std.specs.Prelude.{◌≡◌, ◌≤◌, ◌^◌, length, map};
 ghost use Rattle.constriction_base.specs.Models.{pairs_of};
@@ -19,14 +19,15 @@ use constriction_stream::decoding::Decode;
 use constriction_words::{BitArray, WordOf};
 use std::alloc::Global;
 
-/// Fills `symbols` with decoded symbols, each under its own model.
+/// Decodes symbols into `symbols`, each with its own model.
 ///
 /// The state is `head` and the first `len` words of `words`. The call sets `head` and `len` to the state after the
 /// decodes. The call can't fail for lack of words, because decoding from an empty state returns symbols too.
 ///
 /// # Errors
 ///
-/// `WrongLength`, `WrongInterval`, `WrongWeights` and `NoMemory`, as [`crate::ans`] lists them.
+/// The call returns `WrongLength`, `WrongInterval`, `WrongWeights` or `NoMemory`, in the cases that [`crate::ans`]
+/// lists.
 pub fn decode<
     Word: WordOf<State>,
     State: BitArray,
@@ -59,14 +60,14 @@ pub fn decode<
     Ok(())
 }
 
-/// Fills `symbols` with decoded symbols, with one table of weights for all symbols.
+/// Decodes symbols into `symbols`, with one table of weights for all symbols.
 ///
 /// For one symbol the call searches the weights. For more symbols it first builds a table. The call changes `head` and
 /// `len` as [`decode`] does.
 ///
 /// # Errors
 ///
-/// `WrongLength`, `WrongWeights` and `NoMemory`, as [`crate::ans`] lists them.
+/// The call returns `WrongLength`, `WrongWeights` or `NoMemory` in the cases that [`crate::ans`] lists.
 pub fn decode_by_weights<
     Word: WordOf<State>,
     State: BitArray,
@@ -94,13 +95,13 @@ pub fn decode_by_weights<
     decode::<Word, State, P, _, PRECISION>(alloc, head, words, len, &table, symbols)
 }
 
-/// Fills `symbols` with decoded symbols of a narrow type, with one table of weights for all symbols.
+/// Decodes symbols of a narrow type into `symbols`, with one table of weights for all symbols.
 ///
-/// The call first decodes a list of their numbers. It changes `head` and `len` as [`decode`] does.
+/// The call first decodes the symbols into a temporary list of `usize`. It changes `head` and `len` as [`decode`] does.
 ///
 /// # Errors
 ///
-/// The errors of [`decode_by_weights`]. The call also returns `WrongLength` if an index of `weights` doesn't fit `S`.
+/// The call returns the errors of [`decode_by_weights`], and `WrongLength` if an index of `weights` doesn't fit `S`.
 pub fn decode_narrow<
     Word: WordOf<State>,
     State: BitArray,
@@ -138,7 +139,7 @@ pub fn decode_narrow<
     }
 }
 
-/// Fills `symbols` with symbols decoded under a list of models. Returns the new head and the number of words left.
+/// Decodes symbols into `symbols` with a list of models. Returns the new head and the number of words left.
 #[inline(never)]
 fn decode_by<
     Word: WordOf<State>,

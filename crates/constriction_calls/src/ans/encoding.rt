@@ -21,14 +21,14 @@ use constriction_stream::encoding::Encode;
 use constriction_words::{BitArray, WordOf};
 use std::alloc::Global;
 
-/// Encodes symbols from the last to the first, each under its own model.
+/// Encodes symbols from the last to the first, each with its own model.
 ///
 /// The state is `head` and the first `len` words of `words`. The call writes new words after these, and sets `head` and
 /// `len` to the state after the encodes.
 ///
 /// # Errors
 ///
-/// All errors of [`crate::ans`] except `InvalidData`.
+/// The call returns each error that [`crate::ans`] lists, except `InvalidData`.
 pub fn encode_reverse<
     Word: WordOf<State>,
     State: BitArray,
@@ -72,11 +72,12 @@ pub fn encode_reverse<
 
 /// Encodes symbols of a narrow type from the last to the first, with one table of weights for all symbols.
 ///
-/// The call first makes a list of their numbers. It changes `head`, `words` and `len` as [`encode_reverse`] does.
+/// The call first converts the symbols to a list of `usize`. It changes `head`, `words` and `len` as [`encode_reverse`]
+/// does.
 ///
 /// # Errors
 ///
-/// The errors of [`encode_reverse`] except `WrongInterval`.
+/// The call returns the errors of [`encode_reverse`] except `WrongInterval`.
 pub fn encode_narrow_reverse<
     Word: WordOf<State>,
     State: BitArray,
@@ -112,13 +113,13 @@ pub fn encode_narrow_reverse<
     }
 }
 
-/// Encodes intervals from the last to the first. Interval `i` begins at `lefts[i]`, and its length is `ps[i]`.
+/// Encodes intervals from the last to the first. Interval `i` begins at quantile `lefts[i]` and has length `ps[i]`.
 ///
 /// The call changes `head`, `words` and `len` as [`encode_reverse`] does.
 ///
 /// # Errors
 ///
-/// `WrongLength`, `WrongInterval`, `NoSpace` and `NoMemory`, as [`crate::ans`] lists them.
+/// The call returns `WrongLength`, `WrongInterval`, `NoSpace` or `NoMemory` in the cases that [`crate::ans`] lists.
 pub fn encode_intervals_reverse<
     Word: WordOf<State>,
     State: BitArray,
@@ -147,11 +148,11 @@ pub fn encode_intervals_reverse<
     intervals_by_rows::<_, _, P, PRECISION>(alloc, head, words, len, lefts, ps)
 }
 
-/// Encodes intervals as [`encode_intervals_reverse`] does: each as symbol 1 of its own row of three weights.
+/// Encodes intervals as [`encode_intervals_reverse`] does. Encodes each as symbol 1 of its own row of three weights.
 ///
 /// # Errors
 ///
-/// The errors of [`encode_intervals_reverse`].
+/// The call returns the errors of [`encode_intervals_reverse`].
 fn intervals_by_rows<Word: WordOf<State>, State: BitArray, P: WordOf<Word>, const PRECISION: usize>(
     alloc: Global,
     head: &mut State,
@@ -180,7 +181,7 @@ fn intervals_by_rows<Word: WordOf<State>, State: BitArray, P: WordOf<Word>, cons
     }
 }
 
-/// Encodes symbols from the last to the first onto a state of `head` alone. Returns the new words and the new head.
+/// Encodes symbols from the last to the first onto a state with `head` and no words. Returns the new words and head.
 ///
 /// Returns `None` if a model has no entry for its symbol, or if there is no memory.
 #[inline]

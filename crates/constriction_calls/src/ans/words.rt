@@ -22,7 +22,7 @@ use std::alloc::Global;
 ///
 /// # Errors
 ///
-/// `InvalidData` if the last word is 0.
+/// The call returns `InvalidData` if and only if the last word is 0.
 pub fn from_compressed<Word: WordOf<State>, State: BitArray>(
     words: &[Word],
     len: &mut usize,
@@ -67,7 +67,7 @@ pub fn from_binary<Word: WordOf<State>, State: BitArray>(
 ///
 /// # Errors
 ///
-/// `WrongLength`, `NoSpace` and `NoMemory`, as [`crate::ans`] lists them.
+/// The call returns `WrongLength`, `NoSpace` or `NoMemory` in the cases that [`crate::ans`] lists.
 pub fn into_compressed<Word: WordOf<State>, State: BitArray>(
     alloc: Global,
     head: State,
@@ -94,8 +94,8 @@ pub fn into_compressed<Word: WordOf<State>, State: BitArray>(
 ///
 /// # Errors
 ///
-/// The errors of [`into_compressed`], and `InvalidData` if the bits of the head below its leading 1 don't make whole
-/// words.
+/// The call returns the errors of [`into_compressed`]. It also returns `InvalidData` if the head is 0, or if the number
+/// of bits below the head's leading 1 isn't a multiple of `Word::BITS`.
 pub fn into_binary<Word: WordOf<State>, State: BitArray>(
     alloc: Global,
     head: State,

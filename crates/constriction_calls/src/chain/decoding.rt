@@ -35,7 +35,7 @@ pub(crate) type Taking<'a, Word, State, const PRECISION: usize> = ChainCoder<
     PRECISION,
 >;
 
-/// Fills `symbols` with decoded symbols, each under its own model.
+/// Decodes symbols into `symbols`, each with its own model.
 ///
 /// The coder is `heads`, the first `compressed_len` words of `compressed`, and the first `remainders_len` words of
 /// `remainders`. The call reads these compressed words from the last to the first, and writes new words after these
@@ -43,7 +43,7 @@ pub(crate) type Taking<'a, Word, State, const PRECISION: usize> = ChainCoder<
 ///
 /// # Errors
 ///
-/// The errors of [`crate::chain`] except `ImpossibleSymbol`.
+/// The call returns each error that [`crate::chain`] lists, except `ImpossibleSymbol`.
 pub fn decode<
     Word: WordOf<State>,
     State: BitArray,
@@ -92,14 +92,14 @@ pub fn decode<
     Ok(())
 }
 
-/// Fills `symbols` with decoded symbols, with one table of weights for all symbols.
+/// Decodes symbols into `symbols`, with one table of weights for all symbols.
 ///
 /// For one symbol the call searches the weights. For more symbols it first builds a table. The call changes the coder
 /// as [`decode`] does.
 ///
 /// # Errors
 ///
-/// The errors of [`decode`] except `WrongInterval`.
+/// The call returns the errors of [`decode`] except `WrongInterval`.
 pub fn decode_by_weights<
     Word: WordOf<State>,
     State: BitArray,
@@ -150,13 +150,13 @@ pub fn decode_by_weights<
     )
 }
 
-/// Fills `symbols` with decoded symbols of a narrow type, with one table of weights for all symbols.
+/// Decodes symbols of a narrow type into `symbols`, with one table of weights for all symbols.
 ///
-/// The call first decodes a list of their numbers. It changes the coder as [`decode`] does.
+/// The call first decodes the symbols into a temporary list of `usize`. It changes the coder as [`decode`] does.
 ///
 /// # Errors
 ///
-/// The errors of [`decode_by_weights`]. The call also returns `WrongLength` if an index of `weights` doesn't fit `S`.
+/// The call returns the errors of [`decode_by_weights`], and `WrongLength` if an index of `weights` doesn't fit `S`.
 pub fn decode_narrow<
     Word: WordOf<State>,
     State: BitArray,
@@ -217,11 +217,11 @@ pub fn decode_narrow<
     }
 }
 
-/// Decodes `places.len()` symbols, each under its own model.
+/// Decodes `places.len()` symbols, each with its own model.
 ///
 /// # Errors
 ///
-/// `OutOfData` and `NoMemory`, as [`crate::chain`] lists them.
+/// The call returns `OutOfData` or `NoMemory` in the cases that [`crate::chain`] lists.
 fn take_by<
     'a,
     Word: WordOf<State>,
@@ -250,11 +250,11 @@ fn take_by<
     }
 }
 
-/// Decodes `count` symbols in order, each under its own model of the list `models`.
+/// Decodes `count` symbols in order, each with its own model of the list `models`.
 ///
 /// # Errors
 ///
-/// The errors of [`take_by`].
+/// The call returns the errors of [`take_by`].
 #[inline(never)]
 fn take_symbols<
     'a,
@@ -291,14 +291,14 @@ fn take_symbols<
     Ok(symbols)
 }
 
-/// Appends the words of remainders of `coder` to `remainders`, and sets `remainders_len`.
+/// Appends the words of the remainders of `coder` to `remainders`, and adds their number to `remainders_len`.
 ///
-/// The call also sets `heads` and `compressed_len` to the heads and the number of compressed words of `coder`.
+/// The call also sets `heads` to the heads of `coder`, and `compressed_len` to its number of compressed words.
 ///
 /// # Errors
 ///
-/// The errors of [`append`]: `NoSpace(needed)` or `NoMemory`, if `remainders` is too short. A call that fails changes
-/// nothing.
+/// The call returns the errors of [`append`]: `NoSpace(needed)` or `NoMemory`, if `remainders` is too short. A call
+/// that fails changes nothing.
 fn end_taking<'a, Word: WordOf<State>, State: BitArray, const PRECISION: usize>(
     coder: Taking<'a, Word, State, PRECISION>,
     heads: &mut ChainHeads<Word, State>,

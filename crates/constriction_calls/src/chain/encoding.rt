@@ -37,7 +37,7 @@ type Putting<'a, Word, State, const PRECISION: usize> = ChainCoder<
     PRECISION,
 >;
 
-/// Encodes symbols from the last to the first, each under its own model.
+/// Encodes symbols from the last to the first, each with its own model.
 ///
 /// The coder is `heads`, the first `compressed_len` words of `compressed`, and the first `remainders_len` words of
 /// `remainders`. The call reads these remainders from the last to the first, and writes new words after these
@@ -45,7 +45,7 @@ type Putting<'a, Word, State, const PRECISION: usize> = ChainCoder<
 ///
 /// # Errors
 ///
-/// The errors of [`crate::chain`].
+/// The call returns the errors that [`crate::chain`] lists.
 pub fn encode_reverse<
     Word: WordOf<State>,
     State: BitArray,
@@ -92,7 +92,7 @@ pub fn encode_reverse<
 ///
 /// # Errors
 ///
-/// The errors of [`encode_reverse`]. The call also returns `NoMemory` if `room` is shorter than `symbols`.
+/// The call returns the errors of [`encode_reverse`]. It also returns `NoMemory` if `room` is shorter than `symbols`.
 #[inline]
 fn encode_within<
     Word: WordOf<State>,
@@ -143,11 +143,11 @@ fn encode_within<
 
 /// Encodes symbols of a narrow type from the last to the first, with one table of weights for all symbols.
 ///
-/// The call first makes a list of their numbers. It changes the coder as [`encode_reverse`] does.
+/// The call first converts the symbols to a list of `usize`. It changes the coder as [`encode_reverse`] does.
 ///
 /// # Errors
 ///
-/// The errors of [`crate::chain`] except `WrongInterval`.
+/// The call returns each error that [`crate::chain`] lists, except `WrongInterval`.
 pub fn encode_narrow_reverse<
     Word: WordOf<State>,
     State: BitArray,
@@ -196,14 +196,14 @@ pub fn encode_narrow_reverse<
     }
 }
 
-/// Encodes intervals from the last to the first. Interval `i` begins at `lefts[i]`, and its length is `ps[i]`.
+/// Encodes intervals from the last to the first. Interval `i` begins at quantile `lefts[i]` and has length `ps[i]`.
 ///
 /// The call changes the coder as [`encode_reverse`] does.
 ///
 /// # Errors
 ///
-/// The errors of [`crate::chain`] except `WrongWeights` and `ImpossibleSymbol`. `WrongInterval` is returned if an
-/// interval is empty or ends past `2 ^ PRECISION`.
+/// The call returns each error that [`crate::chain`] lists, except `WrongWeights` and `ImpossibleSymbol`. It returns
+/// `WrongInterval` if an interval is empty or ends past `2 ^ PRECISION`.
 pub fn encode_intervals_reverse<
     Word: WordOf<State>,
     State: BitArray,
@@ -256,11 +256,11 @@ pub fn encode_intervals_reverse<
     )
 }
 
-/// Encodes intervals as [`encode_intervals_reverse`] does: each as symbol 1 of its own row of three weights.
+/// Encodes intervals as [`encode_intervals_reverse`] does. Encodes each as symbol 1 of its own row of three weights.
 ///
 /// # Errors
 ///
-/// The errors of [`encode_intervals_reverse`].
+/// The call returns the errors of [`encode_intervals_reverse`].
 fn intervals_by_rows<Word: WordOf<State>, State: BitArray, P: WordOf<Word>, const PRECISION: usize>(
     alloc: Global,
     heads: &mut ChainHeads<Word, State>,
@@ -312,13 +312,13 @@ fn intervals_by_rows<Word: WordOf<State>, State: BitArray, P: WordOf<Word>, cons
     )
 }
 
-/// Encodes symbols with `coder` from the last to the first, each under its own model.
+/// Encodes symbols with `coder` from the last to the first, each with its own model.
 ///
 /// If `is_room` is false, the call encodes no symbol and returns an error.
 ///
 /// # Errors
 ///
-/// - `ImpossibleSymbol` exactly if a model has no entry for its symbol.
+/// - `ImpossibleSymbol` if and only if a model has no entry for its symbol.
 /// - `OutOfData` if the coder needs a word of remainders, and no word is left.
 /// - `NoMemory` if there is no memory, or if `is_room` is false.
 fn put_by<
@@ -361,11 +361,11 @@ fn put_by<
     }
 }
 
-/// Encodes symbols from the last to the first, each under its own model of the list `models`.
+/// Encodes symbols from the last to the first, each with its own model of the list `models`.
 ///
 /// # Errors
 ///
-/// The errors of [`put_by`].
+/// The call returns the errors of [`put_by`].
 #[inline]
 fn put_symbols<
     'a,
@@ -462,14 +462,14 @@ fn put_in_line<
     Ok(())
 }
 
-/// Appends the compressed words of `coder` to `compressed`, and sets `compressed_len`.
+/// Appends the compressed words of `coder` to `compressed`, and adds their number to `compressed_len`.
 ///
-/// The call also sets `heads` and `remainders_len` to the heads and the number of words of remainders of `coder`.
+/// The call also sets `heads` to the heads of `coder`, and `remainders_len` to its number of words of remainders.
 ///
 /// # Errors
 ///
-/// The errors of [`append`]: `NoSpace(needed)` or `NoMemory`, if `compressed` is too short. A call that fails changes
-/// nothing.
+/// The call returns the errors of [`append`]: `NoSpace(needed)` or `NoMemory`, if `compressed` is too short. A call
+/// that fails changes nothing.
 fn end_putting<'a, Word: WordOf<State>, State: BitArray, const PRECISION: usize>(
     coder: Putting<'a, Word, State, PRECISION>,
     heads: &mut ChainHeads<Word, State>,

@@ -37,7 +37,7 @@ type Bare<Word, State, const PRECISION: usize> = ChainCoder<
 ///
 /// # Errors
 ///
-/// `InvalidData` exactly if the last word is 0, or if there are too few words for the heads.
+/// The call returns `InvalidData` if and only if the last word is 0, or there are too few words for the heads.
 pub fn from_compressed<Word: WordOf<State>, State: BitArray, const PRECISION: usize>(
     alloc: Global,
     words: &[Word],
@@ -72,7 +72,7 @@ pub fn from_compressed<Word: WordOf<State>, State: BitArray, const PRECISION: us
 ///
 /// # Errors
 ///
-/// `InvalidData` exactly if there are too few words for the heads.
+/// The call returns `InvalidData` if and only if there are too few words for the heads.
 pub fn from_binary<Word: WordOf<State>, State: BitArray, const PRECISION: usize>(
     alloc: Global,
     words: &[Word],
@@ -107,7 +107,8 @@ pub fn from_binary<Word: WordOf<State>, State: BitArray, const PRECISION: usize>
 ///
 /// # Errors
 ///
-/// `InvalidData` exactly if one of the last two words is 0, or if there are too few words for the heads.
+/// The call returns `InvalidData` if and only if one of the last two words is 0, or there are too few words for the
+/// heads.
 pub fn from_remainders<Word: WordOf<State>, State: BitArray, const PRECISION: usize>(
     alloc: Global,
     words: &[Word],
@@ -145,9 +146,9 @@ pub fn from_remainders<Word: WordOf<State>, State: BitArray, const PRECISION: us
 ///
 /// The call checks for errors in this order:
 ///
-/// - `WrongLength` exactly if `compressed_len` is past the buffer's end.
-/// - `InvalidData` exactly if no coder has these heads, or if bits are left over.
-/// - `NoSpace(needed)` if the buffer is too short. `needed` is the number of words that it has to hold.
+/// - `WrongLength` if and only if `compressed_len` is past the buffer's end.
+/// - `InvalidData` if and only if no coder has these heads, or bits are left over.
+/// - `NoSpace(needed)` if the buffer is too short. `needed` is the number of words that the buffer has to hold.
 /// - `NoMemory` if there is no memory.
 pub fn into_compressed<Word: WordOf<State>, State: BitArray, const PRECISION: usize>(
     alloc: Global,
@@ -185,8 +186,8 @@ pub fn into_compressed<Word: WordOf<State>, State: BitArray, const PRECISION: us
 ///
 /// # Errors
 ///
-/// The errors of [`into_compressed`]. `InvalidData` is also returned if the bits below that leading 1 don't make whole
-/// words.
+/// The call returns the errors of [`into_compressed`]. It also returns `InvalidData` if the number of bits below that
+/// leading 1 isn't a multiple of `Word::BITS`.
 pub fn into_binary<Word: WordOf<State>, State: BitArray, const PRECISION: usize>(
     alloc: Global,
     heads: &ChainHeads<Word, State>,
@@ -224,7 +225,7 @@ pub fn into_binary<Word: WordOf<State>, State: BitArray, const PRECISION: usize>
 ///
 /// # Errors
 ///
-/// The errors of [`into_compressed`], for the buffer of the remainders. Bits left over are no error.
+/// The call returns the errors of [`into_compressed`], for the buffer of the remainders. Bits left over are no error.
 pub fn into_remainders<Word: WordOf<State>, State: BitArray, const PRECISION: usize>(
     alloc: Global,
     heads: &ChainHeads<Word, State>,

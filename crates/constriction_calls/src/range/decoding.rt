@@ -23,7 +23,7 @@ use std::alloc::Global;
 ///
 /// # Errors
 ///
-/// - `InvalidData` if the words from the decoder's position on don't encode `count` symbols.
+/// - `InvalidData` if the words that start at the decoder's position don't encode `count` symbols.
 /// - `NoMemory` if there is no memory.
 #[inline(never)]
 pub(crate) fn take_list<
@@ -63,15 +63,15 @@ pub(crate) fn take_list<
     Ok((again, decoder))
 }
 
-/// Fills `symbols` with decoded symbols, in order, each under its own model.
+/// Decodes symbols into `symbols`, in order, each with its own model.
 ///
 /// The call sets `decoder` to the decoder after these symbols.
 ///
 /// # Errors
 ///
-/// The errors of [`crate::range`], and then:
+/// The call returns the errors of [`crate::range`], and then:
 ///
-/// - `InvalidData` if the words from the decoder's position on don't encode `symbols.len()` symbols.
+/// - `InvalidData` if the words that start at the decoder's position don't encode `symbols.len()` symbols.
 /// - `NoMemory` if there is no memory.
 pub fn decode<
     Word: WordOf<State>,
@@ -119,14 +119,14 @@ pub fn decode<
     }
 }
 
-/// Fills `symbols` with decoded symbols, in order, with one table of weights for all symbols.
+/// Decodes symbols into `symbols`, in order, with one table of weights for all symbols.
 ///
 /// For one symbol the call searches the weights. For more symbols it first builds a table. The call changes `decoder`
 /// as [`decode`] does.
 ///
 /// # Errors
 ///
-/// The errors of [`decode`] except `WrongInterval`.
+/// The call returns the errors of [`decode`] except `WrongInterval`.
 pub fn decode_by_weights<
     Word: WordOf<State>,
     State: BitArray,
@@ -153,13 +153,13 @@ pub fn decode_by_weights<
     decode::<Word, State, P, _, PRECISION>(alloc, decoder, words, &table, symbols)
 }
 
-/// Fills `symbols` with decoded symbols of a narrow type, with one table of weights for all symbols.
+/// Decodes symbols of a narrow type into `symbols`, with one table of weights for all symbols.
 ///
-/// The call first decodes a list of their numbers. It changes `decoder` as [`decode`] does.
+/// The call first decodes the symbols into a temporary list of `usize`. It changes `decoder` as [`decode`] does.
 ///
 /// # Errors
 ///
-/// The errors of [`decode_by_weights`]. The call also returns `WrongLength` if an index of `weights` doesn't fit `S`.
+/// The call returns the errors of [`decode_by_weights`], and `WrongLength` if an index of `weights` doesn't fit `S`.
 pub fn decode_narrow<
     Word: WordOf<State>,
     State: BitArray,

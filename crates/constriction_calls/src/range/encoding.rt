@@ -21,7 +21,7 @@ use constriction_stream::encoding::Encode;
 use constriction_words::{BitArray, WordOf};
 use std::alloc::Global;
 
-/// Encodes symbols in order, each under its own model of `list`. Returns the words written and the encoder's numbers.
+/// Encodes symbols in order, each with its own model of `list`. Returns the words written and the encoder's numbers.
 ///
 /// Returns `None` if a model has no entry for its symbol, or if there is no memory.
 #[inline]
@@ -134,16 +134,16 @@ fn put_by<
     put_list::<Word, State, P, G::List, PRECISION>(encoder, &mut list, symbols)
 }
 
-/// Encodes symbols in order, each under its own model.
+/// Encodes symbols in order, each with its own model.
 ///
 /// The call writes new words after the first `len` words of `buffer`, and adds the number of new words to `len`. It
 /// sets `encoder` to the encoder after these symbols.
 ///
 /// # Errors
 ///
-/// The errors of [`crate::range`], and then:
+/// The call returns the errors of [`crate::range`], and then:
 ///
-/// - `ImpossibleSymbol` exactly if a model has no entry for its symbol.
+/// - `ImpossibleSymbol` if and only if a model has no entry for its symbol.
 /// - `NoSpace(needed)` if the buffer is too short. `needed` is the number of words that it has to hold. There is one
 ///   exception: if the first `len` words and the held words alone don't fit the buffer, `needed` is the number of these
 ///   words. The call then asks for no memory.
@@ -204,11 +204,12 @@ pub fn encode<
 
 /// Encodes symbols of a narrow type in order, with one table of weights for all symbols.
 ///
-/// The call first makes a list of their numbers. It changes `encoder`, `buffer` and `len` as [`encode`] does.
+/// The call first converts the symbols to a list of `usize`. It changes `encoder`, `buffer` and `len` as [`encode`]
+/// does.
 ///
 /// # Errors
 ///
-/// The errors of [`encode`] except `WrongInterval`.
+/// The call returns the errors of [`encode`] except `WrongInterval`.
 pub fn encode_narrow<
     Word: WordOf<State>,
     State: BitArray,
@@ -249,14 +250,14 @@ pub fn encode_narrow<
     Err(Refusal::NoMemory)
 }
 
-/// Encodes intervals in order. Interval `i` begins at `lefts[i]`, and its length is `ps[i]`.
+/// Encodes intervals in order. Interval `i` begins at quantile `lefts[i]` and has length `ps[i]`.
 ///
 /// The call changes `encoder`, `buffer` and `len` as [`encode`] does.
 ///
 /// # Errors
 ///
-/// The errors of [`encode`] except `ImpossibleSymbol`. `WrongLength` is returned if the lists have different lengths,
-/// and `WrongInterval` if an interval is empty or ends past `2 ^ PRECISION`.
+/// The call returns the errors of [`encode`] except `WrongWeights` and `ImpossibleSymbol`. It returns `WrongLength` if
+/// the lists have different lengths, and `WrongInterval` if an interval is empty or ends past `2 ^ PRECISION`.
 pub fn encode_intervals<
     Word: WordOf<State>,
     State: BitArray,
@@ -285,11 +286,11 @@ pub fn encode_intervals<
     intervals_by_rows::<_, _, P, PRECISION>(alloc, encoder, buffer, len, lefts, ps)
 }
 
-/// Encodes intervals as [`encode_intervals`] does: each as symbol 1 of its own row of three weights.
+/// Encodes intervals as [`encode_intervals`] does. Encodes each as symbol 1 of its own row of three weights.
 ///
 /// # Errors
 ///
-/// The errors of [`encode_intervals`].
+/// The call returns the errors of [`encode_intervals`].
 fn intervals_by_rows<Word: WordOf<State>, State: BitArray, P: WordOf<Word>, const PRECISION: usize>(
     alloc: Global,
     encoder: &mut EncoderParts<Word, State>,

@@ -55,9 +55,9 @@ pub struct DecoderParts<State> {
     pub pos: usize,
 }
 
-/// Makes an encoder with an empty backend from the caller's numbers. The call needs no memory.
+/// Creates an encoder with an empty backend from the caller's numbers. The call needs no memory.
 ///
-/// The caller can then encode at least `count` symbols. Returns `None` exactly if no encoder has the numbers, or if
+/// The caller can then encode at least `count` symbols. Returns `None` if and only if no encoder has the numbers, or
 /// `parts.held + count` is above `2^64 - 18`.
 pub fn encoder_for<Word: WordOf<State>, State: BitArray>(
     alloc: Global,
@@ -87,7 +87,7 @@ pub fn encoder_for<Word: WordOf<State>, State: BitArray>(
     Some(RangeEncoder::from_raw_parts(Vec::new(alloc), state, situation))
 }
 
-/// Returns the words that an encoder wrote, and the numbers from which [`encoder_for`] makes the encoder again.
+/// Returns the words that an encoder wrote, and the numbers from which [`encoder_for`] creates the encoder again.
 pub fn parts_of<Word: WordOf<State>, State: BitArray>(
     encoder: RangeEncoder<Word, State, Vec<Word>>,
 ) -> (Vec<Word>, EncoderParts<Word, State>)
@@ -112,9 +112,9 @@ pub fn parts_of<Word: WordOf<State>, State: BitArray>(
 /// A range decoder that reads borrowed words.
 pub type Reading<'a, Word, State> = RangeDecoder<Word, State, Cursor<Word, &'a [Word]>>;
 
-/// Makes a decoder from the caller's numbers. The decoder next reads the word of `words` at the position `parts.pos`.
+/// Creates a decoder from the caller's numbers. The decoder next reads the word of `words` at the position `parts.pos`.
 ///
-/// Returns `None` exactly if no decoder has the numbers. The caller proves that the position isn't past the end of
+/// Returns `None` if and only if no decoder has the numbers. The caller proves that the position isn't past the end of
 /// `words`.
 pub fn decoder_of<'a, Word: WordOf<State>, State: BitArray>(
     words: &'a [Word],
@@ -139,7 +139,9 @@ pub fn decoder_of<'a, Word: WordOf<State>, State: BitArray>(
     }
 }
 
-/// Returns the numbers from which [`decoder_of`] makes a decoder again. `count` is the length of the decoder's buffer.
+/// Returns the numbers from which [`decoder_of`] creates the decoder again.
+///
+/// `count` is the length of the decoder's buffer in words.
 pub fn decoder_parts<'a, Word: WordOf<State>, State: BitArray>(
     decoder: Reading<'a, Word, State>,
     count: usize,

@@ -30,7 +30,7 @@ pub fn from_compressed<Word: WordOf<State>, State: BitArray>(words: &[Word]) -> 
 ///
 /// # Errors
 ///
-/// Checked in this order:
+/// The call checks for errors in this order:
 ///
 /// - `WrongLength` if `pos` is past the buffer's end.
 /// - `InvalidData` if `range` is below `2^(State::BITS - Word::BITS)`.
@@ -68,7 +68,7 @@ pub fn seek<Word: WordOf<State>, State: BitArray>(
 ///
 /// # Errors
 ///
-/// The errors of [`crate::range`].
+/// The call returns the errors of [`crate::range`].
 pub fn maybe_exhausted<Word: WordOf<State>, State: BitArray>(
     decoder: &DecoderParts<State>,
     words: &[Word],

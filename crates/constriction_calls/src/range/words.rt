@@ -18,10 +18,10 @@ use std::alloc::Global;
 ///
 /// # Errors
 ///
-/// The errors of [`crate::range`], and then:
+/// The call returns the errors of [`crate::range`], and then:
 ///
-/// - `NoSpace(needed)` exactly if the buffer is too short. `needed` is the number of words that the buffer has to hold.
-///   The call checks this before it asks for memory.
+/// - `NoSpace(needed)` if and only if the buffer is too short. `needed` is the number of words that the buffer has to
+///   hold. The call checks the buffer's length before it asks for memory.
 /// - `NoMemory` if there is no memory.
 pub fn into_compressed<Word: WordOf<State>, State: BitArray>(
     alloc: Global,
@@ -76,7 +76,7 @@ fn sealed_count<Word: WordOf<State>, State: BitArray>(
 ///
 /// # Errors
 ///
-/// The errors of [`into_compressed`].
+/// The call returns the errors of [`into_compressed`].
 pub fn into_self_delimited<Word: WordOf<State>, State: BitArray>(
     alloc: Global,
     encoder: &EncoderParts<Word, State>,

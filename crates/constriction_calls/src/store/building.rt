@@ -21,8 +21,8 @@ use std::alloc::Global;
 
 /// Returns whether a caller's lists have the lengths that a store needs.
 ///
-/// The sum of `lengths` has to be `symbols`, and `symbols` at most [`MOST_SYMBOLS`]. Each list of the index has to be
-/// as long as `lengths`. `positions`, `lowers` and `ranges` are the lengths of these lists.
+/// `symbols` is the number of symbols. It has to be the sum of `lengths`, and at most [`MOST_SYMBOLS`]. `positions`,
+/// `lowers` and `ranges` are the lengths of the lists of the index. Each list has to be as long as `lengths`.
 fn fit(symbols: usize, lengths: &[usize], positions: usize, lowers: usize, ranges: usize) -> bool
     ensures { IsTrue result ↔ FitStore symbols lengths.now positions lowers ranges }
 {

@@ -22,11 +22,11 @@ pub fn add_up(lengths: &[usize], count: usize) -> bool
 
 /// Cuts `symbols` into chunks in order, and returns the chunks. Chunk `i` has `lengths[i]` symbols.
 ///
-/// The caller proves that there are enough symbols.
+/// The caller proves that the sum of `lengths` is at most the number of symbols.
 ///
 /// # Errors
 ///
-/// `AllocError` if there is no memory.
+/// The call returns `AllocError` if there is no memory.
 pub fn cut(
     alloc: Global,
     symbols: &[usize],

@@ -17,7 +17,9 @@ use constriction_queue::{RangeCoderState, RangeDecoder};
 use constriction_words::{BitArray, WordOf};
 use std::alloc::Global;
 
-/// Makes a decoder of `words` at the position `place`, with the interval of `state`.
+/// Creates a decoder of `words` at the position `place`, with the interval of `state`.
+///
+/// The caller proves that the position isn't past the end of `words`.
 fn decoder_at<'a, Word: WordOf<State>, State: BitArray>(
     words: &'a [Word],
     place: usize,
@@ -40,7 +42,7 @@ fn decoder_at<'a, Word: WordOf<State>, State: BitArray>(
     }
 }
 
-/// Fills `symbols` with the symbols of one chunk of a store.
+/// Decodes one chunk of a store into `symbols`.
 ///
 /// `pos`, `lower` and `range` are the chunk's numbers in the lists `positions`, `lowers` and `ranges` of the index. The
 /// length of `symbols` is the number of symbols to decode. The call reads only the words of the chunk, and the
@@ -51,7 +53,7 @@ fn decoder_at<'a, Word: WordOf<State>, State: BitArray>(
 /// The call returns the first of these errors that applies. If the words don't encode `symbols.len()` symbols, it may
 /// return `NoMemory` in place of `InvalidData`. After an error `symbols` is unchanged.
 ///
-/// - `WrongLength`: the position is past the words.
+/// - `WrongLength`: the position is past the end of `words`.
 /// - `WrongWeights`: the weights don't add up to `2 ^ PRECISION`.
 /// - `InvalidData`: `range` is too small, or the words don't encode `symbols.len()` symbols. The call never returns
 ///   this error for a chunk of a store that `build` wrote with the same weights.

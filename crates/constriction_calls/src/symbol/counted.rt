@@ -1,4 +1,4 @@
-//! [`CountedBits`]: the bits of words from a given bit on, read one by one and counted.
+//! [`CountedBits`]: a reader of the bits of words that counts the bits that are left.
 
 ghost use Rattle.std.specs.Prelude.{◌≡◌, ◌↔◌, IsTrue, drop, length, map};
 ghost use Rattle.constriction_base.specs.Iterators.{item_of_answer};
@@ -15,9 +15,9 @@ use constriction_words::BitArray;
 use std::convert::Infallible;
 use std::marker::Model;
 
-/// The bits of words from a given bit on, with the number of bits that are left.
+/// A reader of the bits of words. It starts at a given bit, and counts the bits that are left.
 ///
-/// Contracts describe a `CountedBits` by the bits that are left.
+/// Contracts describe a `CountedBits` by the list of the bits that are left.
 #[derive(Drop)]
 pub struct CountedBits<'a, Word: BitArray> {
     bits: QueueDecoder<Word, Cursor<Word, &'a [Word]>>,
@@ -35,7 +35,7 @@ impl<'a, Word: BitArray> Model for CountedBits<'a, Word> {
 }
 
 impl<'a, Word: BitArray> CountedBits<'a, Word> {
-    /// Returns the bits of `words` from bit `bit` on. The caller proves that `words` has at least `bit` bits.
+    /// Creates a reader that starts at bit `bit` of `words`. The caller proves that `words` has at least `bit` bits.
     pub fn from(words: &'a [Word], bit: usize) -> Self
         requires { IsBit Word.BITS (length words.now) bit }
         ensures { result ≡ drop bit (bits_of_words Word.BITS (map Word.number words.now)) }

@@ -1,4 +1,4 @@
-//! Decoding symbols from words.
+//! Decoding symbols from words with codebooks.
 
 ghost use Rattle.std.specs.Prelude.{◌≡◌, IfErr, OnErr, OnOk, length, map};
 ghost use Rattle.constriction_calls.specs.SymbolBits.{TakesAtBit, symbols_at};
@@ -18,11 +18,11 @@ use constriction_symbol::reading::ReadBitStream;
 use constriction_words::BitArray;
 use std::alloc::Global;
 
-/// Fills `symbols` with symbols decoded from the words of a queue of bits. `codes` has the codebook.
+/// Decodes symbols into `symbols` from the words of a queue of bits. `codes` selects the codebook.
 ///
 /// # Errors
 ///
-/// `WrongWeights`, `OutOfData`, `InvalidData` and `NoMemory`, as [`crate::symbol`] lists them.
+/// The call returns `WrongWeights`, `OutOfData`, `InvalidData` or `NoMemory` in the cases that [`crate::symbol`] lists.
 pub fn decode_queue<Word: BitArray, C: Codes>(
     alloc: Global,
     codes: &C,
@@ -39,14 +39,16 @@ pub fn decode_queue<Word: BitArray, C: Codes>(
     read_symbols::<Queue, _, C::Decoder>(alloc, &mut decoder, &codebook, symbols)
 }
 
-/// Fills `symbols` with symbols decoded from a queue of bits, from bit `bit` of `words` on. `codes` has the codebook.
+/// Decodes symbols into `symbols` from a queue of bits, starting at bit `bit` of `words`.
 ///
-/// The call sets `bit` to the bit after the last codeword. A second call with `bit` decodes the symbols that follow,
-/// with any codebook. The result doesn't depend on the bits after the last codeword.
+/// `codes` selects the codebook. The call sets `bit` to the bit after the last codeword. Another call with the new
+/// `bit` decodes the symbols that follow, with the same or another codebook. The result doesn't depend on the bits
+/// after the last codeword.
 ///
 /// # Errors
 ///
-/// `WrongLength`, `WrongWeights`, `OutOfData`, `InvalidData` and `NoMemory`, as [`crate::symbol`] lists them.
+/// The call returns `WrongLength`, `WrongWeights`, `OutOfData`, `InvalidData` or `NoMemory` in the cases that
+/// [`crate::symbol`] lists.
 pub fn decode_at<Word: BitArray, C: Codes>(
     alloc: Global,
     codes: &C,
@@ -68,11 +70,11 @@ pub fn decode_at<Word: BitArray, C: Codes>(
     Ok(())
 }
 
-/// Fills `symbols` with symbols decoded from the words of a stack of bits. `codes` has the codebook.
+/// Decodes symbols into `symbols` from the words of a stack of bits. `codes` selects the codebook.
 ///
 /// # Errors
 ///
-/// `WrongWeights`, `OutOfData`, `InvalidData` and `NoMemory`, as [`crate::symbol`] lists them.
+/// The call returns `WrongWeights`, `OutOfData`, `InvalidData` or `NoMemory` in the cases that [`crate::symbol`] lists.
 pub fn decode_stack<Word: BitArray, C: Codes>(
     alloc: Global,
     codes: &C,
@@ -93,12 +95,12 @@ pub fn decode_stack<Word: BitArray, C: Codes>(
     read_symbols::<Stack, _, C::Decoder>(alloc, &mut decoder, &codebook, symbols)
 }
 
-/// Fills `symbols` with symbols decoded from `stream`.
+/// Decodes symbols from `stream` into `symbols`.
 ///
 /// # Errors
 ///
-/// `OutOfData`, `InvalidData` and `NoMemory`, as [`crate::symbol`] lists them. The call also returns `NoMemory` if the
-/// backend refuses a read.
+/// The call returns `OutOfData`, `InvalidData` or `NoMemory` in the cases that [`crate::symbol`] lists. It also returns
+/// `NoMemory` if the backend refuses a read.
 fn read_symbols<S: Semantics, R: ReadBitStream<S>, C: DecoderCodebook>(
     alloc: Global,
     stream: &mut R,
@@ -130,7 +132,7 @@ where
     Ok(())
 }
 
-/// Converts the error of a decode to the refusal that the caller gets.
+/// Converts the error of a decode to the error that the call returns.
 fn told_as<V: Drop, E: Drop>(error: CoderError<SymbolCodeError<V>, E>) -> Refusal
     ensures { IsToldAs error result }
 {

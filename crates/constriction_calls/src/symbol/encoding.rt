@@ -1,4 +1,4 @@
-//! Encoding symbols as words.
+//! Encoding symbols as words with codebooks.
 
 ghost use Rattle.std.specs.Prelude.{◌≡◌, ◌+◌, ◌-◌, ◌/◌, ◌<◌, ◌^◌, ◌++◌, Bool, List, length, map, take};
 ghost use Rattle.std.specs.Prelude.{IfErr, IfSome, OnErr, OnOk, OnSome};
@@ -24,12 +24,13 @@ use std::alloc::Global;
 
 /// Encodes symbols in order as a queue of bits.
 ///
-/// `codes` has the codebook. The call writes the words of the queue at the beginning of `words`, and sets `len` to the
-/// number of these words.
+/// `codes` selects the codebook. The call writes the words of the queue at the beginning of `words`, and sets `len` to
+/// the number of these words.
 ///
 /// # Errors
 ///
-/// `WrongWeights`, `ImpossibleSymbol`, `NoSpace` and `NoMemory`, as [`crate::symbol`] lists them.
+/// The call returns `WrongWeights`, `ImpossibleSymbol`, `NoSpace` or `NoMemory` in the cases that [`crate::symbol`]
+/// lists.
 pub fn encode_queue<Word: BitArray, C: Codes>(
     alloc: Global,
     codes: &C,
@@ -46,15 +47,16 @@ pub fn encode_queue<Word: BitArray, C: Codes>(
     }
 }
 
-/// Encodes symbols as a queue of bits, in order, from bit `bit` of `words` on. `codes` has the codebook.
+/// Encodes symbols in order as a queue of bits, starting at bit `bit` of `words`. `codes` selects the codebook.
 ///
 /// The call leaves all bits below `bit` unchanged, and sets `bit` to the bit after the last codeword. The other bits of
-/// the last word become 0, so the words written so far are the words of a queue. A second call with `bit` appends
-/// symbols, with any codebook.
+/// the last word become 0, so the words written so far are the words of a queue. Another call with the new `bit`
+/// appends symbols, with the same or another codebook.
 ///
 /// # Errors
 ///
-/// `WrongLength`, `WrongWeights`, `ImpossibleSymbol`, `NoSpace` and `NoMemory`, as [`crate::symbol`] lists them.
+/// The call returns `WrongLength`, `WrongWeights`, `ImpossibleSymbol`, `NoSpace` or `NoMemory` in the cases that
+/// [`crate::symbol`] lists.
 pub fn encode_at<Word: BitArray, C: Codes>(
     alloc: Global,
     codes: &C,
@@ -79,12 +81,13 @@ pub fn encode_at<Word: BitArray, C: Codes>(
 
 /// Encodes symbols from the last to the first as a stack of bits. Decoding returns them in the order of the list.
 ///
-/// `codes` has the codebook. The call writes the words of the stack at the beginning of `words`, and sets `len` to the
-/// number of these words.
+/// `codes` selects the codebook. The call writes the words of the stack at the beginning of `words`, and sets `len` to
+/// the number of these words.
 ///
 /// # Errors
 ///
-/// `WrongWeights`, `ImpossibleSymbol`, `NoSpace` and `NoMemory`, as [`crate::symbol`] lists them.
+/// The call returns `WrongWeights`, `ImpossibleSymbol`, `NoSpace` or `NoMemory` in the cases that [`crate::symbol`]
+/// lists.
 pub fn encode_stack<Word: BitArray, C: Codes>(
     alloc: Global,
     codes: &C,
@@ -152,7 +155,7 @@ fn queue_of_first<Word: BitArray>(
     Some(queue)
 }
 
-/// Encodes symbols onto the queue `begun`, and returns its words and its number of bits.
+/// Encodes symbols onto the queue `begun`. Returns the queue's words, and the number of bits in the queue.
 ///
 /// Returns `None` if the weights make no tree, if a symbol has no codeword, or if there is no memory.
 fn queue_words<Word: BitArray, C: Codes>(
@@ -210,7 +213,7 @@ fn stack_words<Word: BitArray, C: Codes>(
 ///
 /// # Errors
 ///
-/// `NoSpace(needed)` if `words` is shorter than `all`. `needed` is the length of `all`.
+/// The call returns `NoSpace(needed)` if `words` is shorter than `all`. `needed` is the length of `all`.
 pub(crate) fn put_words<Word: BitArray>(
     all: &[Word],
     words: &mut [Word],

@@ -1,4 +1,4 @@
-//! [`Tree`]: the codewords of the Huffman tree of a caller's weights.
+//! [`Tree`]: the codebook of the Huffman tree of a caller's weights.
 
 ghost use Rattle.std.specs.Prelude.{◌↔◌, ◌<◌, All, IsTrue, map};
 ghost use Rattle.constriction_calls.specs.SymbolCalls.{MakesCode, OfWeights};
@@ -10,7 +10,7 @@ use constriction_words::BitArray;
 use std::alloc::Global;
 use std::convert::Infallible;
 
-/// The weights of the symbols `0`, `1`, .. of a Huffman tree.
+/// A choice of a codebook: the Huffman tree of `weights`. Symbol `i` has the weight `weights[i]`.
 ///
 /// # Examples
 ///

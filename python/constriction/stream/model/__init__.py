@@ -1,21 +1,21 @@
-"""Models: what symbols there are, and how likely each is.
+"""Models: they assign a probability to each symbol.
 
-A coder takes a model as **weights** that add up to 2^24, one for each symbol of a range, and at least 1 for each, so
-that each can be coded. Encode and decode have to get equal weights.
+To a coder a model is a list of **weights**, one for each symbol of a range. The weights add up to 2^24. A symbol can be
+encoded if its weight is at least 1. Encoding and decoding have to use equal weights.
 
-:class:`QuantizedGaussian`, :class:`QuantizedLaplace`, :class:`QuantizedLogistic`, mixtures of them
-(:class:`QuantizedMixture`) and :class:`Categorical` round each
-float that they are given once, to a whole number; from there on C functions make the weights, in whole numbers alone,
-and these are proved. So equal floats give equal words on every machine. :class:`Bernoulli` and :class:`Uniform` take
-one sum in whole numbers, in Python. :class:`WeightTable` takes the weights themselves.
+:class:`QuantizedGaussian`, :class:`QuantizedLaplace`, :class:`QuantizedLogistic`, mixtures of these
+(:class:`QuantizedMixture`) and :class:`Categorical` round each float once, to a whole number. C functions then compute
+the weights in whole numbers alone, and these functions are proved. So equal floats give equal words on every machine.
+:class:`Bernoulli` and :class:`Uniform` compute one sum in whole numbers, in Python. :class:`WeightTable` takes the
+weights themselves.
 
-:class:`QuantizedCauchy`, :class:`Binomial`, :class:`CustomModel` and :class:`ScipyModel` compute weights in floats,
-in Python, which is no part of what is proved: the coders are, for whatever weights they get. There floats have to be
-computed alike in both places.
+:class:`QuantizedCauchy`, :class:`Binomial`, :class:`CustomModel` and :class:`ScipyModel` compute weights in floats, in
+Python. This computation isn't proved. The coders are proved for whatever weights they get. Encoder and decoder have to
+compute these floats alike.
 
-A model with all its parameters is used as it is, ``coder.encode_reverse(symbols, model)`` and ``coder.decode(model,
-amt)``. One without takes a set of parameters for each symbol, ``coder.encode_reverse(symbols, model, means, stds)``
-and ``coder.decode(model, means, stds)``.
+A model with all its parameters is used as it is: ``coder.encode_reverse(symbols, model)`` and ``coder.decode(model,
+amt)``. A model with missing parameters needs a list of each, with one value for each symbol:
+``coder.encode_reverse(symbols, model, means, stds)`` and ``coder.decode(model, means, stds)``.
 """
 
 from ._base import Model

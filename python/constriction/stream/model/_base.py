@@ -1,4 +1,4 @@
-"""What the models share: sums of weights by a growing function, or a location and a scale for each symbol."""
+"""The base of all models: sums of weights from a distribution function, or a location and a scale for each symbol."""
 
 from __future__ import annotations
 
@@ -29,10 +29,10 @@ __all__ = [
     "spread",
 ]
 
-#: How one symbol's model goes over: by where the intervals end; by a location and a scale; by a row of weights.
+#: The forms of the model of a single symbol: the ends of the intervals, a location and a scale, or a row of weights.
 ENDS, UNITS, ROW = range(3)
-#: A model that was used so many times for one symbol alone gets its sums of weights, where it has so many symbols at
-#: most.
+#: After ``_SELDOM`` calls with one symbol, a model of at most ``_MOST_ENDS`` symbols keeps its sums of weights.
+#: Before that, a model of at most ``_FEW_WEIGHTS`` symbols passes all weights.
 _SELDOM, _MOST_ENDS, _FEW_WEIGHTS = 2, 1 << 16, 64
 PRECISION = 24
 TOTAL = 1 << PRECISION
@@ -42,8 +42,7 @@ Bound = Callable[[int], int]
 
 
 class Located(NamedTuple):
-    """A family of distributions over a range of whole numbers, and for each symbol a location and a scale, in units
-    of 2^-16."""
+    """A family of distributions over a range, and a location and a scale for each symbol, in units of 2^-16."""
 
     family: int
     least: int
@@ -53,34 +52,36 @@ class Located(NamedTuple):
 
     @property
     def form(self) -> str:
-        """How models come to a coder's C functions, as a part of their names."""
+        """The part of the names of a coder's C functions that says how they take the models."""
         return "_quantized"
 
     @property
     def symbols(self) -> int:
-        """How many symbols have parameters."""
+        """The number of symbols that have parameters."""
         return len(self.scales)
 
     def part(self, which: slice) -> Located:
-        """The same for some of the symbols."""
+        """Returns the parameters of a slice of the symbols."""
         if which == slice(0, len(self.scales)):
             return self
         return self._replace(locations=self.locations[which], scales=self.scales[which])
 
     def lent(self) -> tuple[Any, ...]:
-        """All of it as C functions take it."""
+        """Returns the arguments for C functions."""
         return self.family, self.least, self.greatest, *listed(self.locations), *listed(self.scales)
 
 
 class Model:
-    """Each symbol of a range from ``first`` on has a weight. All of a model's state is plain, so it can be copied and
-    pickled."""
+    """A weight for each symbol of a range that begins at ``first``.
+
+    The state of a model consists of plain values, so a model can be copied and pickled.
+    """
 
     #: The least symbol.
     first: int = 0
-    #: The names of the parameters that come with each symbol; none where the model has all of its own.
+    #: The names of the parameters that callers pass for each symbol. There are none if the model has all parameters.
     missing: tuple[str, ...] = ()
-    #: Whether parameters are rows of weights, which the C functions look at as they are.
+    #: Whether the parameters are rows of weights for the C functions.
     has_rows = False
     _fixed: array[int] | None = None
 
@@ -91,11 +92,11 @@ class Model:
         return {name: it for name, it in vars(self).items() if name not in ("_often", "_uses")}
 
     def _said(self) -> str:
-        """The model's arguments, for ``repr``."""
+        """Returns the model's arguments, for ``repr``."""
         return ""
 
     def _compared(self) -> dict[str, Any]:
-        """What equal models have alike: all but a table that follows from the rest."""
+        """Returns the attributes that are equal for equal models. A table that follows from the others is left out."""
         return {name: it for name, it in self.__getstate__().items() if name != "_fixed"}
 
     def __repr__(self) -> str:
@@ -111,20 +112,20 @@ class Model:
 
     @property
     def size(self) -> int:
-        """How many symbols a model has that has all its parameters."""
+        """The number of symbols of a model that has all its parameters."""
         return len(self.table())
 
     @property
     def complete(self) -> bool:
-        """Whether the model has all its parameters, and takes none."""
+        """Whether the model has all its parameters, and takes no others."""
         return not self.missing
 
     def _bounds(self, parameters: tuple[Any, ...]) -> tuple[int, Bound]:
-        """How many symbols there are under these parameters, and the sum of the weights before the k-th of them."""
+        """Returns the number of symbols, and a function: the sum of the weights before symbol number ``k``."""
         raise NotImplementedError
 
     def _weights(self, parameters: tuple[Any, ...]) -> array[int]:
-        """All weights under these parameters."""
+        """Returns all weights with these parameters."""
         count, bound = self._bounds(parameters)
         ends = [bound(k) for k in range(count + 1)]
         weights = list(map(int.__sub__, ends[1:], ends))
@@ -133,7 +134,7 @@ class Model:
         return array(WORD, weights)
 
     def _interval(self, symbol: int, parameters: tuple[Any, ...]) -> tuple[int, int]:
-        """The sum of the weights before a symbol, and its weight."""
+        """Returns the sum of the weights before a symbol, and the symbol's weight."""
         count, bound = self._bounds(parameters)
         place = symbol - self.first
         if not 0 <= place < count:
@@ -144,8 +145,10 @@ class Model:
         return left, end - left
 
     def around(self, quantile: int, parameters: tuple[Any, ...]) -> tuple[int, array[int]]:
-        """The place of the symbol whose interval has this quantile, and three weights: of all before it, its own, of
-        all behind it."""
+        """Finds the symbol whose interval contains ``quantile``. Returns its index, and three weights.
+
+        These are the sum of the weights before the symbol, the symbol's weight, and the sum of the weights after it.
+        """
         count, bound = self._bounds(parameters)
         low, high, left, end = 0, count, 0, TOTAL
         while high - low > 1:
@@ -160,7 +163,7 @@ class Model:
         return low, array(WORD, (left, end - left, TOTAL - end))
 
     def table(self) -> array[int]:
-        """The weights of a model that has all its parameters. Nothing writes to them."""
+        """Returns the weights of a model that has all its parameters. No caller writes to them."""
         if self._fixed is None:
             if self.missing:
                 raise TypeError(f"the model has no {' and no '.join(self.missing)}: hand in a list of each")
@@ -168,17 +171,17 @@ class Model:
         return self._fixed
 
     def alone(self, given: tuple[Any, ...]) -> tuple[int, Any, Any] | None:
-        """How the model of one symbol goes over, or None where it goes the way of lists."""
+        """Returns the model's form for a call with one symbol, or None if the symbol has to be passed as a list."""
         if given:
             return self._alone_by(given)
         return self._often or self._first_uses()
 
     def _alone_by(self, given: tuple[Any, ...]) -> tuple[int, Any, Any] | None:
-        """The same with these parameters."""
+        """Does the same as ``alone``, with these parameters."""
         return None
 
     def _seldom(self) -> tuple[int, Any, Any] | None:
-        """The same for a model that was hardly used yet."""
+        """Does the same as ``alone``, for the first two calls with one symbol."""
         table = self.table()
         return (ROW, table, None) if len(table) <= _FEW_WEIGHTS else None
 
@@ -202,24 +205,24 @@ class Model:
             raise TypeError(f"{count} handed in, and the model {wanted}")
 
     def parameters(self, given: Sequence[Any]) -> list[tuple[Any, ...]]:
-        """The parameters of each symbol, from a list of each, or from one of each."""
+        """Returns the parameters of each symbol, from one list of values for each parameter."""
         self._known(given)
         return list(zip(*equally_long([floats_of(it) for it in given])))
 
     def is_single(self, given: Sequence[Any]) -> bool:
-        """Whether these are the parameters of one symbol alone."""
+        """Returns whether these are the parameters of a single symbol."""
         return all(map(is_one, given))
 
     def explained(self, refused: Refusal, given: Sequence[Any]) -> Refusal:
-        """The same refusal of a C function, with what of these parameters it is of."""
+        """Returns the exception of a C function. Subclasses add the parameters at fault to its text."""
         return refused
 
     def located(self, given: Sequence[Any]) -> Located | None:
-        """The parameters as C functions take them, where they make the tables themselves; else None."""
+        """Returns the parameters for C functions that make the tables themselves. Returns None for other models."""
         return None
 
     def intervals(self, symbols: Any, given: Sequence[Any]) -> tuple[array[int], array[int]]:
-        """Of each symbol the sum of the weights before it, and its weight."""
+        """Returns two lists: the sum of the weights before each symbol, and each symbol's weight."""
         one = is_one(symbols)
         sets = self.parameters([[it] for it in given] if one else given)
         listed = [whole(it) for it in listed_of(symbols)]
@@ -239,13 +242,15 @@ class Model:
         return lefts, ps
 
     def rows(self, given: Sequence[Any]) -> Iterator[tuple[array[int], int, int]]:
-        """Of a model whose parameters are rows of weights: some at a time, with the width of a row, and how many
-        rows."""
+        """Yields the rows of weights that the parameters stand for, several at a time.
+
+        Each item is the weights, the width of a row, and the number of rows.
+        """
         raise NotImplementedError
 
 
 def equally_long(lists: list[array[float]]) -> list[array[float]]:
-    """Lists of parameters, as far as they have one for each symbol."""
+    """Returns the lists of parameters. Raises WrongLengthError if their lengths differ."""
     lengths = [len(it) for it in lists]
     if any(it != lengths[0] for it in lengths):
         raise WrongLengthError(
@@ -255,14 +260,16 @@ def equally_long(lists: list[array[float]]) -> list[array[float]]:
 
 
 def shown_range(first: int, count: int, **parameters: float | None) -> str:
-    """A range and parameters as arguments."""
+    """Returns a range and parameters as the text of arguments."""
     given = [f"{name}={it!r}" for name, it in parameters.items() if it is not None]
     return ", ".join([str(first), str(first + count - 1), *given])
 
 
 def spread(count: int, share: Callable[[int], float]) -> Bound:
-    """Sums of weights that give each of so many symbols 1, and share out the rest by a growing function from 0 to
-    1."""
+    """Returns a function for the sums of weights of ``count`` symbols.
+
+    Each symbol gets a weight of 1, and ``share``, which grows from 0 to 1, shares out the rest.
+    """
     free = TOTAL - count
 
     def bound(place: int) -> int:
@@ -279,15 +286,17 @@ def spread(count: int, share: Callable[[int], float]) -> Bound:
 
 
 def sized(count: int) -> int:
-    """A number of symbols that weights can be shared out to."""
+    """Returns ``count``. Raises ValueError if weights can't be shared out to that number of symbols."""
     if not 1 <= count <= TOTAL:
         raise ValueError(f"a model has between 1 and 2^24 symbols, and not {count}")
     return count
 
 
 def ranged(least: Any, greatest: Any) -> tuple[int, int]:
-    """The least symbol of a range, and how many it has. Raises ValueError where there are none, or too many, or
-    where one is past 63 bits and a sign."""
+    """Returns the least symbol of a range, and the number of symbols.
+
+    Raises ValueError if there are no symbols or too many, or if a symbol doesn't fit 64 bits with a sign.
+    """
     first, last = whole(least), whole(greatest)
     count = sized(last - first + 1)
     if first < -(1 << 63) or last >= 1 << 63:

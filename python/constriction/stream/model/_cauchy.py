@@ -1,4 +1,4 @@
-"""Whole numbers under a distribution of floats: ``QuantizedCauchy``."""
+"""``QuantizedCauchy``: a model of whole numbers that computes weights in floats."""
 
 from __future__ import annotations
 
@@ -13,11 +13,13 @@ __all__ = ["QuantizedCauchy"]
 
 
 class QuantizedCauchy(Model):
-    """Whole numbers ``min_symbol_inclusive .. max_symbol_inclusive`` under a Cauchy distribution, half of which lies
-    within a ``scale`` of ``loc``, computed in floats.
+    """A model of the whole numbers ``min_symbol_inclusive .. max_symbol_inclusive``, with a Cauchy distribution.
 
-    Symbol ``s`` gets the distribution's share from ``s - 0.5`` to ``s + 0.5``; what lies outside goes to the two
-    ends. Where ``loc`` or ``scale`` is missing, it comes with each symbol, in this order.
+    Half of the distribution lies within ``scale`` of ``loc``. The weights are computed in floats.
+
+    Symbol ``s`` gets the probability between ``s - 0.5`` and ``s + 0.5``. The probability outside the range goes to the
+    two ends of the range. If ``loc`` or ``scale`` is missing, pass a list of values to the coder's calls, in this
+    order.
     """
 
     def __init__(
@@ -27,10 +29,10 @@ class QuantizedCauchy(Model):
         loc: Real | None = None,
         scale: Real | None = None,
     ) -> None:
-        """A model of the symbols ``min_symbol_inclusive .. max_symbol_inclusive``.
+        """Creates a model of the symbols ``min_symbol_inclusive .. max_symbol_inclusive``.
 
-        ``loc`` and ``scale`` are numbers. Where one is left out, the coder's calls hand in a list of one for each
-        symbol.
+        ``loc`` and ``scale`` are numbers. If you leave one out, pass a list with one value for each symbol to the
+        coder's calls.
         """
         self.first, self._count = ranged(min_symbol_inclusive, max_symbol_inclusive)
         self._location = None if loc is None else real(loc)

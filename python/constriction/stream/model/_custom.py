@@ -1,4 +1,4 @@
-"""Whole numbers under a function of the caller's: ``CustomModel``, ``ScipyModel``."""
+"""``CustomModel`` and ``ScipyModel``: models of whole numbers with a distribution function of the caller."""
 
 from __future__ import annotations
 
@@ -12,11 +12,12 @@ __all__ = ["CustomModel", "ScipyModel"]
 
 
 class CustomModel(Model):
-    """Whole numbers ``min_symbol_inclusive .. max_symbol_inclusive`` under a cumulative distribution function.
+    """A model of ``min_symbol_inclusive .. max_symbol_inclusive`` with the caller's distribution function.
 
-    ``cdf(x, *parameters)`` grows with ``x``, from 0 to 1. Symbol ``s`` gets what it grows by from ``s - 0.5`` to ``s
-    + 0.5``; what lies outside goes to the two ends. How many parameters it takes is told by their number at the
-    call. ``approximate_inverse_cdf`` is not looked at: it is there since the Rust crate's twin has it.
+    ``cdf(x, *parameters)`` grows with ``x``, from 0 to 1. Symbol ``s`` gets the probability between ``s - 0.5`` and ``s
+    + 0.5``. The probability outside the range goes to the two ends of the range. The number of parameters of ``cdf`` is
+    the number of lists that the coder's calls pass. ``approximate_inverse_cdf`` is ignored. It is an argument because
+    the Rust crate's package has it.
     """
 
     def __init__(
@@ -26,9 +27,9 @@ class CustomModel(Model):
         min_symbol_inclusive: SupportsIndex,
         max_symbol_inclusive: SupportsIndex,
     ) -> None:
-        """A model of the symbols ``min_symbol_inclusive .. max_symbol_inclusive`` under ``cdf``.
+        """Creates a model of the symbols ``min_symbol_inclusive .. max_symbol_inclusive``.
 
-        ``cdf`` takes a float, and behind it a float for each list of parameters that the coder's calls hand in.
+        ``cdf`` takes a float, and one more float for each list of parameters that the coder's calls pass.
         """
         if not callable(cdf):
             raise TypeError(f"a cumulative distribution function is wanted, and not a {type(cdf).__name__}")
@@ -40,7 +41,7 @@ class CustomModel(Model):
 
     @property
     def complete(self) -> bool:
-        return False  # Its function says how many parameters it takes.
+        return False  # The caller's function determines the number of parameters.
 
     def parameters(self, given: Sequence[Any]) -> list[tuple[Any, ...]]:
         return list(zip(*equally_long([floats_of(it) for it in given])))
@@ -50,8 +51,11 @@ class CustomModel(Model):
         return self._count, spread(self._count, lambda place: real(cdf(start + place, *parameters)))
 
     def _interval(self, symbol: int, parameters: tuple[Any, ...]) -> tuple[int, int]:
-        """The interval, as far as a decoder's search leads from each of its quantiles to the symbol. Where the
-        function falls, it may not."""
+        """Returns the interval of a symbol.
+
+        Raises ValueError if a decoder's search doesn't lead from each quantile of the interval to the symbol. This
+        happens only if the function falls somewhere.
+        """
         left, weight = super()._interval(symbol, parameters)
         high, bound = self._bounds(parameters)
         low = 0
@@ -70,14 +74,14 @@ class CustomModel(Model):
 
 
 class ScipyModel(CustomModel):
-    """The same by the function ``cdf`` of a distribution of ``scipy.stats``, or of anything that has one.
+    """A model like :class:`CustomModel`, with the ``cdf`` of a distribution of ``scipy.stats``.
 
-    A distribution with all its parameters is used as it is; of a family the parameters come with each symbol, in its
-    own order.
+    Any object with a method ``cdf`` can be the distribution. A distribution with all its parameters is used as it is.
+    For a family of distributions, pass a list of each parameter to the coder's calls, in the order of the family.
     """
 
     def __init__(
         self, scipy_model: Any, min_symbol_inclusive: SupportsIndex, max_symbol_inclusive: SupportsIndex
     ) -> None:
-        """A model of the symbols ``min_symbol_inclusive .. max_symbol_inclusive`` under ``scipy_model.cdf``."""
+        """Creates a model of ``min_symbol_inclusive .. max_symbol_inclusive`` with ``scipy_model.cdf``."""
         super().__init__(scipy_model.cdf, None, min_symbol_inclusive, max_symbol_inclusive)

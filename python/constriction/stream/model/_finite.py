@@ -1,4 +1,4 @@
-"""Models of symbols from 0 on, by a number or two: ``Bernoulli``, ``Uniform``, ``Binomial``."""
+"""Models of the symbols 0, 1, .. with one or two parameters: ``Bernoulli``, ``Uniform``, ``Binomial``."""
 
 from __future__ import annotations
 
@@ -18,16 +18,19 @@ __all__ = ["Bernoulli", "Binomial", "Uniform"]
 
 
 class Bernoulli(Rows):
-    """Symbols 0 and 1, where ``p`` is the probability of 1. Without it, it comes with each symbol. ``perfect`` is not
-    looked at.
+    """A model of the symbols 0 and 1. Symbol 1 has the probability ``p``.
 
-    The weight of 1 is ``p`` rounded once to a whole multiple of 2^-24, from the middle to the even one, and brought
-    between 1 and 2^24 - 1. Raises ValueError where ``p`` doesn't lie between 0 and 1.
+    If ``p`` is missing, pass a list of probabilities to the coder's calls. ``perfect`` is ignored.
+
+    The weight of 1 is ``p`` rounded once to a multiple of 2^-24, half to even, and at least 1 and at most 2^24 - 1.
+    Raises ValueError if ``p`` isn't between 0 and 1.
     """
 
     def __init__(self, p: Real | None = None, *, perfect: bool | None = None) -> None:
-        """A model of the symbols 0 and 1, where 1 has the probability ``p``; without it the coder's calls hand in a
-        list of them."""
+        """Creates a model of the symbols 0 and 1, in which 1 has the probability ``p``.
+
+        If you leave ``p`` out, pass a list of probabilities to the coder's calls.
+        """
         if p is None:
             self.missing = ("p",)
         else:
@@ -43,7 +46,7 @@ class Bernoulli(Rows):
         return ROW, array(WORD, (TOTAL - one, one)), None
 
     def rows(self, given: Sequence[Any]) -> Iterator[tuple[array[int], int, int]]:
-        """Two weights for each symbol, some at a time."""
+        """Yields two weights for each symbol, several symbols at a time."""
         self._known(given)
         ones = parts_of(floats_of(given[0]))
         for start in range(0, len(ones), ROWS_AT_A_TIME // 2):
@@ -52,7 +55,7 @@ class Bernoulli(Rows):
 
 
 def _pairs(ones: array[int]) -> array[int]:
-    """The weights of 0 and 1 behind one another, from those of 1."""
+    """Returns the weights of 0 and 1, alternately, from the weights of 1."""
     weights, numpy = room(WORD, 2 * len(ones)), numpy_module()
     if numpy is not None and len(ones):
         table = numpy.frombuffer(weights, dtype="uint32").reshape(-1, 2)
@@ -64,14 +67,19 @@ def _pairs(ones: array[int]) -> array[int]:
 
 
 class Uniform(Model):
-    """Symbols 0 .. size - 1 of equal weights, the whole part of 2^24 / size, but for the last one, which also has
-    what is left over.
+    """A model of the symbols 0 .. size - 1 with equal weights.
 
-    Without a size it comes with each symbol. Raises ValueError where it isn't between 1 and 2^24.
+    Each weight is 2^24 / size, rounded down. The last symbol's weight is greater by the remainder.
+
+    If ``size`` is missing, pass a list of sizes to the coder's calls. Raises ValueError if a size isn't between 1 and
+    2^24.
     """
 
     def __init__(self, size: SupportsIndex | None = None) -> None:
-        """A model of the symbols 0 .. size - 1; without a size the coder's calls hand in a list of them."""
+        """Creates a model of the symbols 0 .. size - 1.
+
+        If you leave ``size`` out, pass a list of sizes to the coder's calls.
+        """
         self._size = None if size is None else sized(whole(size))
         if size is None:
             self.missing = ("size",)
@@ -93,15 +101,15 @@ class Uniform(Model):
 
 
 class Binomial(Model):
-    """How many of ``n`` trials succeed, each with probability ``p``: symbols 0 .. n.
+    """A model of the number of successes in ``n`` trials with probability ``p`` each: symbols 0 .. n.
 
-    Where ``n`` or ``p`` is missing, it comes with each symbol, in this order.
+    If ``n`` or ``p`` is missing, pass a list of values to the coder's calls, in this order.
     """
 
     def __init__(self, n: SupportsIndex | None = None, p: Real | None = None) -> None:
-        """A model of the number of successes in ``n`` trials, each with probability ``p``.
+        """Creates a model of the number of successes in ``n`` trials, each with probability ``p``.
 
-        Where one is left out, the coder's calls hand in a list of one for each symbol.
+        If you leave one out, pass a list with one value for each symbol to the coder's calls.
         """
         self._n = None if n is None else whole(n)
         self._p = None if p is None else real(p)
@@ -133,7 +141,7 @@ class Binomial(Model):
 
 
 def _chance(n: int, k: int, p: float) -> float:
-    """The probability of k successes in n trials."""
+    """Returns the probability of ``k`` successes in ``n`` trials."""
     if p == 0 or p == 1:
         return 1.0 if k == n * p else 0.0
     ways: float = math.lgamma(n + 1) - math.lgamma(k + 1) - math.lgamma(n - k + 1)
@@ -141,7 +149,7 @@ def _chance(n: int, k: int, p: float) -> float:
 
 
 def _whole_float(number: Any, what: str) -> int:
-    """A whole number that may come as a float among parameters."""
+    """Converts a whole number that may be a float to an int. Raises ValueError if it isn't whole."""
     if not math.isfinite(number) or int(number) != number:
         raise ValueError(f"{what} is a whole number, and {number} isn't one")
     return int(number)

@@ -1,4 +1,4 @@
-"""Whole numbers under a mixture of distributions in whole numbers: ``QuantizedMixture``."""
+"""``QuantizedMixture``: a model of whole numbers, with a mixture of distributions that is computed in whole numbers."""
 
 from __future__ import annotations
 
@@ -17,8 +17,10 @@ __all__ = ["QuantizedMixture"]
 
 
 class Mixed(NamedTuple):
-    """A family of distributions over a range of whole numbers, and for each symbol a row of components, each with a
-    weight, a location and a scale."""
+    """A family of distributions over a range, and a row of components for each symbol.
+
+    Each component has a weight, a location and a scale.
+    """
 
     family: int
     least: int
@@ -30,16 +32,16 @@ class Mixed(NamedTuple):
 
     @property
     def form(self) -> str:
-        """How models come to a coder's C functions, as a part of their names."""
+        """The part of the names of a coder's C functions that says how they take the models."""
         return "_mixture"
 
     @property
     def symbols(self) -> int:
-        """How many symbols have parameters."""
+        """The number of symbols that have parameters."""
         return len(self.scales) // self.width
 
     def part(self, which: slice) -> Mixed:
-        """The same for some of the symbols."""
+        """Returns the parameters of a slice of the symbols."""
         if which == slice(0, self.symbols):
             return self
         rows = slice(which.start * self.width, which.stop * self.width)
@@ -48,7 +50,7 @@ class Mixed(NamedTuple):
         )  # fmt: skip
 
     def lent(self) -> tuple[Any, ...]:
-        """All of it as C functions take it."""
+        """Returns the arguments for C functions."""
         return (
             self.family, self.least, self.greatest, self.width,
             *listed(self.weights), *listed(self.locations), *listed(self.scales),
@@ -56,22 +58,23 @@ class Mixed(NamedTuple):
 
 
 class QuantizedMixture(Model):
-    """Whole numbers under a mixture of distributions of one family, with a row of components for each symbol.
+    """A model of whole numbers with a mixture of distributions of one family.
 
     ``components`` is a :class:`QuantizedGaussian`, :class:`QuantizedLaplace` or :class:`QuantizedLogistic` without
-    parameters: the family, and the range. A coder's calls hand in weights, means and scales, each of shape ``(n, K)``:
-    of each of the ``n`` symbols a row of ``K`` components. Of one symbol alone they are lists of ``K``.
+    parameters. It is the family and the range. Pass weights, means and scales to the coder's calls, each of shape ``(n,
+    K)``: a row of ``K`` components for each of the ``n`` symbols. For a single symbol pass lists of ``K`` numbers.
 
-    What lies below a place is the weighted mean of what lies below it under the components. Weights add up to more
-    than 0 and to 2 at most in each row; they are rounded to whole multiples of 2^-31, and only their proportions
-    count. Means and scales are rounded as those of the components, and all else is whole numbers, so equal parameters
-    give equal words everywhere. Raises WrongWeightsError where the weights of a row don't add up so,
-    WrongLengthError where shapes differ, and ValueError where a number isn't finite, a weight is negative, or a
-    scale isn't positive.
+    The mixture's distribution function is the weighted mean of the components' distribution functions. The weights of
+    each row add up to more than 0 and at most 2. Weights are rounded to multiples of 2^-31, and only their proportions
+    matter. Means and scales are rounded like those of the components. All later computations are in whole numbers, so
+    equal parameters give equal words on every machine.
+
+    Raises WrongWeightsError if the weights of a row have another sum, WrongLengthError if shapes differ, and ValueError
+    if a number isn't finite, a weight is negative or a scale isn't positive.
     """
 
     def __init__(self, components: _Quantized) -> None:
-        """A model of mixtures of this family over this range."""
+        """Creates a model of mixtures with the family and the range of ``components``."""
         if not isinstance(components, _Quantized) or components.missing != components._names or components.size < 2:
             raise TypeError(
                 "a mixture is made of a quantized model without parameters and of at least two symbols,"
@@ -87,19 +90,19 @@ class QuantizedMixture(Model):
 
     @property
     def size(self) -> int:
-        """How many symbols there are."""
+        """The number of symbols."""
         return self._components.size
 
     def is_single(self, given: Sequence[Any]) -> bool:
-        """Whether these are the parameters of one symbol alone."""
+        """Returns whether these are the parameters of a single symbol."""
         return all(not is_one(it) and getattr(it, "ndim", None) != 2 and _is_flat(it) for it in given)
 
     def explained(self, refused: Refusal, given: Sequence[Any]) -> Refusal:
-        """The same refusal, with the symbol whose weights don't add up."""
+        """Returns the exception with a text that names the symbol whose weights have a wrong sum."""
         return wrong_row(*grid_of(given[0])) if type(refused) is WrongWeightsError and given else refused
 
     def located(self, given: Sequence[Any]) -> Any:
-        """Weights, locations and scales as C functions take them."""
+        """Returns weights, locations and scales as arguments for C functions."""
         self._known(given)
         grids = [grid_of(it) for it in given]
         (weights, width), (locations, _), (scales, _) = grids
@@ -114,11 +117,11 @@ class QuantizedMixture(Model):
         )  # fmt: skip
 
     def table(self) -> array[int]:
-        """A mixture has no table of its own."""
+        """Raises an exception, because a mixture has no table of its own."""
         raise TypeError("a mixture has no weights and no means and no scales: hand in a row of each for each symbol")
 
 
 def _is_flat(numbers: Any) -> bool:
-    """Whether a list has numbers and no rows."""
+    """Returns whether a list has numbers, and no rows."""
     first = next(iter(listed_of(numbers)), None)
     return first is not None and is_one(first)

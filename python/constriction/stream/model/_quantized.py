@@ -1,5 +1,7 @@
-"""Whole numbers under a distribution in whole numbers: ``QuantizedGaussian``, ``QuantizedLaplace``,
-``QuantizedLogistic``."""
+"""``QuantizedGaussian``, ``QuantizedLaplace`` and ``QuantizedLogistic``.
+
+These models of whole numbers have distributions that are computed in whole numbers.
+"""
 
 from __future__ import annotations
 
@@ -15,18 +17,20 @@ from ._base import TOTAL, UNITS, Bound, Located, Model, equally_long, ranged, sh
 
 __all__ = ["QuantizedGaussian", "QuantizedLaplace", "QuantizedLogistic"]
 
-#: The C functions take symbols of so many bits.
+#: The C functions take ranges from -2^31 to below 2^31.
 _SYMBOLS = 1 << 31
-#: A table is asked for so many weights at a time.
+#: The number of weights that one call computes for a table.
 _WEIGHTS_AT_A_TIME = 1 << 16
 
 
 class _Quantized(Model):
-    """Symbol ``s`` gets the distribution's share from ``s - 0.5`` to ``s + 0.5``; what lies outside goes to the two
-    ends.
+    """The base of the models with a location and a scale.
 
-    The C functions make the tables, out of whole numbers: location and scale in units of 2^-16, to which floats are
-    rounded once, the scale to 1 unit at least and 2^32 - 1 at most.
+    Symbol ``s`` gets the probability between ``s - 0.5`` and ``s + 0.5``. The probability outside the range goes to the
+    two ends of the range.
+
+    The C functions make the tables from a location and a scale in units of 2^-16. Floats are rounded to these units
+    once. A scale is at least 1 and at most 2^32 - 1 units.
     """
 
     _family: int
@@ -36,14 +40,14 @@ class _Quantized(Model):
 
     def _make(self, least: SupportsIndex, greatest: SupportsIndex, location: Real | None, scale: Real | None) -> None:
         self.first, self._count = ranged(least, greatest)
-        # A range that the C functions don't take is moved towards 0 by the nearest number that is a float, and
-        # locations with it.
+        # A range that the C functions don't take is moved towards 0, by a number that is exact as a float. The
+        # locations are moved by the same number.
         origin = 0 if self._fits(self.first) else int(float(self.first))
         moved = self.first - origin
         self._least, self._origin = moved if self._fits(moved) else 0, float(origin)
         given = zip(self._names, (location, scale))
         self.missing = tuple(name for name, it in given if it is None)
-        # The model's own parameters, in units. A table of them is made where it is first asked for.
+        # The model's own parameters, in units. The first call that needs the table makes it.
         name, other = self._names
         self._own_location = (
             None if location is None else self._units_of_locations(name, array(NUMBER, (real(location),)))[0]
@@ -51,7 +55,7 @@ class _Quantized(Model):
         self._own_scale = None if scale is None else scales_of(other, array(NUMBER, (real(scale),)))[0]
 
     def _said(self) -> str:
-        """Parameters as they were rounded."""
+        """Returns the parameters, rounded, as the text of arguments."""
         (name, other), location, scale = self._names, self._own_location, self._own_scale
         given = {
             name: None if location is None else location / UNITS_OF_ONE + self._origin,
@@ -63,11 +67,11 @@ class _Quantized(Model):
         return locations_of(name, moved(locations, self._origin))
 
     def _fits(self, first: int) -> bool:
-        """Whether the C functions take so many symbols from this one on."""
+        """Returns whether the C functions accept a range of this size that begins at ``first``."""
         return -_SYMBOLS <= first and first + self._count <= _SYMBOLS
 
     def _located(self, given: Sequence[Any]) -> Located:
-        """Locations and scales, of the parameters given and of the model's own."""
+        """Returns locations and scales, from the given parameters and the model's own parameters."""
         self._known(given)
         lists = equally_long([floats_of(it) for it in given])
         count, (name, other) = len(lists[0]) if lists else 1, self._names
@@ -80,7 +84,7 @@ class _Quantized(Model):
 
     @property
     def size(self) -> int:
-        """How many symbols there are."""
+        """The number of symbols."""
         return self._count
 
     def _seldom(self) -> tuple[int, Any, Any] | None:
@@ -91,7 +95,10 @@ class _Quantized(Model):
         )
 
     def _alone_by(self, given: tuple[Any, ...]) -> tuple[int, Any, Any] | None:
-        """A location and a scale in units. None where one is no plain number, or isn't within the bounds."""
+        """Returns a location and a scale in units.
+
+        Returns None if one isn't a plain number, or isn't within the bounds.
+        """
         if len(given) != len(self.missing) or self._count == 1:
             return None
         location, scale, last = self._own_location, self._own_scale, given[-1]
@@ -109,7 +116,10 @@ class _Quantized(Model):
         return list(zip(it.locations, it.scales))
 
     def _bounds(self, parameters: tuple[Any, ...]) -> tuple[int, Bound]:
-        """Of one symbol, which has all. Tables of more are the C functions' own."""
+        """Returns the bounds of a model with one symbol, which has the whole weight.
+
+        The C functions make the tables of models with more symbols.
+        """
         assert self._count == 1
         return 1, lambda place: TOTAL if place else 0
 
@@ -129,16 +139,18 @@ class _Quantized(Model):
 
 
 class QuantizedGaussian(_Quantized):
-    """Whole numbers ``min_symbol_inclusive .. max_symbol_inclusive`` under a normal distribution.
+    """A model of the whole numbers ``min_symbol_inclusive .. max_symbol_inclusive``, with a normal distribution.
 
-    Symbol ``s`` gets the distribution's share from ``s - 0.5`` to ``s + 0.5``; what lies outside goes to the two
-    ends, and each symbol has a weight of 1 at least. Where ``mean`` or ``std`` is missing, it comes with each symbol,
-    in this order.
+    Symbol ``s`` gets the probability between ``s - 0.5`` and ``s + 0.5``. The probability outside the range goes to the
+    two ends of the range. Each symbol has a weight of at least 1. If ``mean`` or ``std`` is missing, pass a list of
+    values to the coder's calls, in this order.
 
-    Mean and deviation are rounded to whole multiples of 2^-16, from the middle to the even one; a deviation below
-    2^-16 counts as 2^-16, and one from 65536 on as 65536 - 2^-16. All else is whole numbers, so equal parameters give
-    equal words everywhere. Raises ValueError where the mean isn't finite, the deviation not positive and finite, or
-    the range has no symbol or more than 2^24.
+    The mean and the deviation are rounded to multiples of 2^-16, half to even. A deviation is at least 2^-16 and at
+    most 65536 - 2^-16: others are set to these bounds. All later computations are in whole numbers, so equal parameters
+    give equal words on every machine.
+
+    Raises ValueError if the mean isn't finite, if the deviation isn't positive and finite, or if the range has no
+    symbol or more than 2^24 symbols.
     """
 
     _family = 0
@@ -151,16 +163,19 @@ class QuantizedGaussian(_Quantized):
         mean: Real | None = None,
         std: Real | None = None,
     ) -> None:
-        """A model of the symbols ``min_symbol_inclusive .. max_symbol_inclusive``.
+        """Creates a model of the symbols ``min_symbol_inclusive .. max_symbol_inclusive``.
 
-        ``mean`` and ``std`` are numbers. Where one is left out, the coder's calls hand in a list of one for each
-        symbol.
+        ``mean`` and ``std`` are numbers. If you leave one out, pass a list with one value for each symbol to the
+        coder's calls.
         """
         self._make(min_symbol_inclusive, max_symbol_inclusive, mean, std)
 
 
 class QuantizedLaplace(_Quantized):
-    """The same under a Laplace distribution, whose density falls by ``e`` a ``scale`` off the ``mean``."""
+    """A model like :class:`QuantizedGaussian`, with a Laplace distribution.
+
+    At the distance ``scale`` from ``mean``, the density has fallen by the factor ``1 / e``.
+    """
 
     _family = 1
     _names = ("mean", "scale")
@@ -172,16 +187,19 @@ class QuantizedLaplace(_Quantized):
         mean: Real | None = None,
         scale: Real | None = None,
     ) -> None:
-        """A model of the symbols ``min_symbol_inclusive .. max_symbol_inclusive``.
+        """Creates a model of the symbols ``min_symbol_inclusive .. max_symbol_inclusive``.
 
-        ``mean`` and ``scale`` are numbers. Where one is left out, the coder's calls hand in a list of one for each
-        symbol.
+        ``mean`` and ``scale`` are numbers. If you leave one out, pass a list with one value for each symbol to the
+        coder's calls.
         """
         self._make(min_symbol_inclusive, max_symbol_inclusive, mean, scale)
 
 
 class QuantizedLogistic(_Quantized):
-    """The same under a logistic distribution: below ``x`` lies ``1 / (1 + exp(-(x - mean) / scale))``."""
+    """A model like :class:`QuantizedGaussian`, with a logistic distribution.
+
+    Its distribution function is ``1 / (1 + exp(-(x - mean) / scale))``.
+    """
 
     _family = 2
     _names = ("mean", "scale")
@@ -193,9 +211,9 @@ class QuantizedLogistic(_Quantized):
         mean: Real | None = None,
         scale: Real | None = None,
     ) -> None:
-        """A model of the symbols ``min_symbol_inclusive .. max_symbol_inclusive``.
+        """Creates a model of the symbols ``min_symbol_inclusive .. max_symbol_inclusive``.
 
-        ``mean`` and ``scale`` are numbers. Where one is left out, the coder's calls hand in a list of one for each
-        symbol.
+        ``mean`` and ``scale`` are numbers. If you leave one out, pass a list with one value for each symbol to the
+        coder's calls.
         """
         self._make(min_symbol_inclusive, max_symbol_inclusive, mean, scale)

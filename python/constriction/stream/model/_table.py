@@ -1,4 +1,4 @@
-"""Models by a row of weights: ``WeightTable``, by the weights themselves; ``Categorical``, by probabilities."""
+"""Models with a row of weights: ``WeightTable`` takes the weights, and ``Categorical`` takes probabilities."""
 
 from __future__ import annotations
 
@@ -18,12 +18,12 @@ __all__ = ["ROWS_AT_A_TIME", "Categorical", "Rows", "WeightTable"]
 _INT = frozenset((int,))
 #: The formats of memory that holds whole numbers.
 _WHOLE_FORMATS = frozenset("bBhHiIlLqQ")
-#: Rows of weights are handed over so many weights at a time.
+#: The greatest number of weights in the rows that one call gets, if a row isn't longer.
 ROWS_AT_A_TIME = 1 << 16
 
 
 class Rows(Model):
-    """Symbols 0, 1, .. by a row of weights, which is the model's own or comes with each symbol."""
+    """Symbols 0, 1, .. with a row of weights. The row belongs to the model, or comes with each symbol."""
 
     has_rows = True
 
@@ -31,13 +31,13 @@ class Rows(Model):
         return self.__getstate__()
 
     def _said(self) -> str:
-        """The weights of the symbols."""
+        """Returns the weights of the symbols as text."""
         if self._fixed is None:
             return ""
         return str(self._fixed.tolist()) if len(self._fixed) <= 8 else f"<{len(self._fixed)} weights>"
 
     def _row(self, numbers: Any) -> array[int]:
-        """The weights that a list of parameters stands for."""
+        """Returns the weights that a list of parameters stands for."""
         raise NotImplementedError
 
     def _alone_by(self, given: tuple[Any, ...]) -> tuple[int, Any, Any] | None:
@@ -47,7 +47,7 @@ class Rows(Model):
         return (ROW, row, None) if len(row) else None
 
     def rows(self, given: Sequence[Any]) -> Iterator[tuple[array[int], int, int]]:
-        """Rows one behind another, as far as they are equally long and not too many."""
+        """Yields several rows of equal width at a time: their weights, the width, and the number of rows."""
         self._known(given)
         packed: array[int] = array(WORD)
         width = 0
@@ -57,21 +57,24 @@ class Rows(Model):
                 packed = array(WORD)
             width = len(row)
             if not width:
-                yield row, 1, 1  # A row of no weights, which a call refuses.
+                yield row, 1, 1  # A row without weights. The C function refuses it.
             packed += row
         if packed:
             yield packed, width, len(packed) // width
 
 
 class WeightTable(Rows):
-    """Whole numbers that add up to 2^24: symbol 0 has the first, symbol 1 the next, .. They are copied.
+    """A model with the caller's weights: symbol 0 has the first weight, symbol 1 the next, and so on.
 
-    Without weights they come as a row for each symbol.
+    The weights are whole numbers that add up to 2^24. The model copies them. If the weights are missing, pass a row of
+    weights for each symbol to the coder's calls.
     """
 
     def __init__(self, weights: List | None = None) -> None:
-        """A model by its weights, whole numbers that add up to 2^24; without them the coder's calls hand in a row
-        for each symbol."""
+        """Creates a model with these weights: whole numbers that add up to 2^24.
+
+        If you leave them out, pass a row of weights for each symbol to the coder's calls.
+        """
         if weights is None:
             self.missing = ("weights",)
         else:
@@ -82,30 +85,33 @@ class WeightTable(Rows):
             try:
                 return array(WORD, numbers)
             except OverflowError:
-                pass  # The other way says which weight it is.
+                pass  # `words_of` raises an exception that names the weight.
         return words_of(numbers, "weight", WrongWeightsError)
 
 
 class Categorical(Rows):
-    """Symbols 0, 1, .. of these probabilities, or of counts: of them all only the proportions matter.
+    """A model of the symbols 0, 1, .. with these probabilities or counts. Only their proportions matter.
 
-    Whole numbers below 2^64 are taken as they are. Others are rounded once, to a whole multiple of 2^-62 times the
-    power of two above the greatest one, and one such multiple at least, so that a symbol of probability 0 can be
-    coded too; a count of 0 is made as small a share. All else is whole numbers: each symbol has
-    a weight of 1 at least, the others share the rest of 2^24 in proportion, and what rounding leaves goes to the
-    largest remainders, of equal ones to the first. Raises ValueError where there is no probability above 0, one that
-    is negative or not finite, or more than 2^24.
+    Whole numbers below 2^64 aren't rounded. Other numbers are rounded once, to a multiple of 2^-62 times the power of
+    two above the greatest number, and to at least one such multiple. So a symbol with the probability 0 can be encoded
+    too. A count of 0 gets an equally small share.
 
-    Without probabilities they come as a row for each symbol. ``perfect`` and ``lazy``, by which the Rust crate's
-    package chooses how to round, are not looked at.
+    All later computations are in whole numbers. Each symbol gets a weight of at least 1, and the others share the rest
+    of 2^24 in proportion. Shares are rounded by the largest remainders, and ties go to the first symbol.
+
+    Raises ValueError if no probability is above 0, if a probability is negative or not finite, or if there are more
+    than 2^24 probabilities.
+
+    If the probabilities are missing, pass a row for each symbol to the coder's calls. ``perfect`` and ``lazy`` are
+    ignored. In the Rust crate's package they choose how to round.
     """
 
     def __init__(
         self, probabilities: Reals | None = None, *, perfect: bool | None = None, lazy: bool | None = None
     ) -> None:
-        """A model by probabilities or counts, of which only the proportions matter.
+        """Creates a model with probabilities or counts. Only their proportions matter.
 
-        Without them the coder's calls hand in a row for each symbol. ``perfect`` and ``lazy`` change nothing.
+        If you leave them out, pass a row for each symbol to the coder's calls. ``perfect`` and ``lazy`` are ignored.
         """
         if probabilities is None:
             self.missing = ("probabilities",)
@@ -123,7 +129,7 @@ class Categorical(Rows):
         return weights
 
     def rows(self, given: Sequence[Any]) -> Iterator[tuple[array[int], int, int]]:
-        """The same; those of an array of numpy are rounded together."""
+        """Does the same as ``Rows.rows``. Rounds the rows of a numpy array together."""
         table = table_of(given[0]) if len(given) == 1 else None
         if table is None or not self.missing:
             yield from super().rows(given)
@@ -134,7 +140,7 @@ class Categorical(Rows):
             some = table[start : start + size]
             counts = counts_of_rows(some)
             if counts is None:
-                yield from super().rows((some,))  # It says which probability is wrong.
+                yield from super().rows((some,))  # This raises an exception that names the probability.
                 continue
             weights = room(WORD, len(counts))
             at, to = counts.buffer_info()[0], weights.buffer_info()[0]
@@ -144,7 +150,7 @@ class Categorical(Rows):
 
 
 def _are_whole(numbers: Any) -> bool:
-    """Whether all of a list are whole numbers, by their types."""
+    """Returns whether all items of a list are whole numbers, by their types."""
     kind = getattr(numbers, "dtype", None)
     if kind is not None:
         return getattr(kind, "kind", "") in "iub" and getattr(numbers, "ndim", 0) == 1
