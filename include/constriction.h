@@ -230,7 +230,7 @@ struct constriction_range_encoder_state_u32 {
     uint64_t lower; /* the lower end of the interval, modulo 2^64 */
     uint64_t range; /* the length of the interval, at least 2^32 */
     size_t held;    /* the number of words held back */
-    uint32_t first; /* the first held word, or 0 if there is none; in the other held words all bits are 1 */
+    uint32_t first; /* the first pending word, or 0 if there is none; in the other pending words all bits are 1 */
 };
 
 /* The numbers of a decoder. Its words are in the caller's buffer. */
@@ -639,7 +639,7 @@ struct constriction_range_encoder_state_u16 {
     uint32_t lower; /* the lower end of the interval, modulo 2^32 */
     uint32_t range; /* the length of the interval, at least 2^16 */
     size_t held;    /* the number of words held back */
-    uint16_t first; /* the first held word, or 0 if there is none; in the other held words all bits are 1 */
+    uint16_t first; /* the first pending word, or 0 if there is none; in the other pending words all bits are 1 */
 };
 
 /* The numbers of a decoder. Its words are in the caller's buffer. */

@@ -35,7 +35,7 @@ pub fn asks_for_one<Word, B: WriteWords<Word>>(backend: &mut B) -> Result<(), B:
     }
 }
 
-/// Seeks to `place` in a vector. Succeeds exactly if `place` is at most the vector's length.
+/// Seeks to `place` in a vector. Succeeds if and only if `place` is at most the vector's length.
 ///
 /// An error leaves the vector unchanged.
 pub fn vector_goes<A: Allocator>(words: &mut Vec<u32, A>, place: usize) -> Result<(), ()>
@@ -48,7 +48,7 @@ pub fn vector_goes<A: Allocator>(words: &mut Vec<u32, A>, place: usize) -> Resul
     }
 }
 
-/// Seeks to `place` in a cursor. Succeeds exactly if `place` is at most the buffer's length.
+/// Seeks to `place` in a cursor. Succeeds if and only if `place` is at most the buffer's length.
 ///
 /// An error leaves the cursor unchanged.
 pub fn cursor_goes(words: &mut Cursor<u32, &[u32]>, place: usize) -> Result<(), ()>

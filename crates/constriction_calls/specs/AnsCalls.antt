@@ -103,7 +103,7 @@ AnsTakesByWeights word state precision number weights words head len new_head ne
 
 -- ---- words
 -- The contract of an import call. It makes the state `makes` of the caller's words, of which the last is on top.
--- `InvalidData` comes exactly if the words don't have the property `holds`.
+-- `InvalidData` comes if and only if the words don't have the property `holds`.
 pub record AnsImports {Word State : Type 0} (number : Word → ℕ) (state : State → ℕ) (makes : List ℕ → AnsState) (holds : List ℕ → Type 0)
     (old new : AnsKept Word State) (answer : Result (Unit {0}) Refusal) : Type 0 where
   pub made : OnOk answer (state_kept number state new ≡ makes (map number (reverse old.words)))

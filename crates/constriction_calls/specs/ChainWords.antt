@@ -40,7 +40,7 @@ pub record HeadsOver (Word State : Type 0) : Type 0 where
   pub heads : ChainHeads Word State
   pub len : ℕ
 
--- The contract of an import call. `InvalidData` comes exactly if the words are those of no coder in this form.
+-- The contract of an import call. `InvalidData` comes if and only if the words are those of no coder in this form.
 pub record ChainBegins {Word State : Type 0} (number : Word → ℕ) (state : State → ℕ) (w s P : ℕ) (form : Form) (words : List Word)
     (old new : HeadsOver Word State) (answer : Result (Unit {0}) Refusal) : Type 0 where
   pub begun : OnOk answer (Begins form w s P (map number (reverse words)) (heads_over number state form new.heads words new.len))

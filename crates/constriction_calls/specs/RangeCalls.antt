@@ -19,15 +19,15 @@ use Rattle.constriction_calls.specs.declared.range.parts.EncoderParts.{EncoderPa
 use Rattle.constriction_calls.specs.declared.range.parts.DecoderParts.{DecoderParts}
 
 -- ---- encoders
--- The words that an encoder holds back, the last one first. The first held word is `first`.
--- In every later held word all bits are 1.
+-- The words that an encoder holds back, the last one first. The first pending word is `first`.
+-- In every later pending word all bits are 1.
 abbrev pub kept_words : ℕ → ℕ → ℕ → List ℕ
 kept_words w zero first = []
 kept_words w (suc count) first = words_held (2 ^ w - 1) (suc count) first
 
--- The number of held words and the first of them fit the interval. Without held words, `first` is 0, and the interval
--- ends below 2^s. With held words, the interval reaches 2^s, and adding a carry to `first` doesn't overflow. Then the
--- number of held words plus 17 is below 2^64, so that the words of a seal can be counted too.
+-- The number of pending words and the first of them fit the interval. Without pending words, `first` is 0, and the
+-- interval ends below 2^s. With pending words, the interval reaches 2^s, and adding a carry to `first` doesn't overflow.
+-- Then the number of pending words plus 17 is below 2^64, so that the words of a seal can be counted too.
 abbrev pub KeptFit : ℕ → ℕ → ℕ → ℕ → ℕ → ℕ → Type 0
 KeptFit w s zero first lower range = (first ≡ 0) × (lower + range < 2 ^ s)
 KeptFit w s (suc count) first lower range =
@@ -37,7 +37,7 @@ KeptFit w s (suc count) first lower range =
 pub record IsEncoderKept {Word State : Type 0} (number : Word → ℕ) (state : State → ℕ) (w s : ℕ) (e : EncoderParts Word State) : Type 0 where
   -- The interval is at least 2^(s - w) long.
   pub least : 2 ^ (s - w) ≤ state e.range
-  -- The held words fit the interval.
+  -- The pending words fit the interval.
   pub fit : KeptFit w s e.held (number e.first) (state e.lower) (state e.range)
 
 -- The run of an encoder that has written the words `written`.
@@ -47,7 +47,7 @@ run_kept number state w s e written =
     run_of w s (kept_words w e.held (number e.first) ++ map number (reverse written)) (state e.lower) (state e.range)
 
 -- The numbers are those of an encoder that can encode `count` more symbols.
--- Even if each symbol adds a held word, the number of held words plus 17 stays below 2^64.
+-- Even if each symbol adds a pending word, the number of pending words plus 17 stays below 2^64.
 pub record CanEncode {Word State : Type 0} (number : Word → ℕ) (state : State → ℕ) (w s : ℕ) (e : EncoderParts Word State) (count : ℕ) : Type 0 where
   pub is : IsEncoderKept number state w s e
   pub few : e.held + count + 17 < 2 ^ 64
@@ -95,7 +95,7 @@ pub record RangePuts {Word State : Type 0} (number : Word → ℕ) (state : Stat
   -- The call encodes the items in order.
   pub put : OnOk answer (IsEncodedBy number state w s (items precision (coded symbols)) old.encoder old.words old.len new.encoder new.words new.len)
   -- The call checks in this order: the words in use are within the buffer, the arguments make models, the encoder can
-  -- count the symbols, each model has an entry for its symbol, and the buffer can hold the words in use and held words.
+  -- count the symbols, each model has an entry for its symbol, and the buffer can hold the words in use and pending words.
   pub asked : Asks WrongLength (old.len ≤ length old.words) (AsksFit precision (coded symbols)
       (Asks InvalidData (CanEncode number state w s old.encoder (length symbols)) (Asks ImpossibleSymbol (AreKnown (items precision (coded symbols)))
       (Asks (NoSpace (count_needed (old.len + old.encoder.held))) (old.len + old.encoder.held ≤ length old.words)

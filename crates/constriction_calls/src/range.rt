@@ -18,7 +18,7 @@
 //! - `WrongLength`, `WrongInterval` or `WrongWeights` if and only if the call takes models, and
 //!   [`constriction_inputs::models::Models::check`] returns the error.
 //! - `InvalidData` if and only if no encoder or decoder has the numbers that the caller passes for it, or the number of
-//!   held words plus the number of symbols to encode is above `2^64 - 18`.
+//!   pending words plus the number of symbols to encode is above `2^64 - 18`.
 //!
 //! The errors that a call itself documents come after these.
 

@@ -47,8 +47,8 @@ abbrev pub seal_number : ℕ → ℕ → Run → ℕ
 seal_number w s r = (r.low + (2 ^ (s - w) - 1)) / 2 ^ (s - w)
 
 -- The words that an encoder exports for a run, in writing order. If no symbol was coded, these are the words moved out
--- so far. Otherwise they are the digits of `n`, which is `seal_number`, in base `2 ^ w`. A zero word follows exactly if
--- `(n + 1) * 2 ^ (s - w)` is above the end of the interval, `low + range`.
+-- so far. Otherwise they are the digits of `n`, which is `seal_number`, in base `2 ^ w`. A zero word follows if and
+-- only if `(n + 1) * 2 ^ (s - w)` is above the end of the interval, `low + range`.
 abbrev pub sealed : ℕ → ℕ → Run → List ℕ
 sealed w s r =
     if r.range == 2 ^ s - 1 then fixed_digits (2 ^ w) r.moves (r.low / 2 ^ s)

@@ -3,12 +3,12 @@
 //! Besides the acts of `constriction_scripts::putting`, the interpreter runs these acts:
 //!
 //! - `clear` clears the encoder. `of` makes an encoder over words. `parts` makes an encoder from an interval, a number
-//!   of held words, the first held word, and words. `again` takes the encoder apart and puts it together again.
+//!   of pending words, the first pending word, and words. `again` takes the encoder apart and puts it together again.
 //! - `sealed` compares the sealed words that an iterator returns, `shown` compares those that a guard lends, and `lent`
 //!   compares those that `with_compressed` lends.
 //! - `export` compares the words that `into_compressed` returns, and `delimited` compares the words that
 //!   `into_self_delimited` returns. Both leave a new encoder.
-//! - `written` compares the words written. `held` compares the number of held words and the first held word. `at`
+//! - `written` compares the words written. `held` compares the number of pending words and the first pending word. `at`
 //!   compares the position: a place and an interval. `sizes` compares the numbers of words and bits. `left` compares
 //!   the number of symbols that the encoder can still encode. `empty` checks that the encoder is empty.
 //! - `decoded` decodes symbols with a decoder that borrows the encoder, and `ended` also checks that the decoder may be
@@ -218,7 +218,7 @@ where
     act.symbols.first() == Some(&place) && is_interval(state, act.numbers, 1)
 }
 
-/// Takes a clone apart, and returns whether `numbers` are the number of held words and the first held word.
+/// Takes a clone apart, and returns whether `numbers` are the number of pending words and the first pending word.
 fn has_held<Word, State>(encoder: &RangeEncoder<Word, State>, numbers: &[u128]) -> bool
 where
     Word: WordOf<State> + Number,

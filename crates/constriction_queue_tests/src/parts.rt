@@ -1,4 +1,4 @@
-//! Intervals and held words, as scripts write them.
+//! Intervals and pending words, as scripts write them.
 
 ghost use Rattle.constriction_base.specs.Steps.{IsSizes};
 
@@ -38,7 +38,7 @@ where
     }
 }
 
-/// Returns the situation of an encoder with `numbers[0]` held words, the first of which is `numbers[1]`.
+/// Returns the situation of an encoder with `numbers[0]` pending words, the first of which is `numbers[1]`.
 ///
 /// If `numbers[0]` is 0 or a number is missing, no words are held.
 pub fn situation_of<Word: Number>(numbers: &[u128]) -> EncoderSituation<Word> {
@@ -53,7 +53,7 @@ pub fn situation_of<Word: Number>(numbers: &[u128]) -> EncoderSituation<Word> {
     }
 }
 
-/// Returns whether `numbers` are the number of held words and the first held word.
+/// Returns whether `numbers` are the number of pending words and the first pending word.
 ///
 /// If no words are held, `numbers` must be empty.
 pub fn is_situation<Word: Number + Drop>(

@@ -18,7 +18,7 @@ use constriction_scripts::script::Script;
 use std::alloc::{AllocError, Global};
 use std::test::Fail;
 
-/// The act that makes an encoder with one written word, one held word, and a vector without room for another word.
+/// The act that makes an encoder with one written word, one pending word, and a vector without room for another word.
 const START: &str = "parts 33024 65280 1 126 7";
 
 /// The acts that check the encoder that `START` makes.

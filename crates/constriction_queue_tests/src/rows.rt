@@ -34,7 +34,7 @@ fn range_inverted(rt: HostRuntime) -> Result<(), Fail> {
     )
 }
 
-/// Checks a carry, which adds 1 to the held word. Afterwards the interval ends exactly at `2^16`.
+/// Checks a carry, which adds 1 to the pending word. Afterwards the interval ends exactly at `2^16`.
 #[test]
 fn range_carry(rt: HostRuntime) -> Result<(), Fail> {
     small(
@@ -61,7 +61,7 @@ fn range_seek_before_carry(rt: HostRuntime) -> Result<(), Fail> {
     )
 }
 
-/// Checks that the encoder writes the held word unchanged if there is no carry.
+/// Checks that the encoder writes the pending word unchanged if there is no carry.
 #[test]
 fn range_no_carry(rt: HostRuntime) -> Result<(), Fail> {
     small(
@@ -155,7 +155,7 @@ fn range_invalid_and_empty(rt: HostRuntime) -> Result<(), Fail> {
     )
 }
 
-/// Checks a carry through the second held word, in which all bits are 1.
+/// Checks a carry through the second pending word, in which all bits are 1.
 #[test]
 fn range_two_held(rt: HostRuntime) -> Result<(), Fail> {
     small(

@@ -141,7 +141,7 @@ pub record EncodeCall {W B E S : Type 0} (number : W → ℕ) (holds : holding.G
   pub after : IsCoder number holds w s new
   -- On success, if the old state is normalized, the new state is the push of the step.
   pub pushed : OnOk answer (IsValid w s old.state → IsPush w s step old.state new.state)
-  -- On success, a word is written exactly if the head has no room for the step.
+  -- On success, a word is written if and only if the head has no room for the step.
   pub words : OnOk answer (new.state.words ≡ words_after w s step old.state)
   -- On success, the room shrinks by at most the number of words written.
   pub room_used : OnOk answer (writes.room old.backend + length old.state.words ≤ writes.room new.backend + length new.state.words)

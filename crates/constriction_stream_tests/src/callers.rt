@@ -189,7 +189,7 @@ where
     coder.encode_iid_symbols_reverse(symbols, model)
 }
 
-/// Encodes a symbol. Returns the error for an impossible symbol exactly if the model has no entry for `symbol`.
+/// Encodes a symbol. Returns the error for an impossible symbol if and only if the model has no entry for `symbol`.
 pub fn encode_exactly<C, M>(
     coder: &mut C,
     symbol: &M::Symbol,

@@ -145,8 +145,8 @@ fn put_by<
 ///
 /// - `ImpossibleSymbol` if and only if a model has no entry for its symbol.
 /// - `NoSpace(needed)` if the buffer is too short. `needed` is the number of words that it has to hold. There is one
-///   exception: if the first `len` words and the held words alone don't fit the buffer, `needed` is the number of these
-///   words. The call then asks for no memory.
+///   exception: if the first `len` words and the pending words alone don't fit the buffer, `needed` is the number of
+///   these words. The call then asks for no memory.
 /// - `NoMemory` if there is no memory.
 pub fn encode<
     Word: WordOf<State>,

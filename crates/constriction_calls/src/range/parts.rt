@@ -15,8 +15,8 @@ use std::num::NonZeroUsize;
 /// A range encoder between two calls: its interval, and the words that it holds back.
 ///
 /// `lower` is the lower end of the interval, modulo `2^State::BITS`, and `range` is the interval's length. The encoder
-/// holds back `held` words. The first held word is `first`. In every later held word all bits are 1. If the encoder
-/// holds back no word, `first` is 0. The words that the encoder wrote are in the caller's buffer.
+/// has `held` pending words. The first of them is `first`, and in every later one all bits are 1. Without pending
+/// words, `first` is 0. The words that the encoder wrote are in the caller's buffer.
 ///
 /// # Examples
 ///

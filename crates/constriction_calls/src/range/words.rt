@@ -49,7 +49,7 @@ pub fn into_compressed<Word: WordOf<State>, State: BitArray>(
     }
 }
 
-/// Returns the number of words that sealing an encoder writes: the held words, and the words of the seal.
+/// Returns the number of words that sealing an encoder writes: the pending words, and the words of the seal.
 fn sealed_count<Word: WordOf<State>, State: BitArray>(
     alloc: Global,
     parts: EncoderParts<Word, State>,

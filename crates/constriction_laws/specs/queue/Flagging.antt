@@ -26,7 +26,7 @@ module _ {W B E Q : Type 0} (number : W → ℕ) (holds : holding.Ghosts B W Q) 
     -- The decodes lead to the decoder `mid`. Each decode uses the model that applies at its symbol.
     pub taken : InTurn (λ item before after. DecodesUnder number holds reads w s item.model before (Ok item.symbol) after)
         (flagged_behind old.switched old.flag first second given) old.decoder mid
-    -- The switch has switched exactly if it had switched before, or the flag is among the symbols.
+    -- The switch has switched if and only if it had switched before, or the flag is among the symbols.
     pub switched : new.switched ≡ (old.switched || has_flag old.flag given)
     -- If the backend's `is_list` holds, the symbols are decoded from the words up to the decoder's position.
     pub read : holds.is_list → (words : List ℕ) (from : Run) → StandsAt w s words from old.decoder
