@@ -24,10 +24,17 @@ def functions(crate_folder):
     return [(file, it) for file in files for it in items(without_comments(read(file))) if it.kind == "fn" and it.text.endswith("}")]
 
 
+@functools.lru_cache(maxsize=None)
+def modules(crate_folder):
+    """Returns the names of a crate's modules."""
+    return {part.removesuffix(".rt") for file in files_below(f"{crate_folder}/src") for part in file[len(crate_folder) + 5 :].split("/")}
+
+
 def name_of(crate_folder, path, function):
-    """Returns the end of the name of a function of `src/PATH.rt`, or more than one where the file has more functions of that name."""
+    """Returns the end of the name of a function of `src/PATH.rt`, or more than one where the file has more functions of that name. The checker
+    takes a name that a module has too for the module's."""
     named = [(file, it) for file, it in functions(crate_folder) if it.name == function]
-    if len(named) == 1 and function not in DERIVED:
+    if len(named) == 1 and function not in DERIVED and function not in modules(crate_folder):
         return [function]
     module = [] if path in ("lib", "main") else path.split("/")
     here = [it for file, it in named if file == f"{crate_folder}/src/{path}.rt"]
@@ -45,7 +52,10 @@ def owner(head):
     if of_trait in ("", "Drop"):
         name, *arguments = parts(of_type)
         return [name if set(arguments) <= own else "+".join([name, *arguments])]
-    return ["".join(it[0].upper() + it[1:] for text in (of_type, of_trait) for it in parts(text) if it not in own)]
+    # A trait's argument that is the type itself is not said again.
+    of_type, of_trait = parts(of_type), parts(of_trait)
+    told = [*of_type, *(it for it in of_trait if [it] != of_type)]
+    return ["".join(it[0].upper() + it[1:] for it in told if it not in own)]
 
 
 def parameters(header):
