@@ -108,7 +108,8 @@ pub(super) fn first_component(family: Family) -> Component<FamilyDistribution>
 
 /// Replaces `components` with the components of row `place`.
 ///
-/// `weights`, `locations` and `scales` have rows of `width` numbers, one row after another. The call needs no memory.
+/// `weights`, `locations` and `scales` have rows of `width` numbers, one row after another. The caller proves that
+/// `components` has room for `width` components, so the call needs no memory.
 #[inline]
 pub(super) fn fill_from_row(
     components: &mut Vec<Component<FamilyDistribution>>,
@@ -144,7 +145,9 @@ pub(super) fn fill_from_row(
     );
 }
 
-/// Replaces `components` with components of these weights, locations and scales. The call needs no memory.
+/// Replaces `components` with components of these weights, locations and scales.
+///
+/// The caller proves that `components` has room for them, so the call needs no memory.
 #[inline]
 fn fill(
     components: &mut Vec<Component<FamilyDistribution>>,
