@@ -35,7 +35,9 @@ impl<'a, Word: BitArray> Model for CountedBits<'a, Word> {
 }
 
 impl<'a, Word: BitArray> CountedBits<'a, Word> {
-    /// Creates a reader that starts at bit `bit` of `words`. The caller proves that `words` has at least `bit` bits.
+    /// Creates a reader that starts at bit `bit` of `words`.
+    ///
+    /// The caller proves that `words` has at least `bit` bits, and fewer than 2^64 bits.
     pub fn from(words: &'a [Word], bit: usize) -> Self
         requires { IsBit Word.BITS (length words.now) bit }
         ensures { result ≡ drop bit (bits_of_words Word.BITS (map Word.number words.now)) }

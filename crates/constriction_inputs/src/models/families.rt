@@ -24,8 +24,8 @@ pub type FamilyModel<P, const PRECISION: usize> = IndexedDistribution<
 
 /// Models of one family of distributions. Each symbol has its own location and scale, in multiples of `2^-16`.
 ///
-/// Item `i` of `locations` and item `i` of `scales` belong to symbol `i` of the list to encode or decode. Each scale has
-/// to be above 0. The caller passes each symbol as an index into the range of integers from `min` to `max`. Index 0
+/// Item `i` of `locations` and item `i` of `scales` belong to symbol `i` of the list to encode or decode. Each scale is
+/// at least 1. The caller passes each symbol as an index into the range of integers from `min` to `max`. Index 0
 /// stands for `min`. `family` is 0 for `Gaussian`, 1 for `Laplace` and 2 for `Logistic`.
 ///
 /// # Examples
