@@ -1,4 +1,6 @@
-//! Intervals in the models of families, and weights from counts, with 32-bit words and a precision of 24 bits.
+//! Intervals in the models of a family of distributions, and weights from counts, at a precision of 24 bits.
+//!
+//! The interval starts, the interval lengths and the weights are 32-bit words.
 
 ghost use Rattle.std.specs.Prelude.{map};
 ghost use Rattle.constriction_c.specs.Codes.{answer_by_code};

@@ -1,5 +1,7 @@
 // Written by tools/sizes from large.rt.
-//! Intervals in the models of families, and weights from counts, with 16-bit words and a precision of 12 bits.
+//! Intervals in the models of a family of distributions, and weights from counts, at a precision of 12 bits.
+//!
+//! The interval starts, the interval lengths and the weights are 16-bit words.
 
 ghost use Rattle.std.specs.Prelude.{map};
 ghost use Rattle.constriction_c.specs.Codes.{answer_by_code};

@@ -219,6 +219,8 @@ pub fn decode_narrow<
 
 /// Decodes `places.len()` symbols, each with its own model.
 ///
+/// `places` is the caller's list for the decoded symbols. The call returns the symbols and leaves `places` unchanged.
+///
 /// # Errors
 ///
 /// The call returns `OutOfData` or `NoMemory` in the cases that [`crate::chain`] lists.

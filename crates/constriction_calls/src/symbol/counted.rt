@@ -18,6 +18,12 @@ use std::marker::Model;
 /// A reader of the bits of words. It starts at a given bit, and counts the bits that are left.
 ///
 /// Contracts describe a `CountedBits` by the list of the bits that are left.
+///
+/// # Examples
+///
+/// ```
+/// CountedBits::from(&[7u8, 0], 1).left() // 15
+/// ```
 #[derive(Drop)]
 pub struct CountedBits<'a, Word: BitArray> {
     bits: QueueDecoder<Word, Cursor<Word, &'a [Word]>>,
