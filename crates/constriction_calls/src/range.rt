@@ -20,7 +20,7 @@
 //! - `InvalidData` if and only if the caller's numbers aren't those of any encoder or decoder, or the number of pending
 //!   words plus the number of symbols to encode is above `2^64 - 18`.
 //!
-//! Only then the call checks for the errors that its own documentation lists.
+//! Only then does the call check for the errors that its own documentation lists.
 
 pub mod decoding;
 pub mod encoding;
