@@ -1,4 +1,4 @@
-//! Cases of bit coders over words of 32 bits: writing and reading single bits.
+//! Benchmark cases of bit coders over words of 32 bits: writing and reading single bits.
 
 use crate::runs::copy_out;
 use constriction_base::cursor::Cursor;
@@ -72,7 +72,9 @@ pub fn give_out(words: Option<Vec<u32>>, out: &mut [u32]) -> usize {
 
 /// Writes `bits` to a queue of bits.
 ///
-/// Copies the queue's words to `out`, as many as fit. Returns the total number of words, or 0 after a failure.
+/// Copies the queue's words to `out`, as many as fit.
+///
+/// Returns the total number of words, or 0 after a failure (see [`crate`]).
 #[unsafe(no_mangle)]
 pub extern "C" fn constriction_bench_bits_write_queue(
     alloc: Global,
@@ -84,7 +86,9 @@ pub extern "C" fn constriction_bench_bits_write_queue(
 
 /// Writes `bits` to a stack of bits.
 ///
-/// Copies the stack's words to `out`, as many as fit. Returns the total number of words, or 0 after a failure.
+/// Copies the stack's words to `out`, as many as fit.
+///
+/// Returns the total number of words, or 0 after a failure (see [`crate`]).
 #[unsafe(no_mangle)]
 pub extern "C" fn constriction_bench_bits_write_stack(
     alloc: Global,
@@ -94,7 +98,7 @@ pub extern "C" fn constriction_bench_bits_write_stack(
     give_out(write_stack(alloc, bits), out)
 }
 
-/// Fills `bits` with the first bits of the queue that `words` holds. Returns `false` after a failure.
+/// Fills `bits` with the first bits of the queue that `words` holds. Returns `false` after a failure (see [`crate`]).
 #[unsafe(no_mangle)]
 pub extern "C" fn constriction_bench_bits_read_queue(
     alloc: Global,
@@ -109,7 +113,7 @@ pub extern "C" fn constriction_bench_bits_read_queue(
 
 /// Fills `bits` with the top bits of the stack that `words` holds. The bit that was written last comes first.
 ///
-/// Returns `false` after a failure, for example if the stack has fewer bits than `bits`.
+/// Returns `false` after a failure (see [`crate`]), for example if the stack has fewer bits than `bits`.
 #[unsafe(no_mangle)]
 pub extern "C" fn constriction_bench_bits_read_stack(
     alloc: Global,

@@ -1,4 +1,4 @@
-//! A table of weights that lists a symbol for each of 4096 equal parts of the quantiles.
+//! A table of weights for benchmarks, with a list of the first symbol of each of 4096 equal parts of the quantiles.
 
 ghost use Rattle.std.specs.Prelude.{◌≡◌, ℕ, ◌+◌, ◌-◌, ◌*◌, ◌^◌, ◌<◌, ◌%◌, length, map, slice_index, IfSome};
 ghost use Rattle.constriction_base.specs.Tables.{table_of};
@@ -54,7 +54,7 @@ impl BucketTable {
     }
 }
 
-/// Returns the symbol of the first quantile of part number `part`.
+/// Returns the symbol of quantile `4096 * part`, the first quantile of part number `part`.
 ///
 /// Returns `None` if the symbol is at least `count` or above 255, or if its start in `starts` is above this quantile.
 fn first_of(table: &WeightTable<u32, 24>, starts: &[u32], count: usize, part: u32) -> Option<u8>
@@ -73,7 +73,7 @@ fn first_of(table: &WeightTable<u32, 24>, starts: &[u32], count: usize, part: u3
     Some(symbol as u8)
 }
 
-/// Returns the list of the symbols of the parts' first quantiles.
+/// Returns the symbol of the first quantile of each of the 4096 parts, in order.
 ///
 /// Returns `None` if [`first_of`] returns `None` for a part, or if there is no memory.
 fn firsts_of(

@@ -1,4 +1,4 @@
-//! Cases of bit coders over words of 32 bits: Exp-Golomb codewords of numbers, and codewords of Huffman trees.
+//! Benchmark cases of bit coders over words of 32 bits: Exp-Golomb codewords, and codewords of Huffman trees.
 
 use crate::bits::give_out;
 use constriction_base::cursor::Cursor;
@@ -98,7 +98,7 @@ where
 
 /// Encodes numbers in order onto a queue of bits, with Exp-Golomb codewords.
 ///
-/// Copies the words to `out`, as many as fit. Returns the total number of words, or 0 after a failure.
+/// Copies the words to `out`, as many as fit. Returns the total number of words, or 0 after a failure (see [`crate`]).
 #[unsafe(no_mangle)]
 pub extern "C" fn constriction_bench_golomb_encode_queue(
     alloc: Global,
@@ -110,7 +110,7 @@ pub extern "C" fn constriction_bench_golomb_encode_queue(
 
 /// Encodes numbers from the last to the first onto a stack of bits, with Exp-Golomb codewords.
 ///
-/// Copies the words to `out`, as many as fit. Returns the total number of words, or 0 after a failure.
+/// Copies the words to `out`, as many as fit. Returns the total number of words, or 0 after a failure (see [`crate`]).
 #[unsafe(no_mangle)]
 pub extern "C" fn constriction_bench_golomb_encode_stack(
     alloc: Global,
@@ -122,7 +122,7 @@ pub extern "C" fn constriction_bench_golomb_encode_stack(
 
 /// Fills `numbers` with numbers decoded from a queue of bits, with Exp-Golomb codewords.
 ///
-/// Returns `false` after a failure.
+/// Returns `false` after a failure (see [`crate`]).
 #[unsafe(no_mangle)]
 pub extern "C" fn constriction_bench_golomb_decode_queue(
     alloc: Global,
@@ -137,7 +137,7 @@ pub extern "C" fn constriction_bench_golomb_decode_queue(
 
 /// Fills `numbers` with numbers decoded from a stack of bits, with Exp-Golomb codewords.
 ///
-/// Returns `false` after a failure.
+/// Returns `false` after a failure (see [`crate`]).
 #[unsafe(no_mangle)]
 pub extern "C" fn constriction_bench_golomb_decode_stack(
     alloc: Global,
@@ -152,7 +152,7 @@ pub extern "C" fn constriction_bench_golomb_decode_stack(
 
 /// Encodes symbols in order onto a queue of bits, with the Huffman tree of `weights`.
 ///
-/// Copies the words to `out`, as many as fit. Returns the total number of words, or 0 after a failure.
+/// Copies the words to `out`, as many as fit. Returns the total number of words, or 0 after a failure (see [`crate`]).
 #[unsafe(no_mangle)]
 pub extern "C" fn constriction_bench_huffman_encode_queue(
     alloc: Global,
@@ -168,7 +168,7 @@ pub extern "C" fn constriction_bench_huffman_encode_queue(
 
 /// Encodes symbols from the last to the first onto a stack of bits, with the Huffman tree of `weights`.
 ///
-/// Copies the words to `out`, as many as fit. Returns the total number of words, or 0 after a failure.
+/// Copies the words to `out`, as many as fit. Returns the total number of words, or 0 after a failure (see [`crate`]).
 #[unsafe(no_mangle)]
 pub extern "C" fn constriction_bench_huffman_encode_stack(
     alloc: Global,
@@ -201,7 +201,7 @@ fn tree_and_words(
 
 /// Fills `symbols` with symbols decoded from a queue of bits, with the Huffman tree of `weights`.
 ///
-/// Returns `false` after a failure.
+/// Returns `false` after a failure (see [`crate`]).
 #[unsafe(no_mangle)]
 pub extern "C" fn constriction_bench_huffman_decode_queue(
     alloc: Global,
@@ -217,7 +217,7 @@ pub extern "C" fn constriction_bench_huffman_decode_queue(
 
 /// Fills `symbols` with symbols decoded from a stack of bits, with the Huffman tree of `weights`.
 ///
-/// Returns `false` after a failure.
+/// Returns `false` after a failure (see [`crate`]).
 #[unsafe(no_mangle)]
 pub extern "C" fn constriction_bench_huffman_decode_stack(
     alloc: Global,
@@ -231,7 +231,9 @@ pub extern "C" fn constriction_bench_huffman_decode_stack(
     }
 }
 
-/// Builds the Huffman tree of `weights` for encoding. Returns the tree's number of symbols, or 0 after a failure.
+/// Builds the Huffman tree of `weights` for encoding.
+///
+/// Returns the tree's number of symbols, or 0 after a failure (see [`crate`]).
 #[unsafe(no_mangle)]
 pub extern "C" fn constriction_bench_huffman_make_encoder(alloc: Global, weights: &[u32]) -> usize {
     match EncoderHuffmanTree::from_probabilities(alloc, weights) {
@@ -240,7 +242,9 @@ pub extern "C" fn constriction_bench_huffman_make_encoder(alloc: Global, weights
     }
 }
 
-/// Builds the Huffman tree of `weights` for decoding. Returns the tree's number of symbols, or 0 after a failure.
+/// Builds the Huffman tree of `weights` for decoding.
+///
+/// Returns the tree's number of symbols, or 0 after a failure (see [`crate`]).
 #[unsafe(no_mangle)]
 pub extern "C" fn constriction_bench_huffman_make_decoder(alloc: Global, weights: &[u32]) -> usize {
     match DecoderHuffmanTree::from_probabilities(alloc, weights) {

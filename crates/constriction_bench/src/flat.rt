@@ -1,4 +1,4 @@
-//! A model of equal weights, without a table in memory.
+//! A model of equal weights for benchmarks, without a table in memory.
 
 ghost use Rattle.std.specs.Prelude.{◌≡◌, ◌+◌, ◌*◌, ◌^◌, ◌<◌, ◌≤◌, ◌-◌, ◌⊎◌, IfNone, IfSome};
 ghost use Rattle.std.proofs.Common.{arith};

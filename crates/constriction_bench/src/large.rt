@@ -1,4 +1,4 @@
-//! Cases of the stack coder with words of 32 bits, states of 64 bits and a precision of 24 bits.
+//! Benchmark cases of the stack coder with words of 32 bits, states of 64 bits and a precision of 24 bits.
 
 use crate::bucket::BucketTable;
 use crate::flat::Flat;
@@ -8,7 +8,7 @@ use std::alloc::Global;
 
 /// Encodes symbols from the last to the first, with a table of weights.
 ///
-/// Copies the words to `out`, as many as fit. Returns the total number of words, or 0 after a failure.
+/// Copies the words to `out`, as many as fit. Returns the total number of words, or 0 after a failure (see [`crate`]).
 #[unsafe(no_mangle)]
 pub extern "C" fn constriction_bench_ans_encode_u32u64p24_table(
     alloc: Global,
@@ -22,7 +22,9 @@ pub extern "C" fn constriction_bench_ans_encode_u32u64p24_table(
     encode_out::<u32, u64, _, 24>(alloc, symbols, &table, out)
 }
 
-/// Fills `symbols` with symbols decoded from `words`, with a table of weights. Returns `false` after a failure.
+/// Fills `symbols` with symbols decoded from `words`, with a table of weights.
+///
+/// Returns `false` after a failure (see [`crate`]).
 #[unsafe(no_mangle)]
 pub extern "C" fn constriction_bench_ans_decode_u32u64p24_table(
     alloc: Global,
@@ -38,7 +40,7 @@ pub extern "C" fn constriction_bench_ans_decode_u32u64p24_table(
 
 /// Encodes symbols below `2^bits` from the last to the first, with equal weights.
 ///
-/// Copies the words to `out`, as many as fit. Returns the total number of words, or 0 after a failure.
+/// Copies the words to `out`, as many as fit. Returns the total number of words, or 0 after a failure (see [`crate`]).
 #[unsafe(no_mangle)]
 pub extern "C" fn constriction_bench_ans_encode_u32u64p24_flat(
     alloc: Global,
@@ -54,7 +56,7 @@ pub extern "C" fn constriction_bench_ans_encode_u32u64p24_flat(
 
 /// Fills `symbols` with symbols below `2^bits`, decoded from `words` with equal weights.
 ///
-/// Returns `false` after a failure.
+/// Returns `false` after a failure (see [`crate`]).
 #[unsafe(no_mangle)]
 pub extern "C" fn constriction_bench_ans_decode_u32u64p24_flat(
     alloc: Global,
@@ -70,7 +72,7 @@ pub extern "C" fn constriction_bench_ans_decode_u32u64p24_flat(
 
 /// Fills `symbols` with symbols decoded from `words`, with a table that lists a symbol for each part of the quantiles.
 ///
-/// The table is the [`BucketTable`] of `weights`. Returns `false` after a failure.
+/// The table is the [`BucketTable`] of `weights`. Returns `false` after a failure (see [`crate`]).
 #[unsafe(no_mangle)]
 pub extern "C" fn constriction_bench_ans_decode_u32u64p24_bucket(
     alloc: Global,
@@ -86,7 +88,7 @@ pub extern "C" fn constriction_bench_ans_decode_u32u64p24_bucket(
 
 /// Imports `words` into a coder, and exports them again.
 ///
-/// Copies the words to `out`, as many as fit. Returns the total number of words, or 0 after a failure.
+/// Copies the words to `out`, as many as fit. Returns the total number of words, or 0 after a failure (see [`crate`]).
 #[unsafe(no_mangle)]
 pub extern "C" fn constriction_bench_ans_reload_u32u64p24(
     alloc: Global,
@@ -98,7 +100,7 @@ pub extern "C" fn constriction_bench_ans_reload_u32u64p24(
 
 /// Copies `words` to a new vector, as an import does, and from there to `out`, as an export does. Uses no coder.
 ///
-/// `out` receives as many words as fit. Returns the total number of words, or 0 after a failure.
+/// `out` receives as many words as fit. Returns the total number of words, or 0 after a failure (see [`crate`]).
 #[unsafe(no_mangle)]
 pub extern "C" fn constriction_bench_copy_u32u64p24(
     alloc: Global,

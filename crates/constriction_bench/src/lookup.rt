@@ -1,4 +1,4 @@
-//! A table of weights that lists the symbol of each quantile.
+//! A table of weights for benchmarks, with a list of the symbol of each quantile.
 
 ghost use Rattle.std.specs.Prelude.{◌≡◌, ℕ, ◌+◌, ◌-◌, ◌^◌, ◌<◌, ◌%◌, length, map, slice_index, IfSome};
 ghost use Rattle.constriction_base.specs.Tables.{table_of};

@@ -1,11 +1,15 @@
-//! The case of the library's lookup model, with words of 16 bits, states of 32 bits and a precision of 12 bits.
+//! A benchmark case of a stack coder with the library's lookup model, at a precision of 12 bits.
+//!
+//! Words have 16 bits, and states have 32 bits.
 
 use crate::runs::decode_in;
 use constriction_base::weights::WeightTable;
 use constriction_models::lookup::ContiguousLookupDecoderModel;
 use std::alloc::Global;
 
-/// Fills `symbols` with symbols that a stack coder decodes from `words`. Returns `false` after a failure.
+/// Fills `symbols` with symbols that a stack coder decodes from `words`.
+///
+/// Returns `false` after a failure (see [`crate`]).
 ///
 /// The model is the library's lookup model of `weights`, [`ContiguousLookupDecoderModel`].
 #[unsafe(no_mangle)]

@@ -1,5 +1,5 @@
 // Written by tools/sizes from large.rt.
-//! Cases of the stack coder with words of 16 bits, states of 32 bits and a precision of 12 bits.
+//! Benchmark cases of the stack coder with words of 16 bits, states of 32 bits and a precision of 12 bits.
 
 use crate::flat::Flat;
 use crate::lookup::LookupTable;
@@ -9,7 +9,7 @@ use std::alloc::Global;
 
 /// Encodes symbols from the last to the first, with a table of weights.
 ///
-/// Copies the words to `out`, as many as fit. Returns the total number of words, or 0 after a failure.
+/// Copies the words to `out`, as many as fit. Returns the total number of words, or 0 after a failure (see [`crate`]).
 #[unsafe(no_mangle)]
 pub extern "C" fn constriction_bench_ans_encode_u16u32p12_table(
     alloc: Global,
@@ -23,7 +23,9 @@ pub extern "C" fn constriction_bench_ans_encode_u16u32p12_table(
     encode_out::<u16, u32, _, 12>(alloc, symbols, &table, out)
 }
 
-/// Fills `symbols` with symbols decoded from `words`, with a table of weights. Returns `false` after a failure.
+/// Fills `symbols` with symbols decoded from `words`, with a table of weights.
+///
+/// Returns `false` after a failure (see [`crate`]).
 #[unsafe(no_mangle)]
 pub extern "C" fn constriction_bench_ans_decode_u16u32p12_table(
     alloc: Global,
@@ -39,7 +41,7 @@ pub extern "C" fn constriction_bench_ans_decode_u16u32p12_table(
 
 /// Encodes symbols below `2^bits` from the last to the first, with equal weights.
 ///
-/// Copies the words to `out`, as many as fit. Returns the total number of words, or 0 after a failure.
+/// Copies the words to `out`, as many as fit. Returns the total number of words, or 0 after a failure (see [`crate`]).
 #[unsafe(no_mangle)]
 pub extern "C" fn constriction_bench_ans_encode_u16u32p12_flat(
     alloc: Global,
@@ -55,7 +57,7 @@ pub extern "C" fn constriction_bench_ans_encode_u16u32p12_flat(
 
 /// Fills `symbols` with symbols below `2^bits`, decoded from `words` with equal weights.
 ///
-/// Returns `false` after a failure.
+/// Returns `false` after a failure (see [`crate`]).
 #[unsafe(no_mangle)]
 pub extern "C" fn constriction_bench_ans_decode_u16u32p12_flat(
     alloc: Global,
@@ -71,7 +73,7 @@ pub extern "C" fn constriction_bench_ans_decode_u16u32p12_flat(
 
 /// Fills `symbols` with symbols decoded from `words`, with a table that lists the symbol of each quantile.
 ///
-/// The table is the [`LookupTable`] of `weights`. Returns `false` after a failure.
+/// The table is the [`LookupTable`] of `weights`. Returns `false` after a failure (see [`crate`]).
 #[unsafe(no_mangle)]
 pub extern "C" fn constriction_bench_ans_decode_u16u32p12_lookup(
     alloc: Global,
@@ -87,7 +89,7 @@ pub extern "C" fn constriction_bench_ans_decode_u16u32p12_lookup(
 
 /// Imports `words` into a coder, and exports them again.
 ///
-/// Copies the words to `out`, as many as fit. Returns the total number of words, or 0 after a failure.
+/// Copies the words to `out`, as many as fit. Returns the total number of words, or 0 after a failure (see [`crate`]).
 #[unsafe(no_mangle)]
 pub extern "C" fn constriction_bench_ans_reload_u16u32p12(
     alloc: Global,
@@ -99,7 +101,7 @@ pub extern "C" fn constriction_bench_ans_reload_u16u32p12(
 
 /// Copies `words` to a new vector, as an import does, and from there to `out`, as an export does. Uses no coder.
 ///
-/// `out` receives as many words as fit. Returns the total number of words, or 0 after a failure.
+/// `out` receives as many words as fit. Returns the total number of words, or 0 after a failure (see [`crate`]).
 #[unsafe(no_mangle)]
 pub extern "C" fn constriction_bench_copy_u16u32p12(
     alloc: Global,

@@ -5,8 +5,8 @@
 //!
 //! A C function passes its arguments to one call, and returns the code of the call's result ([`codes::code_of`]). If
 //! the result is the error `NoSpace`, the function also sets `needed` to the number of words that the buffer has to
-//! hold. For any other result the function leaves `needed` unchanged. The contract of the function is the contract of
-//! the call, applied to the result with that code (`Told`).
+//! hold. For any other result the function leaves `needed` unchanged. The contract of the function (`Told`) is the
+//! contract of the call, for the result that the returned code stands for.
 #![tactic(auto)]
 
 pub mod ans;

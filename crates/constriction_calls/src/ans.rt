@@ -1,7 +1,7 @@
 //! The stack coder over a caller's buffer.
 //!
-//! The caller keeps the coder's state: a head, and a buffer. The first `len` words of the buffer are in use, and the
-//! last of them is the top word.
+//! The caller keeps the coder's state: a head, and a buffer of the words below the head. The first `len` words of the
+//! buffer are in use, and the last of them is the top word.
 //!
 //! - [`encoding`]: encoding symbols.
 //! - [`decoding`]: decoding symbols.

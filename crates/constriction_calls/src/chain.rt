@@ -11,10 +11,12 @@
 //! when there is no memory.
 //!
 //! - `WrongLength`: a number of words in use is past its buffer's end, the arguments of the models don't match the
-//!   number of symbols, or an index of the weights doesn't fit the type of the decoded symbols.
-//! - `WrongInterval`, `WrongWeights`: the arguments of the models are invalid. [`constriction_inputs::models`]
-//!   describes these cases.
-//! - `InvalidData`: the caller's heads aren't the heads of any coder.
+//!   number of symbols, the lengths of `lefts` and `ps` differ, or an index of the weights doesn't fit the type of the
+//!   decoded symbols.
+//! - `WrongInterval`, `WrongWeights`: the intervals or the arguments of the models are invalid.
+//!   [`constriction_inputs::refusal::Refusal`] lists the cases.
+//! - `InvalidData`: the caller's heads aren't the heads of any coder. The calls that import or export words document
+//!   further cases.
 //! - `ImpossibleSymbol`: a model has no entry for its symbol.
 //! - `OutOfData`: the coder needs a word from the buffer that it reads, and no word is left there.
 //! - `NoSpace(needed)`: the buffer to write to is too short. `needed` is the number of words that this buffer has to

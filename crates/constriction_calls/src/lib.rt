@@ -5,7 +5,7 @@
 //! call.
 //!
 //! - [`ans`]: the stack coder.
-//! - [`symbol`]: encoding lists of symbols with codebooks, and decoding them.
+//! - [`symbol`]: bit coders with codebooks, which are Exp-Golomb codewords and Huffman trees.
 //! - [`range`]: the range coder.
 //! - [`chain`]: the chain coder.
 //! - [`store`]: stores of chunks.

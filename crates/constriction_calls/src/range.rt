@@ -17,10 +17,10 @@
 //!   doesn't fit the type of the decoded symbols.
 //! - `WrongLength`, `WrongInterval` or `WrongWeights` if and only if the call takes models, and
 //!   [`constriction_inputs::models::Models::check`] returns the error.
-//! - `InvalidData` if and only if no encoder or decoder has the numbers that the caller passes for it, or the number of
-//!   pending words plus the number of symbols to encode is above `2^64 - 18`.
+//! - `InvalidData` if and only if the caller's numbers aren't those of any encoder or decoder, or the number of pending
+//!   words plus the number of symbols to encode is above `2^64 - 18`.
 //!
-//! The errors that a call itself documents come after these.
+//! Only then does the call check for the errors that its own documentation lists.
 
 pub mod decoding;
 pub mod encoding;

@@ -1,7 +1,7 @@
 //! Encoding and decoding lists of symbols with codebooks, over a caller's buffers.
 //!
-//! A caller chooses the codebook with a value of a type that implements [`Codes`]. The types are `ExpGolomb` for
-//! numbers, and [`Tree`] for the Huffman tree of weights.
+//! A caller selects the codebook with a value of a type that implements [`Codes`]: `ExpGolomb` for the Exp-Golomb
+//! codewords of numbers, or [`Tree`] for the Huffman tree of weights.
 //!
 //! The words hold a list of bits. Reading a queue of bits returns them in the order of writing, and reading a stack of
 //! bits returns them in the reverse order.
@@ -12,8 +12,8 @@
 //!
 //! - `WrongLength`: the words have fewer than `bit` bits, or 2^64 bits or more. Only [`encode_at`] and [`decode_at`]
 //!   return this error.
-//! - `WrongWeights`: the weights make no Huffman tree. There are no weights or too many, or their sum doesn't fit their
-//!   type.
+//! - `WrongWeights`: the weights make no Huffman tree. There are no weights, or their sum doesn't fit their type, or
+//!   there are more than `2^62 - 1` weights for encoding, or more than `2^63 - 1` for decoding.
 //! - `ImpossibleSymbol`: a symbol has no codeword.
 //! - `NoSpace(needed)`: the buffer is too short. `needed` is the number of words that the buffer has to hold.
 //! - `OutOfData`: the words end before all symbols are decoded.
@@ -41,7 +41,9 @@ pub use encoding::{encode_at, encode_queue, encode_stack};
 use std::alloc::Global;
 pub use trees::Tree;
 
-/// A caller's choice of a codebook.
+/// A value that selects the codebook with which a call encodes or decodes.
+///
+/// `ExpGolomb` selects Exp-Golomb codewords, and [`Tree`] selects the codewords of a Huffman tree.
 ///
 /// An implementor defines the codewords (`book`). It proves that the codebooks for encoding and for decoding have these
 /// codewords. It also proves which error its calls return if the weights make no tree, if a symbol has no codeword, or
@@ -64,15 +66,21 @@ pub trait Codes {
     /// Assigns a number to each symbol. The symbol's codeword is the codeword of that number in `book`.
     ghost number: { Self.Symbol → ℕ };
 
-    /// Creates the codebook for encoding. Returns `None` if the weights make no tree, or if there is no memory.
+    /// Creates the codebook for encoding.
+    ///
+    /// Returns `None` if there is no memory, or if the weights make no Huffman tree of at most `2^62 - 1` symbols.
     fn encoder(&self, alloc: Global) -> Option<Self::Encoder>
         ensures tree { OnSome result (MakesCode (2 ^ 62 - 1) (book self.now)) }
         ensures codewords { IfSome result (λ made. (s : Self.Symbol) → Self.Encoder.codeword made s
             ≡ codeword_in number (book self.now) s) };
 
-    /// Returns the reason why an encode of `symbols` failed. The call needs no memory.
+    /// Returns the error of an encode of `symbols` that failed. The call needs no memory.
     ///
-    /// The reason is the first that applies of `WrongWeights`, `ImpossibleSymbol` and `NoMemory`.
+    /// The error is the first of these whose condition holds:
+    ///
+    /// - `WrongWeights`: the weights make no Huffman tree of at most `2^62 - 1` symbols.
+    /// - `ImpossibleSymbol`: a symbol has no codeword.
+    /// - `NoMemory`: the call returns this error in all other cases.
     fn refused(&self, symbols: &[Self::Symbol]) -> Refusal
         ensures { PutsNone number (book self.now) symbols.now result };
 
@@ -80,7 +88,7 @@ pub trait Codes {
     ///
     /// # Errors
     ///
-    /// - `WrongWeights` if and only if the weights make no tree.
+    /// - `WrongWeights` if and only if the weights make no Huffman tree of at most `2^63 - 1` symbols.
     /// - `NoMemory` if there is no memory.
     fn decoder(&self, alloc: Global) -> Result<Self::Decoder, Refusal>
         ensures asks { Asks WrongWeights (MakesCode (2 ^ 63 - 1) (book self.now)) (Else Memory) result }

@@ -1,4 +1,4 @@
-//! Appends words to the words in use of a caller's buffer.
+//! [`append`]: appends words to a caller's buffer, whose first words are in use.
 
 ghost use Rattle.std.specs.Prelude.{◌≡◌, ◌+◌, ◌<◌, ◌≤◌, ◌⊎◌, ◌^◌, length, OnOk, OnErr, IfErr};
 ghost use Rattle.constriction_inputs.specs.Buffers.{Appended};

@@ -1,7 +1,7 @@
 //! Turns each interval that a caller passes without its table into a row of three weights.
 //!
 //! In the row's table, symbol 1 has the interval, symbol 0 has the quantiles below the interval, and symbol 2 has the
-//! quantiles above the interval.
+//! quantiles above the interval. A coder encodes the interval when it encodes symbol 1 with the row as the model.
 
 ghost use Rattle.std.specs.Prelude.{◌≡◌, ◌≢◌, ◌↔◌, ◌⊎◌, ◌*◌, ◌+◌, ◌^◌, ◌≤◌, length, map, IsTrue, IfOk, IfErr, OnOk};
 ghost use Rattle.std.specs.Prelude.{IfSome, IsErrOf, IsSome, [], ◌∷◌};
@@ -71,10 +71,10 @@ pub fn rows_by_intervals<P: BitArray, const PRECISION: usize>(
     Ok((rows, symbols))
 }
 
-/// Returns the row of three weights of a single interval.
+/// Returns three weights for a single interval: the numbers of quantiles below, in and above the interval.
 ///
-/// Returns `None` if `lefts` or `ps` doesn't have exactly one item, or if the interval is empty or ends past
-/// `2 ^ PRECISION`. In the row's table, symbol 1 has the interval. The call needs no memory.
+/// So symbol 1 has the interval in the table of these weights. The call needs no memory. It returns `None` if `lefts`
+/// or `ps` doesn't have exactly one item, or if the interval is empty or ends past `2 ^ PRECISION`.
 #[inline]
 pub fn row_of_one<P: BitArray, const PRECISION: usize>(lefts: &[P], ps: &[P]) -> Option<[P; 3]>
     requires { (1 ≤ PRECISION) × (PRECISION ≤ P.BITS) }
@@ -132,7 +132,13 @@ fn above<P: BitArray, const PRECISION: usize>(left: P, p: P) -> P
     ones::<P>(PRECISION).minus(left).minus(p.minus(P::unit()))
 }
 
-/// Returns a row of three weights for each interval, one row after another.
+/// Returns a row of three weights for each interval `[lefts[i], lefts[i] + ps[i])`, one row after another.
+///
+/// The weights are the numbers of quantiles below, in and above the interval.
+///
+/// # Errors
+///
+/// The call returns `AllocError` if there is no memory for the rows.
 fn rows_made<P: BitArray, const PRECISION: usize>(
     alloc: Global,
     lefts: &[P],

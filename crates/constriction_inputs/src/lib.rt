@@ -6,10 +6,10 @@
 //! - [`refusal`]: the error of a call that refuses its arguments.
 //! - [`models`]: the forms in which a caller passes the models of symbols.
 //! - [`rows`]: rows of weights as models.
-//! - [`known`]: checks whether symbols have weights above 0.
+//! - [`known`]: checks that symbols have weights above 0.
 //! - [`intervals`]: intervals that a caller passes without their table.
-//! - [`quantized`]: writes the intervals of models, and weights from counts, into a caller's buffers.
-//! - [`buffers`]: appends words to a buffer.
+//! - [`quantized`]: calls that write the intervals of models, and weights from counts, into a caller's buffers.
+//! - [`buffers`]: a call that appends words to a buffer.
 #![tactic(auto)]
 
 pub mod buffers;

@@ -28,8 +28,8 @@ pub use weights::Weights;
 /// The models of a list of symbols, with one model for each symbol.
 ///
 /// A caller selects an index of the list with `turn_to`, and `model` then returns the model at that index. So an
-/// implementor can keep one model in memory, and change the model at each `turn_to`. The implementor defines the list
-/// of all tables (`tables`). It proves that the model that `model` returns has the table at the selected index.
+/// implementor can keep a single model in memory, and change it at each `turn_to`. The implementor defines the list of
+/// the models' tables (`tables`). It proves that the model that `model` returns has the table at the selected index.
 pub trait ModelList<P: BitArray, const PRECISION: usize>: Drop {
     /// The type of the models.
     type Model: EncoderModel<PRECISION, Symbol = usize, Probability = P>
@@ -74,7 +74,8 @@ pub trait Models<P: BitArray, const PRECISION: usize> {
     /// # Errors
     ///
     /// The call checks for `WrongLength`, `WrongInterval` and `WrongWeights`, in this order. [`Refusal`] lists the
-    /// cases of each error. `coded` states which cases an implementor has. The call fails in no other case.
+    /// cases of each error. An implementor's `coded` states which of these cases can arise. The call fails in no other
+    /// case.
     fn check(&self, symbols: &[usize]) -> Result<(), Refusal>
         requires { (1 ≤ PRECISION) × (PRECISION ≤ P.BITS) }
         ensures { AsksFit PRECISION (coded self.now symbols.now) (Else Never) result };

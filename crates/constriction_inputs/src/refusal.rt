@@ -20,14 +20,20 @@ pub enum Refusal {
     /// - No family has the caller's family number, or a scale is 0.
     /// - The weights of a mixture add up to 0 or to more than `2^32`, or mixtures have no components.
     /// - No count is above 0, or more than `2 ^ PRECISION` counts are above 0.
-    /// - A Huffman tree has no weights or too many, or the sum of its weights doesn't fit their type.
+    /// - A Huffman tree has no weights, or the sum of its weights doesn't fit their type.
+    /// - A Huffman tree has more than `2^62 - 1` weights for encoding, or more than `2^63 - 1` weights for decoding.
     #[error("wrong weights")]
     WrongWeights,
-    /// An interval is empty or ends past `2 ^ PRECISION`. Or a range has fewer than two or more than `2 ^ PRECISION`
-    /// symbols.
+    /// An interval is empty or ends past `2 ^ PRECISION`. Or a family's range of integers has fewer than two or more
+    /// than `2 ^ PRECISION` symbols.
     #[error("wrong interval")]
     WrongInterval,
-    /// A number of words in use, or a position, is past the end of its buffer. Or the lengths of two lists don't match.
+    /// A length or a position doesn't match the caller's other arguments. The cases are:
+    ///
+    /// - A number of words in use, or a position in words or bits, is past the end of its buffer.
+    /// - The lengths of two lists don't match.
+    /// - An index of the weights doesn't fit the type of the decoded symbols.
+    /// - The words of a bit coder have `2^64` bits or more, or the symbols of a store are too many.
     #[error("wrong length")]
     WrongLength,
     /// The buffer is too short. The number in the variant is the number of words that the buffer has to hold.
@@ -38,7 +44,10 @@ pub enum Refusal {
     NoMemory,
     /// The words or the numbers that the caller passed aren't a state of the coder.
     ///
-    /// A call also returns this error if it finds that the words don't encode the symbols that the caller asks for.
+    /// A call also returns this error in two other cases:
+    ///
+    /// - It finds that the words don't encode as many symbols as the caller asks for.
+    /// - The state has no export in the form that the caller asks for, such as the binary form.
     #[error("invalid data")]
     InvalidData,
     /// The words end before the call has decoded all symbols.

@@ -1,4 +1,7 @@
-//! Rows of weights as models.
+//! Models that borrow their weights from a caller's buffer.
+//!
+//! A row of weights has one weight for each of the symbols `0`, `1`, .. and describes a model if the weights add up to
+//! `2 ^ PRECISION`.
 
 pub mod adding;
 mod models;

@@ -1,4 +1,4 @@
-//! Cases of the chain coder with words of 32 bits, remainders heads of 64 bits and a precision of 24 bits.
+//! Benchmark cases of the chain coder with words of 32 bits, remainders heads of 64 bits and a precision of 24 bits.
 
 use crate::bucket::BucketTable;
 use crate::chains::{decode_each, encode_each};
@@ -10,15 +10,15 @@ use constriction_chain::DefaultChainCoder;
 use constriction_words::WordOf;
 use std::alloc::Global;
 
-/// Creates a coder from a copy of `words`, which are in binary form.
+/// Creates a coder from a copy of `words`, which are compressed words in binary form.
 ///
-/// Returns `None` if there are too few words, or if there is no memory.
+/// Returns `None` if there are too few words for the coder's heads, or if there is no memory.
 fn coder_of(alloc: Global, words: &[u32]) -> Option<DefaultChainCoder> {
     let words = words.to_vec(alloc).ok()?;
     DefaultChainCoder::from_binary(alloc, words).ok()
 }
 
-/// Creates a coder from a copy of `remainders`.
+/// Creates a coder without compressed words from a copy of `remainders`.
 ///
 /// Returns `None` if no coder has these remainders, or if there is no memory.
 fn coder_back(alloc: Global, remainders: &[u32]) -> Option<DefaultChainCoder> {
@@ -97,7 +97,7 @@ where
 /// Fills `symbols` with symbols decoded from `words` in binary form, with a table of weights.
 ///
 /// Copies the words of the remainders to `out`, as many as fit. Returns the total number of words of the remainders, or
-/// 0 after a failure.
+/// 0 after a failure (see [`crate`]).
 #[unsafe(no_mangle)]
 pub extern "C" fn constriction_bench_chain_decode_u32u64p24_table(
     alloc: Global,
@@ -115,7 +115,7 @@ pub extern "C" fn constriction_bench_chain_decode_u32u64p24_table(
 /// Encodes symbols from the last to the first with a coder of `remainders`, with a table of weights.
 ///
 /// Copies the compressed words, in binary form, to `out`, as many as fit. Returns the total number of compressed
-/// words, or 0 after a failure.
+/// words, or 0 after a failure (see [`crate`]).
 #[unsafe(no_mangle)]
 pub extern "C" fn constriction_bench_chain_encode_u32u64p24_table(
     alloc: Global,
@@ -133,7 +133,7 @@ pub extern "C" fn constriction_bench_chain_encode_u32u64p24_table(
 /// Fills `symbols` with symbols below `2^bits`, decoded from `words` in binary form with equal weights.
 ///
 /// Copies the words of the remainders to `out`, as many as fit. Returns the total number of words of the remainders, or
-/// 0 after a failure.
+/// 0 after a failure (see [`crate`]).
 #[unsafe(no_mangle)]
 pub extern "C" fn constriction_bench_chain_decode_u32u64p24_flat(
     alloc: Global,
@@ -151,7 +151,7 @@ pub extern "C" fn constriction_bench_chain_decode_u32u64p24_flat(
 /// Encodes symbols below `2^bits` from the last to the first with a coder of `remainders`, with equal weights.
 ///
 /// Copies the compressed words, in binary form, to `out`, as many as fit. Returns the total number of compressed
-/// words, or 0 after a failure.
+/// words, or 0 after a failure (see [`crate`]).
 #[unsafe(no_mangle)]
 pub extern "C" fn constriction_bench_chain_encode_u32u64p24_flat(
     alloc: Global,
@@ -169,7 +169,7 @@ pub extern "C" fn constriction_bench_chain_encode_u32u64p24_flat(
 /// Fills `symbols` with symbols decoded from `words`, with a table that lists a symbol for each part of the quantiles.
 ///
 /// The table is the [`BucketTable`] of `weights`. `words` are in binary form. Copies the words of the remainders to
-/// `out`, as many as fit. Returns the total number of words of the remainders, or 0 after a failure.
+/// `out`, as many as fit. Returns the total number of words of the remainders, or 0 after a failure (see [`crate`]).
 #[unsafe(no_mangle)]
 pub extern "C" fn constriction_bench_chain_decode_u32u64p24_bucket(
     alloc: Global,

@@ -1,5 +1,5 @@
 // Written by tools/sizes from large.rt.
-//! Cases of the chain coder with words of 16 bits, remainders heads of 32 bits and a precision of 12 bits.
+//! Benchmark cases of the chain coder with words of 16 bits, remainders heads of 32 bits and a precision of 12 bits.
 
 use crate::chains::{decode_each, encode_each};
 use crate::flat::Flat;
@@ -11,15 +11,15 @@ use constriction_chain::SmallChainCoder;
 use constriction_words::WordOf;
 use std::alloc::Global;
 
-/// Creates a coder from a copy of `words`, which are in binary form.
+/// Creates a coder from a copy of `words`, which are compressed words in binary form.
 ///
-/// Returns `None` if there are too few words, or if there is no memory.
+/// Returns `None` if there are too few words for the coder's heads, or if there is no memory.
 fn coder_of(alloc: Global, words: &[u16]) -> Option<SmallChainCoder> {
     let words = words.to_vec(alloc).ok()?;
     SmallChainCoder::from_binary(alloc, words).ok()
 }
 
-/// Creates a coder from a copy of `remainders`.
+/// Creates a coder without compressed words from a copy of `remainders`.
 ///
 /// Returns `None` if no coder has these remainders, or if there is no memory.
 fn coder_back(alloc: Global, remainders: &[u16]) -> Option<SmallChainCoder> {
@@ -98,7 +98,7 @@ where
 /// Fills `symbols` with symbols decoded from `words` in binary form, with a table of weights.
 ///
 /// Copies the words of the remainders to `out`, as many as fit. Returns the total number of words of the remainders, or
-/// 0 after a failure.
+/// 0 after a failure (see [`crate`]).
 #[unsafe(no_mangle)]
 pub extern "C" fn constriction_bench_chain_decode_u16u32p12_table(
     alloc: Global,
@@ -116,7 +116,7 @@ pub extern "C" fn constriction_bench_chain_decode_u16u32p12_table(
 /// Encodes symbols from the last to the first with a coder of `remainders`, with a table of weights.
 ///
 /// Copies the compressed words, in binary form, to `out`, as many as fit. Returns the total number of compressed
-/// words, or 0 after a failure.
+/// words, or 0 after a failure (see [`crate`]).
 #[unsafe(no_mangle)]
 pub extern "C" fn constriction_bench_chain_encode_u16u32p12_table(
     alloc: Global,
@@ -134,7 +134,7 @@ pub extern "C" fn constriction_bench_chain_encode_u16u32p12_table(
 /// Fills `symbols` with symbols below `2^bits`, decoded from `words` in binary form with equal weights.
 ///
 /// Copies the words of the remainders to `out`, as many as fit. Returns the total number of words of the remainders, or
-/// 0 after a failure.
+/// 0 after a failure (see [`crate`]).
 #[unsafe(no_mangle)]
 pub extern "C" fn constriction_bench_chain_decode_u16u32p12_flat(
     alloc: Global,
@@ -152,7 +152,7 @@ pub extern "C" fn constriction_bench_chain_decode_u16u32p12_flat(
 /// Encodes symbols below `2^bits` from the last to the first with a coder of `remainders`, with equal weights.
 ///
 /// Copies the compressed words, in binary form, to `out`, as many as fit. Returns the total number of compressed
-/// words, or 0 after a failure.
+/// words, or 0 after a failure (see [`crate`]).
 #[unsafe(no_mangle)]
 pub extern "C" fn constriction_bench_chain_encode_u16u32p12_flat(
     alloc: Global,
@@ -170,7 +170,7 @@ pub extern "C" fn constriction_bench_chain_encode_u16u32p12_flat(
 /// Fills `symbols` with symbols decoded from `words`, with a table that lists the symbol of each quantile.
 ///
 /// The table is the [`LookupTable`] of `weights`. `words` are in binary form. Copies the words of the remainders to
-/// `out`, as many as fit. Returns the total number of words of the remainders, or 0 after a failure.
+/// `out`, as many as fit. Returns the total number of words of the remainders, or 0 after a failure (see [`crate`]).
 #[unsafe(no_mangle)]
 pub extern "C" fn constriction_bench_chain_decode_u16u32p12_lookup(
     alloc: Global,

@@ -59,6 +59,8 @@ pub extern "C" fn constriction_ans_decode_u16(
 
 /// Imports the state that `constriction_ans_into_compressed_u16` exports as `words`.
 ///
+/// Sets `head`, and sets `len` to the number of words that stay below the head.
+///
 /// Calls [`from_compressed`] and returns the code of its result ([`code_of`]).
 #[unsafe(no_mangle)]
 pub extern "C" fn constriction_ans_from_compressed_u16(
@@ -72,6 +74,8 @@ pub extern "C" fn constriction_ans_from_compressed_u16(
 }
 
 /// Imports the state whose binary form is `words`. Every list of words is the binary form of a state.
+///
+/// Sets `head`, and sets `len` to the number of words that stay below the head.
 ///
 /// Calls [`from_binary`], which always succeeds, and returns 0.
 #[unsafe(no_mangle)]

@@ -354,6 +354,8 @@ pub extern "C" fn constriction_chain_encode_shorts_reverse_u32(
 
 /// Imports a coder from compressed words in binary form. The coder has no words of remainders below its heads.
 ///
+/// Sets `heads`, and sets `count` to the number of words that stay in `words` below the heads.
+///
 /// Calls [`from_binary`] and returns the code of its result ([`code_of`]).
 #[unsafe(no_mangle)]
 pub extern "C" fn constriction_chain_from_binary_u32(
@@ -389,6 +391,8 @@ pub extern "C" fn constriction_chain_into_binary_u32(
 }
 
 /// Imports a coder from the words of remainders. The coder has no compressed words below its heads.
+///
+/// Sets `heads`, and sets `rest` to the number of words that stay in `words` below the heads.
 ///
 /// Calls [`from_remainders`] and returns the code of its result ([`code_of`]).
 #[unsafe(no_mangle)]

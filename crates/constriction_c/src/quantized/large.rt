@@ -1,4 +1,6 @@
-//! Intervals in the models of families, and weights from counts, with 32-bit words and a precision of 24 bits.
+//! Intervals in the models of a family of distributions, and weights from counts, at a precision of 24 bits.
+//!
+//! The interval starts, the interval lengths and the weights are 32-bit words.
 
 ghost use Rattle.std.specs.Prelude.{map};
 ghost use Rattle.constriction_c.specs.Codes.{answer_by_code};
@@ -35,7 +37,9 @@ pub extern "C" fn constriction_quantized_intervals_u32(
     code_without_space(intervals_of_quantized::<u32, 24>(&models, symbols, lefts, ps))
 }
 
-/// Writes a weight for each count, proportional to the count up to rounding. The weights add up to `2^24`.
+/// Writes a weight for each count into `weights`. The weights add up to `2^24`.
+///
+/// The weights are in proportion to the counts, apart from rounding. Each count above 0 gets a weight of at least 1.
 ///
 /// Calls [`put_weights_of_counts`] and returns the code of its result ([`code_of`](crate::codes::code_of)).
 #[unsafe(no_mangle)]

@@ -1,5 +1,7 @@
 // Written by tools/sizes from large.rt.
-//! Intervals in the models of families, and weights from counts, with 16-bit words and a precision of 12 bits.
+//! Intervals in the models of a family of distributions, and weights from counts, at a precision of 12 bits.
+//!
+//! The interval starts, the interval lengths and the weights are 16-bit words.
 
 ghost use Rattle.std.specs.Prelude.{map};
 ghost use Rattle.constriction_c.specs.Codes.{answer_by_code};
@@ -36,7 +38,9 @@ pub extern "C" fn constriction_quantized_intervals_u16(
     code_without_space(intervals_of_quantized::<u16, 12>(&models, symbols, lefts, ps))
 }
 
-/// Writes a weight for each count, proportional to the count up to rounding. The weights add up to `2^12`.
+/// Writes a weight for each count into `weights`. The weights add up to `2^12`.
+///
+/// The weights are in proportion to the counts, apart from rounding. Each count above 0 gets a weight of at least 1.
 ///
 /// Calls [`put_weights_of_counts`] and returns the code of its result ([`code_of`](crate::codes::code_of)).
 #[unsafe(no_mangle)]

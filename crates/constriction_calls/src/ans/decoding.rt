@@ -95,7 +95,7 @@ pub fn decode_by_weights<
     decode::<Word, State, P, _, PRECISION>(alloc, head, words, len, &table, symbols)
 }
 
-/// Decodes symbols of a narrow type into `symbols`, with one table of weights for all symbols.
+/// Decodes symbols of a type such as `u8` into `symbols`, with one table of weights for all symbols.
 ///
 /// The call first decodes the symbols into a temporary list of `usize`. It changes `head` and `len` as [`decode`] does.
 ///
@@ -139,7 +139,7 @@ pub fn decode_narrow<
     }
 }
 
-/// Decodes symbols into `symbols` with a list of models. Returns the new head and the number of words left.
+/// Decodes symbols into `symbols` with a list of models. Returns the new head and the number of words below it.
 #[inline(never)]
 fn decode_by<
     Word: WordOf<State>,

@@ -70,7 +70,7 @@ pub fn encode_reverse<
     }
 }
 
-/// Encodes symbols of a narrow type from the last to the first, with one table of weights for all symbols.
+/// Encodes symbols of a type such as `u8` from the last to the first, with one table of weights for all symbols.
 ///
 /// The call first converts the symbols to a list of `usize`. It changes `head`, `words` and `len` as [`encode_reverse`]
 /// does.
@@ -148,7 +148,7 @@ pub fn encode_intervals_reverse<
     intervals_by_rows::<_, _, P, PRECISION>(alloc, head, words, len, lefts, ps)
 }
 
-/// Encodes intervals as [`encode_intervals_reverse`] does. Encodes each as symbol 1 of its own row of three weights.
+/// Encodes intervals as [`encode_intervals_reverse`] does: each interval as symbol 1 of its own row of three weights.
 ///
 /// # Errors
 ///
@@ -181,9 +181,10 @@ fn intervals_by_rows<Word: WordOf<State>, State: BitArray, P: WordOf<Word>, cons
     }
 }
 
-/// Encodes symbols from the last to the first onto a state with `head` and no words. Returns the new words and head.
+/// Encodes symbols from the last to the first, each with its own model, onto a state of `head` and no words.
 ///
-/// Returns `None` if a model has no entry for its symbol, or if there is no memory.
+/// Returns the words that the encodes write, and the new head. Returns `None` if a model has no entry for its symbol,
+/// or if there is no memory.
 #[inline]
 fn coded<
     Word: WordOf<State>,
@@ -208,7 +209,7 @@ fn coded<
     }
 }
 
-/// Encodes as [`coded`] does. The loop is out of line, so that it keeps the coder in registers.
+/// Encodes as [`coded`] does. This function isn't inlined, so that its loop keeps the coder in registers.
 #[inline(never)]
 fn coded_list<
     Word: WordOf<State>,
@@ -229,7 +230,7 @@ fn coded_list<
     coded_in_line(alloc, head, models, symbols)
 }
 
-/// Encodes as [`coded`] does, in line.
+/// Encodes as [`coded`] does. The compiler may inline this function into its caller.
 #[inline]
 fn coded_in_line<
     Word: WordOf<State>,

@@ -17,8 +17,8 @@ use std::alloc::Global;
 
 /// Imports the state that [`into_compressed`] exports as `words`.
 ///
-/// The last words become the head. The call sets `head`, and sets `len` to the number of words that stay below the
-/// head.
+/// The call moves words into the head, starting with the last word, while the head is below
+/// `2^(State::BITS - Word::BITS)`. It sets `head`, and sets `len` to the number of words that stay below the head.
 ///
 /// # Errors
 ///
@@ -44,8 +44,8 @@ pub fn from_compressed<Word: WordOf<State>, State: BitArray>(
 
 /// Imports the state that [`into_binary`] exports as `words`. Every list of words is the binary form of a state.
 ///
-/// The last words become the head, with a leading 1 above their bits. The call sets `head`, and sets `len` to the
-/// number of words that stay below the head.
+/// The call starts with the head 1, and moves words into the head, starting with the last word, while the head is below
+/// `2^(State::BITS - Word::BITS)`. It sets `head`, and sets `len` to the number of words that stay below the head.
 pub fn from_binary<Word: WordOf<State>, State: BitArray>(
     words: &[Word],
     len: &mut usize,

@@ -150,7 +150,7 @@ pub fn decode_by_weights<
     )
 }
 
-/// Decodes symbols of a narrow type into `symbols`, with one table of weights for all symbols.
+/// Decodes symbols of a type such as `u8` into `symbols`, with one table of weights for all symbols.
 ///
 /// The call first decodes the symbols into a temporary list of `usize`. It changes the coder as [`decode`] does.
 ///
@@ -218,6 +218,8 @@ pub fn decode_narrow<
 }
 
 /// Decodes `places.len()` symbols, each with its own model.
+///
+/// `places` is the caller's list for the decoded symbols. The call returns the symbols and leaves `places` unchanged.
 ///
 /// # Errors
 ///
@@ -297,8 +299,10 @@ fn take_symbols<
 ///
 /// # Errors
 ///
-/// The call returns the errors of [`append`]: `NoSpace(needed)` or `NoMemory`, if `remainders` is too short. A call
-/// that fails changes nothing.
+/// A call that fails changes nothing.
+///
+/// - `NoSpace(needed)`: `remainders` is too short. `needed` is the number of words that `remainders` has to hold.
+/// - `NoMemory`: this number doesn't fit a `usize`.
 fn end_taking<'a, Word: WordOf<State>, State: BitArray, const PRECISION: usize>(
     coder: Taking<'a, Word, State, PRECISION>,
     heads: &mut ChainHeads<Word, State>,

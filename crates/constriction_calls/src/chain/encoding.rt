@@ -141,7 +141,7 @@ fn encode_within<
     }
 }
 
-/// Encodes symbols of a narrow type from the last to the first, with one table of weights for all symbols.
+/// Encodes symbols of a type such as `u8` from the last to the first, with one table of weights for all symbols.
 ///
 /// The call first converts the symbols to a list of `usize`. It changes the coder as [`encode_reverse`] does.
 ///
@@ -256,7 +256,7 @@ pub fn encode_intervals_reverse<
     )
 }
 
-/// Encodes intervals as [`encode_intervals_reverse`] does. Encodes each as symbol 1 of its own row of three weights.
+/// Encodes intervals as [`encode_intervals_reverse`] does: each interval as symbol 1 of its own row of three weights.
 ///
 /// # Errors
 ///
@@ -314,7 +314,8 @@ fn intervals_by_rows<Word: WordOf<State>, State: BitArray, P: WordOf<Word>, cons
 
 /// Encodes symbols with `coder` from the last to the first, each with its own model.
 ///
-/// If `is_room` is false, the call encodes no symbol and returns an error.
+/// `is_room` is whether the coder's buffer for new words has a word for each symbol. If `is_room` is false, the call
+/// encodes no symbol and returns an error.
 ///
 /// # Errors
 ///
@@ -395,7 +396,7 @@ fn put_symbols<
     }
 }
 
-/// Encodes as [`put_symbols`] does. The loop is out of line, so that it keeps the coder's heads in registers.
+/// Encodes as [`put_symbols`] does. This function isn't inlined, so that its loop keeps the coder's heads in registers.
 #[inline(never)]
 fn put_many<
     'a,
@@ -421,7 +422,7 @@ fn put_many<
     put_in_line(coder, models, symbols)
 }
 
-/// Encodes as [`put_symbols`] does, in line.
+/// Encodes as [`put_symbols`] does. The compiler may inline this function into its caller.
 #[inline]
 fn put_in_line<
     'a,
@@ -468,8 +469,10 @@ fn put_in_line<
 ///
 /// # Errors
 ///
-/// The call returns the errors of [`append`]: `NoSpace(needed)` or `NoMemory`, if `compressed` is too short. A call
-/// that fails changes nothing.
+/// A call that fails changes nothing.
+///
+/// - `NoSpace(needed)`: `compressed` is too short. `needed` is the number of words that `compressed` has to hold.
+/// - `NoMemory`: this number doesn't fit a `usize`.
 fn end_putting<'a, Word: WordOf<State>, State: BitArray, const PRECISION: usize>(
     coder: Putting<'a, Word, State, PRECISION>,
     heads: &mut ChainHeads<Word, State>,

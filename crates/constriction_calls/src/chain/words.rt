@@ -33,11 +33,13 @@ type Bare<Word, State, const PRECISION: usize> = ChainCoder<
 
 /// Imports a coder from compressed words. The coder has no words of remainders below its heads.
 ///
-/// The call sets `heads`. It sets `len` to the number of words that are left in `words`, below the compressed head.
+/// The last words become the remainders head, and no bits are left over. The call sets `heads`, and sets `len` to the
+/// number of words that stay in `words`, below the compressed head.
 ///
 /// # Errors
 ///
-/// The call returns `InvalidData` if and only if the last word is 0, or there are too few words for the heads.
+/// The call returns `InvalidData` if and only if the last word is 0, or there are too few words to fill the remainders
+/// head.
 pub fn from_compressed<Word: WordOf<State>, State: BitArray, const PRECISION: usize>(
     alloc: Global,
     words: &[Word],
@@ -68,11 +70,12 @@ pub fn from_compressed<Word: WordOf<State>, State: BitArray, const PRECISION: us
 
 /// Imports a coder from compressed words in binary form. The coder has no words of remainders below its heads.
 ///
-/// The call sets `heads`. It sets `len` to the number of words that are left in `words`, below the compressed head.
+/// The last words become the remainders head, below a leading 1, and no bits are left over. The call sets `heads`, and
+/// sets `len` to the number of words that stay in `words`, below the compressed head.
 ///
 /// # Errors
 ///
-/// The call returns `InvalidData` if and only if there are too few words for the heads.
+/// The call returns `InvalidData` if and only if there are too few words to fill the remainders head.
 pub fn from_binary<Word: WordOf<State>, State: BitArray, const PRECISION: usize>(
     alloc: Global,
     words: &[Word],
@@ -103,12 +106,13 @@ pub fn from_binary<Word: WordOf<State>, State: BitArray, const PRECISION: usize>
 
 /// Imports a coder from the words of remainders. The coder has no compressed words below its heads.
 ///
-/// The call sets `heads`. It sets `len` to the number of words that are left in `words`, below the remainders head.
+/// The last word becomes the compressed head, and the words before it become the remainders head. The call sets
+/// `heads`, and sets `len` to the number of words that stay in `words`, below the remainders head.
 ///
 /// # Errors
 ///
-/// The call returns `InvalidData` if and only if one of the last two words is 0, or there are too few words for the
-/// heads.
+/// The call returns `InvalidData` if and only if one of the last two words is 0, or there are too few words to fill
+/// both heads.
 pub fn from_remainders<Word: WordOf<State>, State: BitArray, const PRECISION: usize>(
     alloc: Global,
     words: &[Word],

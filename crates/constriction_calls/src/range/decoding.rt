@@ -153,7 +153,7 @@ pub fn decode_by_weights<
     decode::<Word, State, P, _, PRECISION>(alloc, decoder, words, &table, symbols)
 }
 
-/// Decodes symbols of a narrow type into `symbols`, with one table of weights for all symbols.
+/// Decodes symbols of a type such as `u8` into `symbols`, with one table of weights for all symbols.
 ///
 /// The call first decodes the symbols into a temporary list of `usize`. It changes `decoder` as [`decode`] does.
 ///

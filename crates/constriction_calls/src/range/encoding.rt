@@ -50,7 +50,7 @@ fn put_list<
     }
 }
 
-/// Encodes as [`put_list`] does. The loop is out of line, so that it keeps the encoder in registers.
+/// Encodes as [`put_list`] does. This function isn't inlined, so that its loop keeps the encoder in registers.
 #[inline(never)]
 fn put_many<
     Word: WordOf<State>,
@@ -73,7 +73,7 @@ fn put_many<
     put_in_line::<Word, State, P, L, PRECISION>(encoder, list, symbols)
 }
 
-/// Encodes as [`put_list`] does, in line.
+/// Encodes as [`put_list`] does. The compiler may inline this function into its caller.
 #[inline]
 fn put_in_line<
     Word: WordOf<State>,
@@ -144,9 +144,9 @@ fn put_by<
 /// The call returns the errors of [`crate::range`], and then:
 ///
 /// - `ImpossibleSymbol` if and only if a model has no entry for its symbol.
-/// - `NoSpace(needed)` if the buffer is too short. `needed` is the number of words that it has to hold. There is one
-///   exception: if the first `len` words and the pending words alone don't fit the buffer, `needed` is the number of
-///   these words. The call then asks for no memory.
+/// - `NoSpace(needed)` if the buffer is too short. `needed` is the number of words that the buffer has to hold. There
+///   is one exception: if the first `len` words and the pending words alone don't fit the buffer, `needed` is the
+///   number of these words. The call then asks for no memory.
 /// - `NoMemory` if there is no memory.
 pub fn encode<
     Word: WordOf<State>,
@@ -202,7 +202,7 @@ pub fn encode<
     }
 }
 
-/// Encodes symbols of a narrow type in order, with one table of weights for all symbols.
+/// Encodes symbols of a type such as `u8` in order, with one table of weights for all symbols.
 ///
 /// The call first converts the symbols to a list of `usize`. It changes `encoder`, `buffer` and `len` as [`encode`]
 /// does.
@@ -286,7 +286,7 @@ pub fn encode_intervals<
     intervals_by_rows::<_, _, P, PRECISION>(alloc, encoder, buffer, len, lefts, ps)
 }
 
-/// Encodes intervals as [`encode_intervals`] does. Encodes each as symbol 1 of its own row of three weights.
+/// Encodes intervals as [`encode_intervals`] does: each interval as symbol 1 of its own row of three weights.
 ///
 /// # Errors
 ///

@@ -37,8 +37,8 @@ pub struct EncoderParts<Word, State> {
 /// A range decoder between two calls: its interval, its point, and the number of words that it read from the buffer.
 ///
 /// `lower` is the lower end of the interval, modulo `2^State::BITS`, and `range` is the interval's length. `point` is
-/// the number made of the last `State::BITS / Word::BITS` words that the decoder read. After the last word of the
-/// buffer it reads zero words. `pos` is the number of words that the decoder read from the buffer.
+/// the number made of the last `State::BITS / Word::BITS` words that the decoder read. Past the end of the buffer, each
+/// word that the decoder reads is 0. `pos` is the number of words that the decoder read from the buffer.
 ///
 /// # Examples
 ///

@@ -63,8 +63,11 @@ pub fn seek<Word: WordOf<State>, State: BitArray>(
 
 /// Sets `maybe` to 1 if the encoded symbols may have ended at the decoder's position, and to 0 if not.
 ///
-/// The symbols may have ended if no word is left to read, and one of two conditions holds. Either a seal could have led
-/// to the decoder's point, or the decoder has decoded no symbol.
+/// The symbols may have ended if and only if no word is left to read, and one of these conditions holds:
+///
+/// - `range` is `2^State::BITS - 1`, as in a decoder that has decoded no symbol.
+/// - `point - lower`, modulo `2^State::BITS`, is below `2^(State::BITS - Word::BITS + 1) - 1`, as in a decoder that has
+///   decoded all symbols of an encoder.
 ///
 /// # Errors
 ///

@@ -33,7 +33,7 @@ fn fit(symbols: usize, lengths: &[usize], positions: usize, lowers: usize, range
     add_up(lengths, symbols)
 }
 
-/// Cuts `symbols` into chunks, and returns the words and the index of their store.
+/// Cuts `symbols` into chunks of the lengths `lengths`, and returns the words and the index of their store.
 ///
 /// Returns `None` if a symbol is impossible, or if there is no memory.
 fn stored<Word: WordOf<State>, State: BitArray, P: WordOf<Word>, const PRECISION: usize>(

@@ -55,8 +55,8 @@ fn decoder_at<'a, Word: WordOf<State>, State: BitArray>(
 ///
 /// - `WrongLength`: the position is past the end of `words`.
 /// - `WrongWeights`: the weights don't add up to `2 ^ PRECISION`.
-/// - `InvalidData`: `range` is too small, or the words don't encode `symbols.len()` symbols. The call never returns
-///   this error for a chunk of a store that `build` wrote with the same weights.
+/// - `InvalidData`: `range` is below `2^(State::BITS - Word::BITS)`, or the words don't encode `symbols.len()` symbols.
+///   The call never returns this error for a chunk of a store that [`build`](super::build) wrote with the same weights.
 /// - `NoMemory`: there is no memory.
 pub fn chunk<Word: WordOf<State>, State: BitArray, P: WordOf<Word>, const PRECISION: usize>(
     alloc: Global,

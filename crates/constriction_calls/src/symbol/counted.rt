@@ -18,6 +18,12 @@ use std::marker::Model;
 /// A reader of the bits of words. It starts at a given bit, and counts the bits that are left.
 ///
 /// Contracts describe a `CountedBits` by the list of the bits that are left.
+///
+/// # Examples
+///
+/// ```
+/// CountedBits::from(&[7u8, 0], 1).left() // 15
+/// ```
 #[derive(Drop)]
 pub struct CountedBits<'a, Word: BitArray> {
     bits: QueueDecoder<Word, Cursor<Word, &'a [Word]>>,
@@ -35,7 +41,9 @@ impl<'a, Word: BitArray> Model for CountedBits<'a, Word> {
 }
 
 impl<'a, Word: BitArray> CountedBits<'a, Word> {
-    /// Creates a reader that starts at bit `bit` of `words`. The caller proves that `words` has at least `bit` bits.
+    /// Creates a reader that starts at bit `bit` of `words`.
+    ///
+    /// The caller proves that `words` has at least `bit` bits, and fewer than 2^64 bits.
     pub fn from(words: &'a [Word], bit: usize) -> Self
         requires { IsBit Word.BITS (length words.now) bit }
         ensures { result ≡ drop bit (bits_of_words Word.BITS (map Word.number words.now)) }

@@ -100,7 +100,7 @@ pub fn decode_stack<Word: BitArray, C: Codes>(
 /// # Errors
 ///
 /// The call returns `OutOfData`, `InvalidData` or `NoMemory` in the cases that [`crate::symbol`] lists. It also returns
-/// `NoMemory` if the backend refuses a read.
+/// `NoMemory` if `stream` returns a read error.
 fn read_symbols<S: Semantics, R: ReadBitStream<S>, C: DecoderCodebook>(
     alloc: Global,
     stream: &mut R,
@@ -132,7 +132,10 @@ where
     Ok(())
 }
 
-/// Converts the error of a decode to the error that the call returns.
+/// Converts the error of a coder's decode to the error that a call of this crate returns.
+///
+/// `OutOfCompressedData` becomes `OutOfData`, `InvalidCodeword` becomes `InvalidData`, and an error of the backend
+/// becomes `NoMemory`.
 fn told_as<V: Drop, E: Drop>(error: CoderError<SymbolCodeError<V>, E>) -> Refusal
     ensures { IsToldAs error result }
 {

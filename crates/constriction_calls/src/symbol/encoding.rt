@@ -131,7 +131,9 @@ fn words_from<Word: BitArray, C: Codes>(
     Some((added, end))
 }
 
-/// Returns a queue of the first `count` bits of `words`, or `None` if there are fewer bits or no memory.
+/// Returns a queue of the first `count` bits of `words`.
+///
+/// Returns `None` if `words` has fewer bits, or if there is no memory.
 fn queue_of_first<Word: BitArray>(
     alloc: Global,
     words: &[Word],

@@ -1,4 +1,4 @@
-//! [`Tree`]: the codebook of the Huffman tree of a caller's weights.
+//! [`Tree`]: selects the codebook of the Huffman tree of a caller's weights.
 
 ghost use Rattle.std.specs.Prelude.{◌↔◌, ◌<◌, All, IsTrue, map};
 ghost use Rattle.constriction_calls.specs.SymbolCalls.{MakesCode, OfWeights};
@@ -10,7 +10,7 @@ use constriction_words::BitArray;
 use std::alloc::Global;
 use std::convert::Infallible;
 
-/// A choice of a codebook: the Huffman tree of `weights`. Symbol `i` has the weight `weights[i]`.
+/// Selects the codebook of the Huffman tree of `weights`. Symbol `i` has the weight `weights[i]`.
 ///
 /// # Examples
 ///
@@ -67,7 +67,7 @@ impl<'a, P: BitArray> Codes for Tree<'a, P> {
     }
 }
 
-/// Returns whether the weights make a tree of at most `most` symbols.
+/// Returns whether the weights make a Huffman tree: there are 1 to `most` weights, and their sum fits `P`.
 fn make_tree<P: BitArray>(weights: &[P], most: usize) -> bool
     ensures { IsTrue result ↔ MakesCode most (OfWeights P.BITS (map P.number weights.now)) }
 {

@@ -24,9 +24,9 @@ pub type FamilyModel<P, const PRECISION: usize> = IndexedDistribution<
 
 /// Models of one family of distributions. Each symbol has its own location and scale, in multiples of `2^-16`.
 ///
-/// Item `i` of `locations` and item `i` of `scales` belong to symbol `i` of the list to encode or decode. The caller
-/// passes each symbol as an index into the range of integers from `min` to `max`. Index 0 stands for `min`. `family` is
-/// 0 for `Gaussian`, 1 for `Laplace` and 2 for `Logistic`.
+/// Item `i` of `locations` and item `i` of `scales` belong to symbol `i` of the list to encode or decode. Each scale is
+/// at least 1. The caller passes each symbol as an index into the range of integers from `min` to `max`. Index 0
+/// stands for `min`. `family` is 0 for `Gaussian`, 1 for `Laplace` and 2 for `Logistic`.
 ///
 /// # Examples
 ///
@@ -102,7 +102,7 @@ impl<'a> Families<'a> {
     ///
     /// - `WrongLength`: `locations` and `scales` differ in length.
     /// - `WrongInterval`: the range has fewer than two or more than `2 ^ PRECISION` symbols.
-    /// - `WrongWeights`: no family has the number `family`, or a scale is 0.
+    /// - `WrongWeights`: `family` is above 2, so it stands for no family, or a scale is 0.
     pub fn quantizer<P: WordOf<u32>, const PRECISION: usize>(
         &self,
     ) -> Result<(Family, LeakyQuantizer<P, PRECISION>), Refusal>
@@ -142,7 +142,9 @@ impl<'a> Families<'a> {
     }
 }
 
-/// Returns the family with the number `code`, or `None` if no family has this number.
+/// Returns the family that `code` stands for: 0 is `Gaussian`, 1 is `Laplace`, and 2 is `Logistic`.
+///
+/// Returns `None` if `code` is above 2.
 fn family_at(code: u32) -> Option<Family>
     ensures { result ≡ family_of code }
 {
@@ -167,6 +169,12 @@ fn are_above_zero(scales: &[u32]) -> bool
 }
 
 /// Returns a model of the family `family` for each location and the scale at the same index.
+///
+/// The caller proves that `locations` and `scales` have the same length, and that all scales are above 0.
+///
+/// # Errors
+///
+/// The call returns `AllocError` if there is no memory for the list of models.
 fn models_of<P: WordOf<u32>, const PRECISION: usize>(
     alloc: Global,
     family: Family,

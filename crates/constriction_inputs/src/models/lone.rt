@@ -1,4 +1,6 @@
-//! `Row` as a form of models: one row of weights for all symbols of a list.
+//! The implementation of [`Models`] for [`Row`]: one row of weights for all symbols of a list.
+//!
+//! The implementation builds no table, so its calls need no memory.
 
 ghost use Rattle.std.specs.Prelude.{map};
 ghost use Rattle.constriction_inputs.specs.Weights.{by_weights};

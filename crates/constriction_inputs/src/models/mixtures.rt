@@ -1,4 +1,4 @@
-//! `Mixtures`: a row of components of a family for each symbol.
+//! `Mixtures`: a mixture of distributions of one family for each symbol.
 
 mod mixed;
 mod weighing;

@@ -1,8 +1,8 @@
 //! Writes the interval of each symbol in the symbol's own model, which has a location and a scale.
 //!
-//! A caller in another language can inspect a model's table. The caller passes the indices of all symbols in order,
-//! with the same location and scale for each symbol. The intervals written are then the whole table. The caller can
-//! also encode these intervals.
+//! A caller in another language can read a model's whole table with [`intervals_of_quantized`]. To do this, the caller
+//! passes the indices of all symbols in order, with the same location and scale for each symbol. The caller can also
+//! pass the intervals to a call that encodes intervals.
 
 ghost use Rattle.std.specs.Prelude.{◌≡◌, ◌<◌, ◌≤◌, Some, length, map};
 ghost use Rattle.std.specs.List.{AllByRecursion};
@@ -29,7 +29,7 @@ use constriction_words::{BitArray, WordOf};
 ///
 /// - `WrongLength`: `lefts`, `ps`, or a list of `families` doesn't have one item for each symbol.
 /// - `WrongInterval`: the range of `families` has fewer than two or more than `2 ^ PRECISION` symbols.
-/// - `WrongWeights`: no family has the number of `families`, or a scale is 0.
+/// - `WrongWeights`: `families.family` is above 2, so it stands for no family, or a scale is 0.
 /// - `ImpossibleSymbol`: a symbol isn't an index into the range of `families`.
 pub fn intervals_of_quantized<P: WordOf<u32>, const PRECISION: usize>(
     families: &Families<'_>,
@@ -67,9 +67,10 @@ pub fn intervals_of_quantized<P: WordOf<u32>, const PRECISION: usize>(
     Ok(())
 }
 
-/// Writes the start and the length of each symbol's interval.
+/// Writes the start of each symbol's interval into `lefts`, and the interval's length into `ps`, in quantiles.
 ///
-/// The caller proves that each symbol is an index into the range of `quantizer`.
+/// The model of symbol `i` has location `locations[i]` and scale `scales[i]`. The caller proves that all lists have the
+/// same length, that all scales are above 0, and that each symbol is an index into the range of `quantizer`.
 fn put_intervals<P: WordOf<u32>, const PRECISION: usize>(
     family: Family,
     quantizer: &LeakyQuantizer<P, PRECISION>,

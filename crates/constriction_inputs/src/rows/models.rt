@@ -1,4 +1,4 @@
-//! The model traits of a row of weights.
+//! Implementations of the model traits for [`Row`], a row of weights.
 
 ghost use Rattle.std.specs.Prelude.{map};
 ghost use Rattle.constriction_base.specs.Tables.{table_of};

@@ -1,4 +1,4 @@
-//! [`MixedDistribution`]: the model of a mixture that owns its components.
+//! [`MixedDistribution`]: the model of a mixture, which owns the mixture's components.
 
 ghost use Rattle.std.specs.Prelude.{◌≡◌, ℕ, ◌+◌, ◌*◌, ◌<◌, ◌≤◌, Some, get_or, length, vec_capacity};
 ghost use Rattle.constriction_models.specs.Mixtures.{mixed, total_weight, weighted};
@@ -15,7 +15,9 @@ use constriction_models::mixture::{Component, Mixture};
 use constriction_models::quantizer::{IndexedDistribution, LeakyQuantizer};
 use constriction_words::{BitArray, WordOf};
 
-/// The model of a mixture that owns its components. The symbols are indices into a quantizer's range of integers.
+/// The model of a mixture. The model owns the mixture's components.
+///
+/// Its symbols are indices into a quantizer's range of integers.
 #[derive(Drop)]
 pub struct MixedDistribution<D: CumulativeDistribution, P: WordOf<u32>, const PRECISION: usize> {
     pub(super) components: Vec<Component<D>>,
@@ -96,7 +98,7 @@ impl<D: CumulativeDistribution, P: WordOf<u32>, const PRECISION: usize> DecoderM
     }
 }
 
-/// Returns a component of weight 1. The model of a mixture list has only this component until the first `turn_to`.
+/// Returns a component of weight 1. The model of a `MixtureList` has only this component until the first `turn_to`.
 pub(super) fn first_component(family: Family) -> Component<FamilyDistribution>
     ensures { result.weight ≡ 1 }
 {
@@ -108,7 +110,8 @@ pub(super) fn first_component(family: Family) -> Component<FamilyDistribution>
 
 /// Replaces `components` with the components of row `place`.
 ///
-/// `weights`, `locations` and `scales` have rows of `width` numbers, one row after another. The call needs no memory.
+/// `weights`, `locations` and `scales` have rows of `width` numbers, one row after another. The caller proves that
+/// `components` has room for `width` components, so the call needs no memory.
 #[inline]
 pub(super) fn fill_from_row(
     components: &mut Vec<Component<FamilyDistribution>>,
@@ -144,7 +147,9 @@ pub(super) fn fill_from_row(
     );
 }
 
-/// Replaces `components` with components of these weights, locations and scales. The call needs no memory.
+/// Replaces `components` with components of these weights, locations and scales.
+///
+/// The caller proves that `components` has room for them, so the call needs no memory.
 #[inline]
 fn fill(
     components: &mut Vec<Component<FamilyDistribution>>,

@@ -18,6 +18,8 @@ fn is_mixable(weights: &[u32]) -> bool
 }
 
 /// Returns whether each of `count` rows of `width` weights adds up to at least 1 and at most `2^32`.
+///
+/// `weights` has the rows one after another. The caller proves that `weights` has `count` rows.
 pub(super) fn are_mixable(weights: &[u32], width: usize, count: usize) -> bool
     requires { length weights.now ≡ width * count }
     ensures { IsTrue result ↔ AreMixable width count weights.now }
