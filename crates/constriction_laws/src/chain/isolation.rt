@@ -1,4 +1,4 @@
-//! Isolation: replacing the model of one symbol changes only that symbol and the remainders.
+//! Isolation on the chain coder: replacing the model of one symbol can change only that symbol and the remainders.
 
 ghost use Rattle.std.specs.Prelude.{ℕ, List};
 ghost use Rattle.constriction_chain.specs.Chain.{ChainState};

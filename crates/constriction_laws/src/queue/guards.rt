@@ -2,7 +2,7 @@
 //!
 //! The clause `shows` of `RangeEncoder::get_compressed` says that a guard lends the words of the export. The premises
 //! of the law here are the clauses `heads` and `back` of that call. These clauses say that the guard's encoder has the
-//! same heads, and holds the words of the seal above the encoder's words.
+//! same interval and pending words, and that it holds the words of the seal above the encoder's words.
 
 ghost use Rattle.std.specs.Prelude.{◌≡◌, ℕ};
 ghost use Rattle.constriction_queue.specs.Encoder.{Encoder, run_by, sealed_by};
