@@ -16,7 +16,7 @@ use constriction_stream::decoding::Decode;
 use constriction_stream::encoding::Encode;
 use constriction_words::{BitArray, WordOf};
 
-/// Returns whether `head` is below `2^(s-w)`.
+/// Returns whether `head` is below `2^(State::BITS - Word::BITS)`.
 fn is_low<Word: WordOf<State>, State: BitArray>(head: State) -> bool
     requires { IsSizes Word.BITS State.BITS }
     ensures { MatchBool result (State.number head < 2 ^ (State.BITS - Word.BITS))
@@ -28,7 +28,7 @@ fn is_low<Word: WordOf<State>, State: BitArray>(head: State) -> bool
 /// The reason why [`exchange`] failed.
 #[derive(Debug, Clone, Copy, PartialEq, Eq)]
 pub enum ExchangeError {
-    /// The head is below `2^(s-w)` before the exchange, or after the decode.
+    /// The head is below `2^(State::BITS - Word::BITS)` before the exchange, or after the decode.
     LowHead,
     /// The model for encoding has no entry for the symbol.
     ImpossibleSymbol,
@@ -45,7 +45,7 @@ pub enum ExchangeError {
 /// An error after the decode doesn't undo the decode, and the decoded symbol is lost. An error before the decode, or
 /// of the decode, leaves the state unchanged.
 ///
-/// - `LowHead`: the head is below `2^(s-w)` before the decode or after it.
+/// - `LowHead`: the head is below `2^(State::BITS - Word::BITS)` before the decode or after it.
 /// - `ImpossibleSymbol`: the decode succeeded, but the model `on` has no entry for `symbol`.
 /// - `Refused`: a read of the decode or a write of the encode failed.
 pub fn exchange<

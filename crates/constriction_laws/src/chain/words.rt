@@ -37,7 +37,7 @@ pub fn one_coder()
 /// 6. Export the compressed words, in binary form if step 1 imports words in binary form.
 ///
 /// The words of step 6, followed by the compressed words that the decodes left, are the original words. After step 5,
-/// the remainders are the list `below`.
+/// the remainders are the list `below`. The clause `encoded` says that steps 4 and 5 are always possible.
 pub fn words_come_back<Symbol>()
     ensures encoded { (w s P : ℕ) (below : List ℕ) (items : List (Item Symbol)) (x y : ChainState) → IsSized w s P →
         AreModelsAt P items → AreWords w below → IsWhole w s P x → TakesOffAll w s items x y → CanBePutBack w s P items

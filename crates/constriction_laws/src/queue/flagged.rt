@@ -47,8 +47,9 @@ pub fn flagged_symbols_come_back()
 ///
 /// # Errors
 ///
-/// - `Refused(error)`: `next_symbol` returned this error. If the backend behaves as a fixed list of words (`is_list`),
-///   the error is `InvalidData` only if the words, starting at the position of `switch`, don't encode `amt` symbols.
+/// - `Refused(error)`: `next_symbol` returned this error. Suppose that the backend behaves as a fixed list of words
+///   (`is_list`). Then the error is `InvalidData` only if the words don't encode `amt` symbols, starting at the
+///   position of `switch`.
 /// - `NoMemory`: there was no memory for the symbols.
 ///
 /// After an error, `switch` uses `second` if the flag was among the symbols that `next_symbol` returned. If the

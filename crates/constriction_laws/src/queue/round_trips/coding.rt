@@ -65,9 +65,9 @@ where
 
 /// Decodes one symbol for each model.
 ///
-/// Each symbol narrows the decoder's interval. Suppose that the backend behaves as a fixed list of words (`is_list`),
-/// and that the words, starting at the decoder's position, encode one symbol with each model. Then the call returns
-/// these symbols in order.
+/// Each symbol narrows the decoder's interval. Suppose that the backend behaves as a fixed list of words (`is_list`).
+/// If the words, starting at the decoder's position, encode one symbol with each model, the call returns these symbols
+/// in order.
 ///
 /// # Errors
 ///

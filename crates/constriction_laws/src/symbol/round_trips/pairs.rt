@@ -74,9 +74,9 @@ where
 
 /// Decodes one symbol for each codebook, with [`ReadBitStream::decode_symbols`].
 ///
-/// Suppose that the stream behaves as a fixed list of bits (`is_list`), and that the unread bits begin with one
-/// codeword of each codebook, in order. Then the call reads exactly these codewords and returns their symbols. It may
-/// return another symbol that means the same (`is_same`).
+/// Suppose that the stream behaves as a fixed list of bits (`is_list`). If the unread bits begin with one codeword of
+/// each codebook, in order, the call reads exactly these codewords and returns their symbols. The call may return
+/// another symbol that means the same (`is_same`).
 ///
 /// # Errors
 ///
