@@ -14,7 +14,7 @@ ghost use Rattle.constriction_base.specs.Writing.{IsOneAbove};
 /// Importing a list of words leads to at most one state.
 ///
 /// This holds for imports of compressed words, of words in binary form, and of remainders. The clause `form` says that
-/// a number has at most one binary form.
+/// the remainders head determines how many words of a binary form come from this head.
 pub fn one_coder()
     ensures compressed { (w s P : ℕ) (words : List ℕ) (x y : ChainState) → 1 ≤ w →
         FromCompressed w s P words x → FromCompressed w s P words y → x ≡ y }

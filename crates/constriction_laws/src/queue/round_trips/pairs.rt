@@ -2,7 +2,7 @@
 //!
 //! Each symbol has its own model. The contract of [`compressed_words_of_pairs`] says which words the encoder exports.
 //! The contract of [`pairs_from_words`] says which symbols the call returns for any words. If an encoder exported the
-//! words, these are the encoded symbols. Three fields of the clause `back` say so:
+//! words, these are the encoded symbols. Three fields of the clause `back` say so, each in one case:
 //!
 //! - `sealed`: the words are sealed words, and no words follow.
 //! - `followed`: the words begin with sealed words, any words may follow, and `State` is two words wide.
@@ -39,7 +39,7 @@ use std::alloc::Global;
 /// # Errors
 ///
 /// - `ImpossibleSymbol`: a model has no entry for its symbol.
-/// - `TooManySymbols`: there are more symbols than the encoder can still encode.
+/// - `TooManySymbols`: there are more symbols than `symbols_left` returns.
 /// - `Refused`: the backend refused a word.
 pub fn compressed_words_of_pairs<
     Word: WordOf<State>,
