@@ -1,7 +1,7 @@
 //! Upper bounds on the number of words that a stack coder or a range encoder exports.
 //!
-//! The coder encodes a list of steps. A step consists of a symbol's precision `P` in bits, its weight `p` and the start
-//! of its interval. The steps may have different precisions.
+//! The coder encodes a list of steps. A step consists of a symbol's precision `P` in bits, its weight `p` and the
+//! start of its interval. The steps may have different precisions.
 //!
 //! The bounds are inequalities between products of whole numbers. `w` and `s` are the widths in bits of a word and of a
 //! head. `k = s - w - P` is the number of spare bits: the bits that a head has beyond a word and a precision of `P`
