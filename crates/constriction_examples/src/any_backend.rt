@@ -78,10 +78,10 @@ fn encoded(
     Ok(encoder)
 }
 
-/// Encodes three symbols, and prints two numbers of words and the first symbol decoded.
+/// Encodes three symbols over the backend [`Counted`], and prints two counts of words and the first symbol decoded.
 ///
-/// The first number is the number of words in the encoder's position. The second number is the number of words written,
-/// including the seal.
+/// The first count is that of the encoder's position: the words written and pending before the seal. The second count
+/// is `written`: the words written, including the seal.
 fn show_symbols(rt: &impl Print, alloc: Global) -> Result<()> {
     let table = WeightTable::<u32, 24>::new(alloc, &[3, 2, 16777211])?;
     let encoder = encoded(alloc, &table)?;

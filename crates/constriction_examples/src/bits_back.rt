@@ -49,7 +49,7 @@ fn take_off(coder: &mut Coder, table: &Table) -> usize
     }
 }
 
-/// Encodes a symbol, or a latent, with a table.
+/// Encodes a symbol, or a latent, with a table. Fails if the table has no entry for it, or if there is no memory.
 fn put_on(coder: &mut Coder, symbol: usize, table: &Table) -> Result<()>
     ensures { IsValid 32 64 coder.old.state
         → OnOk result (Encodes 32 64 (model_of table.now) symbol coder.old.state coder.new.state) }
@@ -91,7 +91,7 @@ impl Mixture {
 
     /// Hides a symbol: decodes a latent with the symbol's posterior, encodes the symbol, and encodes the latent.
     ///
-    /// The symbol is encoded with the latent's table, and the latent with the prior.
+    /// The call encodes the symbol with the latent's table, and the latent with the prior.
     fn hide(&self, coder: &mut Coder, symbol: usize) -> Result<()>
         ensures hides { IsValid 32 64 coder.old.state
             → OnOk result (Hides self.now symbol coder.old.state coder.new.state) }
@@ -210,7 +210,7 @@ fn send_and_show(rt: &impl Print, alloc: Global, mixture: &Mixture) -> Result<()
 
 /// Encodes twelve symbols with bits-back coding on top of an earlier message's words, and decodes them.
 ///
-/// Prints the symbols' cost in bits, the symbols decoded, and the words left, which are the earlier message's words.
+/// Prints the symbols' cost in bits, the symbols decoded, and the words left. These are the earlier message's words.
 pub fn run(rt: &impl Print, alloc: Global) -> Result<()> {
     let mixture = Mixture::new(alloc)?;
     send_and_show(rt, alloc, &mixture)

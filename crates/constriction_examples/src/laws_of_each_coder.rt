@@ -4,7 +4,7 @@
 //! definitions that another crate needs to state and use a law.
 //!
 //! - [`stack`]: the cost of bits-back coding.
-//! - [`queue`]: reading sealed words returns the steps that were encoded.
+//! - [`queue`]: reading sealed words returns the encoded steps. A step is a symbol's precision, weight and interval.
 //! - [`chain`]: isolation across a change of the precision, and the room of the backends after a failed step.
 //! - [`symbol`]: the Huffman tree of two equal weights.
 

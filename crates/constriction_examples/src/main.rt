@@ -7,7 +7,7 @@
 //! - [`isolation`]: which symbols change if one model is replaced, on the stack coder and on the chain coder.
 //! - [`programs`]: small programs for the other coders and for models.
 //! - [`any_backend`]: a user-defined backend.
-//! - [`calls`]: the calls of each coder at concrete types.
+//! - [`calls`]: the calls of each coder, with concrete types of words, heads and models.
 //!
 //! [`laws_of_each_coder`] applies one law of each coder. The program doesn't run it.
 #![tactic(auto)]

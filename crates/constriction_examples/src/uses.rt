@@ -44,7 +44,7 @@ pub fn pack(
 
 /// Decodes one symbol for each table of `tables` from `words`.
 ///
-/// If [`pack`] made the words with these tables, the call returns the symbols that were passed to `pack`.
+/// If [`pack`] returned the words for these tables, the call returns the symbols that were passed to `pack`.
 ///
 /// # Errors
 ///
@@ -84,7 +84,8 @@ pub fn words_so_far(alloc: Global, coder: &mut DefaultAnsCoder) -> Option<Vec<u3
 /// Decodes one symbol for each table of `tables`, from a position in a coder's words.
 ///
 /// The symbols returned are the last symbols encoded before the position was recorded, in reverse order of encoding.
-/// The coder may have encoded any symbols after the position was recorded.
+/// After the recording, the coder may have encoded any symbols, if it still has all words that were then below its
+/// head.
 ///
 /// # Errors
 ///
@@ -110,7 +111,7 @@ pub fn run(rt: &impl Print, alloc: Global) -> Result<()> {
     // Symbols 0, 1 and 2. Symbol 2 is by far the likeliest.
     let table = WeightTable::<u32, 24>::new(alloc, &[3, 2, 16777211])?;
 
-    // What is encoded last is decoded first.
+    // The symbol encoded last is decoded first.
     let mut coder = DefaultAnsCoder::new(alloc);
     coder.encode_symbol(&1, &table)?;
     coder.encode_iid_symbols([0usize, 2].as_slice(), &table)?;

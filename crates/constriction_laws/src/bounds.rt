@@ -1,4 +1,7 @@
-//! Upper bounds on the number of words, for any list of steps with any precisions.
+//! Upper bounds on the number of words that a stack coder or a range encoder exports.
+//!
+//! The coder encodes a list of steps. A step consists of a symbol's precision `P` in bits, its weight `p` and the
+//! start of its interval. The steps may have different precisions.
 //!
 //! The bounds are inequalities between products of whole numbers. `w` and `s` are the widths in bits of a word and of a
 //! head. `k = s - w - P` is the number of spare bits: the bits that a head has beyond a word and a precision of `P`
@@ -20,7 +23,8 @@ ghost use Rattle.constriction_laws.specs.stack.Lists.{Pushes};
 /// Bounds the number of words that a stack coder exports, if it started empty and encoded `steps`.
 ///
 /// Suppose that the coder exports `N` words. Then `2^(w * (N - 1)) * A <= 2^(s - w) * B`. `A` is the product of
-/// `p * 2^k` over all steps. `B` is the product of `2^P * (2^k + 1)` over all steps.
+/// `p * 2^k` over all steps. `B` is the product of `2^P * (2^k + 1)` over all steps. Here `p` is a step's weight, `P`
+/// is its precision in bits, and `k` is `s - w - P`.
 pub fn stack_bound()
     ensures { (w s : ℕ) (steps : List Step) (state : AnsState) → IsSizes w s → AreSteps w steps → Pushes w s steps empty
         state → IsStackBounded w s steps (exported w state) }
@@ -28,9 +32,9 @@ pub fn stack_bound()
 
 /// Bounds the number of words that a stack coder exports, if all symbols have the same precision.
 ///
-/// The coder started empty and encoded `steps`. The spare bits `k` are the same in all steps. Suppose that the coder
-/// exports `N` words for `n` symbols. Then `w * (N - 1)` is at most the sum of three terms: `s - w`, the information
-/// content of all symbols in bits, and `n * log2(1 + 2^-k)`.
+/// The coder started empty and encoded `steps`. Suppose that it exports `N` words for `n` symbols. Then `w * (N - 1)`
+/// is at most the sum of three terms: `s - w`, the information content of all symbols in bits, and
+/// `n * log2(1 + 2^-k)`. Here `k` is the number of spare bits: `s - w` minus the precision in bits.
 pub fn stack_bound_at_one_precision()
     ensures { (w s precision : ℕ) (steps : List Step) (state : AnsState) → IsSizes w s → AreSteps w steps →
         AllByRecursion (λ e. e.precision ≡ precision) steps → Pushes w s steps empty state → IsStackBoundedAt w s
@@ -39,9 +43,14 @@ pub fn stack_bound_at_one_precision()
 
 /// Bounds the number of words that a sequence of encodes and decodes adds to the export of a stack coder.
 ///
-/// The encodes and decodes may come in any order. The bound follows from their net cost, as in bits-back coding: the
-/// bits that encodes add, minus the bits that decodes take off. The coder begins in a valid state. The head is at least
-/// `2^(s-w)` at the beginning and after each decode.
+/// The encodes and decodes may come in any order. The coder begins in a valid state. The head is at least `2^(s-w)` at
+/// the beginning and after each decode. Suppose that the coder exports `M` words before the calls and `N` words after
+/// them. Then `w * (N - 1)` is below the sum of three terms:
+///
+/// - `w * M`
+/// - the net cost in bits, as in bits-back coding: the information content of the encoded symbols, minus the
+///   information content of the decoded symbols
+/// - `log2(1 + 2^-k)` for each call, where `k` is `s - w` minus the call's precision in bits
 pub fn stack_net_bound()
     ensures { (w s : ℕ) (acts : List Act) (old new : AnsState) → IsSizes w s → AreAllowed w acts → IsValid w s old →
         2 ^ (s - w) ≤ old.head → InTurn (Acts w s) acts old new →
@@ -50,7 +59,8 @@ pub fn stack_net_bound()
 
 /// Bounds the number of words that a range encoder exports, if it exports at least two words.
 ///
-/// These words include the seal. The encoder starts from the initial interval and encodes `steps`.
+/// The encoder starts from the initial interval and encodes `steps`. Suppose that it exports `N` words, counting the
+/// seal. Then `2^(w * (N - 2)) * (2^s - 1) * A < 2^s * B`, with the products `A` and `B` of [`stack_bound`].
 pub fn range_bound()
     ensures { (w s : ℕ) (steps : List Step) → IsSizes w s → AreSteps w steps → IsRangeBounded w s 2 steps (sealed_steps
         w s steps) }
@@ -58,8 +68,8 @@ pub fn range_bound()
 
 /// Bounds the number of words that a range encoder exports with a self-delimiting seal.
 ///
-/// The encoder starts from the initial interval and encodes `steps`. The bound holds if there are at least `s / w`
-/// words, counting the seal. `State` is `s / w` words wide.
+/// The encoder starts from the initial interval and encodes `steps`. `State` is `m = s / w` words wide. If the encoder
+/// exports at least `m` words, counting the seal, the bound is that of [`range_bound`] with `m` in place of 2.
 pub fn self_delimiting_bound()
     ensures { (w s : ℕ) (steps : List Step) (words : List ℕ) → IsSizes w s → AreSteps w steps → DelimitsSteps w s steps
         words → IsRangeBounded w s (s / w) steps words }

@@ -1,28 +1,28 @@
-//! The reasons why symbols weren't encoded or decoded.
+//! The errors of functions that encode or decode a list of symbols.
 
-/// The reason why a list of decodes ended early.
+/// The reason why decoding a list of symbols failed. `E` is the error type of one decode.
 #[derive(Drop)]
 pub enum Stopped<E> {
     /// The decoder returned this error for a symbol.
     Refused(E),
-    /// There was no memory for the symbols.
+    /// There was no memory for the decoded symbols.
     NoMemory,
 }
 
-/// The reason why symbols weren't encoded, or weren't decoded from words.
+/// The reason why encoding a list of symbols, or decoding a list of symbols from words, failed.
 ///
-/// Each function documents when it returns each case.
+/// Each function documents which of these errors it returns, and when.
 #[derive(Debug, Clone, Copy, PartialEq, Eq)]
 pub enum RoundTripError {
     /// A model has no entry for its symbol.
     ImpossibleSymbol,
-    /// There are more symbols than the encoder can still encode (`symbols_left`).
+    /// There are more symbols than a range encoder can still encode. `symbols_left` returns that number of symbols.
     TooManySymbols,
-    /// The words or the coder's state don't fit the call.
+    /// The call can't use the words, the position or the coder's state.
     ///
     /// For example, the words don't encode symbols of the given models, or the state has no binary form.
     InvalidData,
-    /// The words ended after this number of symbols.
+    /// The words ended after this number of decoded symbols.
     OutOfData(usize),
     /// There was no memory, or a read or a write of a backend failed.
     Refused,

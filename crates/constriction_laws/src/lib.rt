@@ -5,12 +5,13 @@
 //! contract of a coder's call names the definition that the call meets. A law proves what follows for a list of calls.
 //! Laws list words in reading order: the word that the next read returns comes first.
 //!
-//! The public functions of the modules `round_trips` and `costs`, and the functions `flagged::decode_flagged` and
-//! `bounds::words::exchange`, make the coders' calls. Their contracts describe the combined effect of these calls.
+//! Other public functions make the coders' calls, and their contracts describe the combined effect of these calls.
+//! These are all functions of the modules `round_trips` and `costs`, and the functions `flagged::decode_flagged` and
+//! `bounds::words::exchange`.
 //!
 //! - [`bounds`]: upper bounds on the number of words, and sealed words that any words may follow.
 //! - [`chain`]: the chain coder, whose symbols are isolated.
-//! - [`errors`]: the reasons why symbols weren't encoded or decoded.
+//! - [`errors`]: the errors of the functions that encode or decode a list of symbols.
 //! - [`lists`]: a law for all coders. If each step can be undone, a list of steps can be undone, from the last step to
 //!   the first.
 //! - [`queue`]: the range coder.

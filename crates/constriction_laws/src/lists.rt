@@ -1,15 +1,16 @@
-//! Lists of steps that can be undone.
+//! A law for all coders: if each step of a coder can be undone, a list of steps can be undone.
 
 ghost use Rattle.std.specs.Prelude.{List, reverse};
 ghost use Rattle.std.specs.List.{AllByRecursion};
 ghost use Rattle.constriction_base.specs.Steps.{InTurn};
 
-/// Steps of a coder, and the steps that undo them.
+/// Steps of a coder, such as encodes, and the inverse steps that undo them, such as decodes.
 ///
 /// An implementor describes one use of a coder, such as encoding on the stack coder. It proves that an allowed step
-/// from a valid state leads to a valid state, and that the inverse step leads back. The range coder decodes symbols in
-/// the order of encoding. So the steps of the range coder's implementor undo encodes, from the last to the first. The
-/// inverse steps are the decodes.
+/// from a valid state leads to a valid state, and that the inverse step leads back.
+///
+/// The range coder decodes symbols in the order of encoding, not in reverse order. So the steps of its implementor
+/// undo encodes, from the last to the first. The inverse steps are the decodes.
 pub trait StepsUndo {
     /// The data that all steps share, such as the sizes of words and states.
     ghost setting: { Type 0 };

@@ -4,7 +4,7 @@
 //! - [`lists`]: decoding sealed words returns the encoded symbols, first symbol first.
 //! - [`positions`]: decoding from a recorded position returns the symbols encoded after it.
 //! - [`following`]: self-delimiting seals, which any words may follow.
-//! - [`concatenated`]: the reasons why a list wasn't decoded from a position in words.
+//! - [`concatenated`]: the error of decoding a list of symbols from a position in words.
 //! - [`flagged`]: symbols of two models in one stream, separated by a flag.
 //! - [`guards`]: the drop of a guard restores the encoder.
 //! - [`refusals`]: how many words of room in a backend are enough for a step.

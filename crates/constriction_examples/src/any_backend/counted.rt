@@ -7,7 +7,7 @@ use constriction::{Pos, PosSeek, Queue, Semantics, Stack};
 
 /// A backend that passes each call to the backend `inner`, and counts the words written.
 ///
-/// The count is `written`. It stops at `u64::MAX`.
+/// The field `written` is the count of words. The count stops at `u64::MAX`.
 #[derive(Drop)]
 pub struct Counted<B> {
     pub inner: B,

@@ -1,4 +1,4 @@
-//! The calls of the chain coder at concrete types.
+//! The calls of the chain coder with concrete types: 32-bit words, 64-bit heads and tables of weights.
 
 use anyhow::{Result, bail};
 use constriction::stream::chain::DefaultChainCoder;
@@ -10,6 +10,8 @@ use std::iter;
 type Table = WeightTable<u32, 24>;
 
 /// Encodes lists of symbols, each list from its last symbol to its first.
+///
+/// The last list begins with a symbol and ends with an error. So encoding this list must fail.
 fn put_from_the_end(coder: &mut DefaultChainCoder, table: &Table) -> Result<()> {
     coder.encode_symbols_reverse([(&1usize, table), (&2, table)])?;
     coder.encode_iid_symbols_reverse([0usize, 2].as_slice(), table)?;

@@ -1,4 +1,4 @@
-//! The calls of the range coder at concrete types.
+//! The calls of the range coder with concrete types: 32-bit words, 64-bit states and tables of weights.
 //!
 //! An encoder counts its pending words in a `usize`. So an encoder that a function gets as an argument may be unable to
 //! encode a whole list. `symbols_left` returns how many symbols the encoder can still encode.

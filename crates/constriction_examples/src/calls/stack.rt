@@ -1,4 +1,4 @@
-//! The calls of the stack coder at concrete types.
+//! The calls of the stack coder with concrete types: words of 32 or 16 bits, and tables of weights.
 
 use anyhow::{Result, bail};
 use constriction::stream::model::WeightTable;
@@ -11,6 +11,8 @@ use std::iter;
 type Table = WeightTable<u32, 24>;
 
 /// Encodes lists of symbols, each list from its last symbol to its first.
+///
+/// The last list begins with a symbol and ends with an error. So encoding this list must fail.
 fn put_from_the_end(coder: &mut DefaultAnsCoder, table: &Table) -> Result<()> {
     coder.encode_iid_symbols_reverse([2usize, 0].as_slice(), table)?;
     coder.encode_symbols_reverse([(&1usize, table), (&2, table)])?;
@@ -24,6 +26,8 @@ fn put_from_the_end(coder: &mut DefaultAnsCoder, table: &Table) -> Result<()> {
 }
 
 /// Encodes lists of symbols, each list from its first symbol to its last.
+///
+/// The last list begins with a symbol and ends with an error. So encoding this list must fail.
 fn put_forth(coder: &mut DefaultAnsCoder, table: &Table) -> Result<()> {
     let symbols = [0usize, 1];
     coder.encode_symbols(symbols.iter().zip(iter::repeat_n(table, 2)))?;
@@ -67,7 +71,8 @@ fn seek(rt: &impl Print, coder: &mut DefaultAnsCoder, table: &Table) -> Result<(
 
 /// Prints whether a coder's head is above 0, whether the coder is empty, and whether two ways to export words agree.
 ///
-/// The two ways are an iterator over the words, and a guard that lends the words. Only the first words are compared.
+/// The two ways are an iterator over the words, and a guard that lends the words. The call compares only the first
+/// word of each.
 fn show(rt: &impl Print, coder: &mut DefaultAnsCoder) -> Result<()> {
     let is_some = coder.state() > 0;
     println!(rt; "{is_some} {}", coder.is_empty())?; // true false
@@ -79,9 +84,10 @@ fn show(rt: &impl Print, coder: &mut DefaultAnsCoder) -> Result<()> {
     Ok(())
 }
 
-/// Decodes a symbol with each kind of decoder, and imports and exports words in binary form.
+/// Decodes a symbol with each of three kinds of decoders, and imports and exports words in binary form.
 ///
-/// The first decoder borrows a coder, the second is made from the coder, and the third borrows a list of words.
+/// The first decoder borrows a coder. The second decoder is created from the coder. The third decoder borrows a list
+/// of words. The call prints each symbol and the exported words.
 fn hand_on(rt: &impl Print, alloc: Global, table: &Table) -> Result<()> {
     let mut coder = DefaultAnsCoder::new(alloc);
     coder.encode_symbol(&1, table)?;

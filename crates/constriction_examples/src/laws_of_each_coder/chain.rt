@@ -1,4 +1,4 @@
-//! A law of the chain coder, and calls whose contracts bound the room of the backends after a failed step.
+//! An application of a law of the chain coder, and calls whose contracts say how much room a failed call leaves.
 
 ghost use Rattle.std.specs.Bool.{OnFalse};
 ghost use Rattle.std.specs.Prelude.{IfErr, IfNone, IfOk, IfSome, [], ◌≡◌, ◌≤◌};
@@ -59,12 +59,12 @@ pub fn isolated_across_a_change<
 
 /// Decodes the next symbol, or returns `None` if the decode needs a compressed word and the backend returns none.
 ///
-/// If `is_list` of the backend `C` holds, `None` means that no compressed words were left. If the call returns no
-/// symbol, the backend of the remainders has at least as much room as before the call.
+/// If the backend `C` behaves as a fixed list of words (`is_list`), `None` means that no compressed words were left.
+/// If the call returns no symbol, the backend of the remainders has at least as much room as before the call.
 ///
 /// # Errors
 ///
-/// Returns the error of a read or a write that failed.
+/// Returns the error that a backend returned for a read of a compressed word or a write of a word of the remainders.
 pub fn decode_to_the_end<
     C: ReadWords<u32, Stack>,
     R: WriteWords<u32>,
@@ -90,9 +90,9 @@ where
 
 /// Encodes a symbol, or returns `false` if the encode needs a word of the remainders and the backend returns none.
 ///
-/// Returns `true` if the symbol was encoded. If `is_list` of the backend `R` holds, `false` means that no words of the
-/// remainders were left. If the symbol wasn't encoded, the backend of the compressed words has at least as much room as
-/// before the call.
+/// Returns `true` if the symbol was encoded. If the backend `R` behaves as a fixed list of words (`is_list`), `false`
+/// means that no words of the remainders were left. If the symbol wasn't encoded, the backend of the compressed words
+/// has at least as much room as before the call.
 ///
 /// # Errors
 ///

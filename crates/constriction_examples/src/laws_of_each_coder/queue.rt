@@ -1,4 +1,4 @@
-//! A law of the range coder.
+//! An application of a law of the range coder: a decoder reads two encoded steps from sealed words.
 
 ghost use Rattle.constriction.specs.Steps.{IsStep, Step};
 ghost use Rattle.constriction.specs.queue.Range.{ReadAs, run, sealed, initial};

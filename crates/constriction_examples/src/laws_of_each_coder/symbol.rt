@@ -1,4 +1,4 @@
-//! A law of bit coders.
+//! An application of a law of Huffman trees: the codewords of two equal weights.
 
 ghost use Rattle.constriction.specs.symbol.Huffman.{Leaf, Node, huffman, merge};
 ghost use Rattle.std.specs.Prelude.{Bool, List, Some, [], false, ◌∷◌, ◌≡◌, ℕ};

@@ -1,4 +1,4 @@
-//! Words that follow a range encoder's sealed words. If `State` is two words wide, any words may follow.
+//! A law of range encoders whose `State` is two words wide: any words may follow the sealed words.
 
 ghost use Rattle.std.specs.Prelude.{◌≡◌, ◌/◌, ◌<◌, ◌++◌, ℕ, List};
 ghost use Rattle.constriction_base.specs.Models.{Item, AreModels};
@@ -13,7 +13,7 @@ use constriction_words::BitArray;
 
 /// Decoding returns the encoded symbols whatever words follow the seal, if `State` is two words wide.
 ///
-/// The encoder starts from the initial interval.
+/// The encoder and the decoder start from the initial interval.
 pub fn symbols_come_back_before_others<Symbol>()
     ensures { (w s : ℕ) (items : List (Item Symbol)) (last : Run) (rest : List ℕ) → IsSizes w s → s / w ≡ 2 →
         AreModels w items → AreWords w rest → NarrowsAll w s items (initial s) last →

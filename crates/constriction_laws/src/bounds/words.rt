@@ -16,7 +16,7 @@ use constriction_stream::decoding::Decode;
 use constriction_stream::encoding::Encode;
 use constriction_words::{BitArray, WordOf};
 
-/// Returns whether `head` is below `2^(s-w)`.
+/// Returns whether `head` is below `2^(State::BITS - Word::BITS)`.
 fn is_low<Word: WordOf<State>, State: BitArray>(head: State) -> bool
     requires { IsSizes Word.BITS State.BITS }
     ensures { MatchBool result (State.number head < 2 ^ (State.BITS - Word.BITS))
@@ -25,29 +25,29 @@ fn is_low<Word: WordOf<State>, State: BitArray>(head: State) -> bool
     head.shifted_right(State::BITS - Word::BITS).is_nothing()
 }
 
-/// The reason why [`exchange`] ended early.
+/// The reason why [`exchange`] failed.
 #[derive(Debug, Clone, Copy, PartialEq, Eq)]
 pub enum ExchangeError {
-    /// The head is below `2^(s-w)` before the exchange, or after the decode.
+    /// The head is below `2^(State::BITS - Word::BITS)` before the exchange, or after the decode.
     LowHead,
     /// The model for encoding has no entry for the symbol.
     ImpossibleSymbol,
-    /// The backend refused a word.
+    /// A read or a write of the backend failed.
     Refused,
 }
 
 /// Decodes a symbol with the model `off`, and encodes `symbol` with the model `on`, as bits-back coding does.
 ///
-/// Returns the decoded symbol. The clause `net` bounds the number of words that a successful call adds. A head is low
-/// if it is below `2^(s-w)`.
+/// Returns the decoded symbol. The clause `net` bounds the number of words that a successful call adds.
 ///
 /// # Errors
 ///
-/// An error after the decode doesn't undo the decode, and the decoded symbol is lost.
+/// An error after the decode doesn't undo the decode, and the decoded symbol is lost. An error before the decode, or
+/// of the decode, leaves the state unchanged.
 ///
-/// - `LowHead`: the head is low before the decode, and the state is unchanged. Or the head is low after the decode.
+/// - `LowHead`: the head is below `2^(State::BITS - Word::BITS)` before the decode or after it.
 /// - `ImpossibleSymbol`: the decode succeeded, but the model `on` has no entry for `symbol`.
-/// - `Refused`: the backend refused a word. If the decode failed, the state is unchanged.
+/// - `Refused`: a read of the decode or a write of the encode failed.
 pub fn exchange<
     Word: WordOf<State>,
     State: BitArray,

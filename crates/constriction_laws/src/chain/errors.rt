@@ -1,9 +1,9 @@
-//! The reasons why symbols weren't encoded on a chain coder.
+//! The error of encoding symbols onto a chain coder that is created from remainders.
 
-/// The reason why symbols weren't encoded on a chain coder that was made from remainders.
+/// The reason why symbols weren't encoded onto a chain coder that is created from remainders.
 #[derive(Debug, Clone, Copy, PartialEq, Eq)]
 pub enum PutBackError {
-    /// No coder has these remainders.
+    /// No coder exports these words as remainders.
     InvalidRemainders,
     /// The number of models and the number of symbols differ.
     UnequalCounts,

@@ -14,7 +14,7 @@ ghost use Rattle.constriction_laws.specs.chain.Undone.{Sizes, decode_back, encod
 use crate::lists::{StepsUndo, lists_undo};
 use std::marker::PhantomData;
 
-/// Encodes of symbols, as the steps of [`StepsUndo`]. The inverse steps are decodes.
+/// Implements [`StepsUndo`] for the chain coder: each step is an encode of a symbol, and the inverse step is a decode.
 ///
 /// [`decodes_undo_encodes`] passes this type to [`lists_undo`].
 pub struct Encoding<Symbol> {
@@ -40,7 +40,7 @@ impl<Symbol> StepsUndo for Encoding<Symbol> {
         (decode_back sizes.0 sizes.1 item.model item.symbol old new does, tt) };
 }
 
-/// Decodes of symbols from a coder's states, as the steps of [`StepsUndo`]. The inverse steps are encodes.
+/// Implements [`StepsUndo`] for the chain coder: each step is a decode of a symbol, and the inverse step is an encode.
 ///
 /// [`encodes_undo_decodes`] passes this type to [`lists_undo`].
 pub struct Decoding<Symbol> {

@@ -14,7 +14,7 @@ ghost use Rattle.constriction_base.specs.Writing.{IsOneAbove};
 /// Importing a list of words leads to at most one state.
 ///
 /// This holds for imports of compressed words, of words in binary form, and of remainders. The clause `form` says that
-/// a number has at most one binary form.
+/// the remainders head determines how many words of a binary form come from this head.
 pub fn one_coder()
     ensures compressed { (w s P : ℕ) (words : List ℕ) (x y : ChainState) → 1 ≤ w →
         FromCompressed w s P words x → FromCompressed w s P words y → x ≡ y }
@@ -37,7 +37,7 @@ pub fn one_coder()
 /// 6. Export the compressed words, in binary form if step 1 imports words in binary form.
 ///
 /// The words of step 6, followed by the compressed words that the decodes left, are the original words. After step 5,
-/// the remainders are the list `below`.
+/// the remainders are the list `below`. The clause `encoded` says that steps 4 and 5 are always possible.
 pub fn words_come_back<Symbol>()
     ensures encoded { (w s P : ℕ) (below : List ℕ) (items : List (Item Symbol)) (x y : ChainState) → IsSized w s P →
         AreModelsAt P items → AreWords w below → IsWhole w s P x → TakesOffAll w s items x y → CanBePutBack w s P items

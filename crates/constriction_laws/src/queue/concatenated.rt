@@ -1,6 +1,6 @@
-//! The reasons why a list wasn't decoded from a position in words.
+//! The error of decoding a list of symbols from a position in words.
 
-/// The reason why a list of symbols wasn't decoded.
+/// The reason why a list of symbols wasn't decoded from a position in words.
 #[derive(Debug, Clone, Copy, PartialEq, Eq)]
 pub enum DecodeError {
     /// The words end before the position.

@@ -1,4 +1,4 @@
-//! Two models in one stream, separated by a flag symbol.
+//! Symbols of two models in one stream. A flag symbol of the first model ends the first model's symbols.
 
 ghost use Rattle.std.specs.Prelude.{◌≡◌, ℕ, List, length, IfOk};
 ghost use Rattle.constriction_base.specs.Models.{Model, IsModel};
@@ -28,10 +28,11 @@ pub fn one_list_of_flagged_symbols()
         symbols others old new last }
 {}
 
-/// Decoding self-delimiting words returns the encoded symbols, if the model changes after a flag.
+/// Decoding words with a self-delimiting seal returns the encoded symbols, if the model changes after a flag.
 ///
-/// Any words may follow. The encoder starts from the initial interval. Symbols up to and including the flag have the
-/// model `first`. All later symbols have the model `second`. The list need not contain the flag.
+/// Any words may follow the seal. The encoder and the decoder start from the initial interval. Symbols up to and
+/// including the flag have the model `first`. All later symbols have the model `second`. The list need not contain the
+/// flag.
 pub fn flagged_symbols_come_back()
     ensures { (w s flag : ℕ) (first second : Model ℕ) (symbols words rest : List ℕ) (last : Run) → IsSizes w s → IsModel
         w first → IsModel w second → AreWords w rest → AreReadBefore w s (flagged flag first second symbols) last words
@@ -46,12 +47,13 @@ pub fn flagged_symbols_come_back()
 ///
 /// # Errors
 ///
-/// - `Refused(error)`: `next_symbol` returned this error. If the backend's `is_list` holds, `InvalidData` comes only if
-///   the words don't encode `amt` symbols.
+/// - `Refused(error)`: `next_symbol` returned this error. Suppose that the backend behaves as a fixed list of words
+///   (`is_list`). Then the error is `InvalidData` only if the words don't encode `amt` symbols, starting at the
+///   position of `switch`.
 /// - `NoMemory`: there was no memory for the symbols.
 ///
-/// After an error, the switch has switched to `second` if the flag was among the symbols that `next_symbol` returned.
-/// If the backend's `is_list` holds, the switch is positioned after these symbols.
+/// After an error, `switch` uses `second` if the flag was among the symbols that `next_symbol` returned. If the
+/// backend behaves as a fixed list of words, `switch` is positioned after these symbols.
 pub fn decode_flagged<
     Word: WordOf<State>,
     State: BitArray,

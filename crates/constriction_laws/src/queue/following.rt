@@ -1,4 +1,6 @@
-//! Self-delimiting seals, which any words may follow. `State` may be any number of words wide.
+//! Laws of the range coder's self-delimiting seals: decoding returns the symbols, whatever words follow the seal.
+//!
+//! `State` may be any number of words wide.
 
 ghost use Rattle.std.specs.Prelude.{◌≡◌, ◌/◌, ◌<◌, ◌++◌, ◌∷◌, ℕ, List};
 ghost use Rattle.constriction_base.specs.Models.{Item, AreModels};
@@ -11,10 +13,12 @@ ghost use Rattle.constriction_laws.specs.queue.Lists.{ReadsSteps};
 
 use crate::queue::lists::decodes_undo_encodes;
 
-/// An encoder's interval has at most one list of self-delimiting words.
+/// The self-delimiting seal is unique: an interval of an encoder has at most one list of words with such a seal.
 ///
-/// If `State` is two words wide, the list equals the sealed words. A decoder that has decoded the last encoded symbol
-/// from the list reports that it may be exhausted. Both facts hold for encoders that start from the initial interval.
+/// Two more facts hold for encoders that start from the initial interval:
+///
+/// - If `State` is two words wide, the self-delimiting seal is the plain seal.
+/// - If no words follow the seal, a decoder that has decoded the last symbol reports that it may be exhausted.
 pub fn self_delimiting_words<Symbol>()
     ensures one { (w s : ℕ) (last : Run) (words others : List ℕ) → SelfDelimits w s last words →
         SelfDelimits w s last others → others ≡ words }
@@ -26,9 +30,9 @@ pub fn self_delimiting_words<Symbol>()
         last (SelfDelimits w s last words → MayEnd w s words last) }
 {}
 
-/// A decoder reads the encoded steps from self-delimiting words, whatever words follow.
+/// A decoder reads the encoded steps from words with a self-delimiting seal, whatever words follow.
 ///
-/// The encoder starts from the initial interval.
+/// The encoder and the decoder start from the initial interval.
 pub fn self_delimiting_words_are_read()
     ensures { (w s : ℕ) (steps : List Step) (words rest : List ℕ) → IsSizes w s → AreSteps w steps → AreWords w rest →
         DelimitsSteps w s steps words → ReadsSteps w s (words ++ rest) steps }
@@ -36,7 +40,8 @@ pub fn self_delimiting_words_are_read()
 
 /// Decoding from a position returns the symbols encoded after it, if the seal is self-delimiting.
 ///
-/// Any words may follow the seal. The encoder starts from the initial interval. The position may be that start.
+/// Any words may follow the seal. The encoder starts from the initial interval. The position may be the position
+/// before the first symbol.
 pub fn symbols_come_back_whatever_follows<Symbol>()
     ensures { (w s : ℕ) (before since : List (Item Symbol)) (middle last : Run) (words rest : List ℕ) → IsSizes w s →
         AreModels w before → AreModels w since → AreWords w rest → AfterBoth w s before since middle last (SelfDelimits
@@ -45,10 +50,10 @@ pub fn symbols_come_back_whatever_follows<Symbol>()
     decodes_undo_encodes::<Symbol>()
 }
 
-/// A seal with fewer zero words than the least sufficient number isn't self-delimiting.
+/// A seal that ends with fewer zero words than the self-delimiting seal isn't self-delimiting.
 ///
-/// For such a seal there are words `rest` with this effect: if `rest` follows the seal, the decoder doesn't return the
-/// symbols. The encoder starts from the initial interval and encodes at least one symbol.
+/// For such a shorter seal there are words `rest` with this effect: if `rest` follows the seal, the decoder doesn't
+/// return the symbols. The encoder starts from the initial interval and encodes at least one symbol.
 pub fn fewer_zero_words_hold_less<Symbol>()
     ensures { (w s count fewer : ℕ) (first : Item Symbol) (others : List (Item Symbol)) (last : Run) → AfterNarrows w s
         (first ∷ others) last (AreLeast w s last count → fewer < count → AreLostBefore w s (sealed_with_zeros w s last

@@ -18,7 +18,7 @@ ghost use Rattle.constriction_laws.specs.queue.Undone.{Reading, TakesBack, read_
 use crate::lists::{StepsUndo, lists_undo};
 use std::marker::PhantomData;
 
-/// Undone encodes of symbols, as the steps of [`StepsUndo`]. The inverse steps are decodes.
+/// Implements [`StepsUndo`] for the range coder: each step takes back an encode, and the inverse step is a decode.
 ///
 /// [`decodes_undo_encodes`] passes this type to [`lists_undo`].
 pub struct Encoding<Symbol> {
@@ -67,7 +67,8 @@ pub fn decodes_undo_encodes<Symbol>()
 
 /// Words decode to a nonempty list of symbols if and only if they lie within the interval after encoding the list.
 ///
-/// The encoder and the decoder start from the initial interval.
+/// The encoder and the decoder start from the initial interval. The module's documentation explains when words lie
+/// within an interval.
 pub fn symbols_of_any_words<Symbol>()
     ensures { (w s : ℕ) (words : List ℕ) (first : Item Symbol) (others : List (Item Symbol)) (last : Run) →
         IsSizes w s → AreWords w words → AreModels w (first ∷ others) →

@@ -44,7 +44,7 @@ pub fn symbols_after_a_position<Symbol>()
     decodes_undo_encodes::<Symbol>()
 }
 
-/// Proves that the lower end and the range of any encoder form a valid interval, for any words written.
+/// Proves that any encoder's lower end and range form a valid interval, whatever words the encoder has written.
 ///
 /// So the clause `anywhere` of [`symbols_after_a_position`] covers each position of the encoder. Decoding from the
 /// position returns the symbols that were encoded after the position was recorded.

@@ -8,7 +8,7 @@ ghost use Rattle.constriction_queue.specs.Calls.{IsRefused};
 use constriction_base::backends::{Holds, WriteWords};
 use constriction_words::{BitArray, WordOf};
 
-/// If a backend has room for the pending words and one more word, the backend refuses no step of the encoder.
+/// If a backend has room for the pending words and one more word, no write of the encoder's next step fails.
 ///
 /// The pending words are the words that a carry may still change. For example, a long enough cursor has this room.
 pub fn room_is_enough<Word: WordOf<State>, State: BitArray, Backend: WriteWords<Word>>()

@@ -1,4 +1,4 @@
-//! The words of the range coder, read as lists of steps.
+//! Laws about the steps that a range decoder reads from words. A step has a symbol's precision, weight and interval.
 
 ghost use Rattle.std.specs.Prelude.{◌≡◌, ◌↔◌, ◌++◌, ◌∷◌, ◌/◌, ℕ, List};
 ghost use Rattle.constriction_base.specs.Steps.{Step, IsSizes, AreSteps, AreWords};
@@ -7,7 +7,8 @@ ghost use Rattle.constriction_laws.specs.queue.Lists.{ReadsSteps, sealed_steps};
 
 /// A decoder reads the encoded steps from sealed words.
 ///
-/// The encoder starts from the initial interval. If `State` is two words wide, any words may follow the sealed words.
+/// The encoder and the decoder start from the initial interval. If `State` is two words wide, any words may follow the
+/// sealed words.
 pub fn sealed_words_are_read()
     ensures alone { (w s : ℕ) (steps : List Step) → IsSizes w s → AreSteps w steps → ReadsSteps w s (sealed_steps w s
         steps) steps }

@@ -13,7 +13,10 @@ ghost use Rattle.constriction_stack.specs.Binary.{binary_state, binary_words};
 ghost use Rattle.constriction_stack.specs.Guards.{without};
 ghost use Rattle.constriction_laws.specs.stack.Lists.{with_words};
 
-/// Importing the words that a guard lends restores the coder's state.
+/// Importing the words that a guard lends restores the coder's state, if that state is valid.
+///
+/// The clause `compressed` is about a guard that lends the exported words. The clause `binary` is about a guard that
+/// lends the binary form.
 pub fn shown_words_are_exported()
     ensures compressed { (w s : ℕ) (state shown : AnsState) → IsSizes w s → IsValid w s state → shown ≡ with_words state
         (exported w state) → filled w s 0 shown.words ≡ state }
@@ -21,9 +24,9 @@ pub fn shown_words_are_exported()
         → shown ≡ with_words state (binary_words w m state) → binary_state w s shown.words ≡ state }
 {}
 
-/// Removing the words that a guard appended restores the state.
+/// Removing the words that a guard appended restores the coder's state.
 ///
-/// The appended words are the words of the head.
+/// The appended words are the words of the head. In the clause `binary`, they are the words of the head's binary form.
 pub fn shown_words_go()
     ensures compressed { (w : ℕ) (state shown : AnsState) → shown ≡ with_words state (exported w state) → without
         (count_of_words w state.head) shown ≡ state }

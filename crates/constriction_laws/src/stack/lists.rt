@@ -17,7 +17,7 @@ ghost use Rattle.constriction_laws.specs.stack.Undone.{Sizes, decode_back, encod
 use crate::lists::{StepsUndo, lists_undo};
 use std::marker::PhantomData;
 
-/// Encodes of symbols, as the steps of [`StepsUndo`]. The inverse steps are decodes.
+/// Implements [`StepsUndo`] for the stack coder: each step is an encode of a symbol, and the inverse step is a decode.
 ///
 /// [`decodes_undo_encodes`] passes this type to [`lists_undo`].
 pub struct Encoding<Symbol> {
@@ -43,7 +43,9 @@ impl<Symbol> StepsUndo for Encoding<Symbol> {
         (decode_back sizes.w sizes.s item.model item.symbol old new does, tt) };
 }
 
-/// Decodes of symbols from valid states, as the steps of [`StepsUndo`]. The inverse steps are encodes.
+/// Implements [`StepsUndo`] for the stack coder: each step is a decode of a symbol, and the inverse step is an encode.
+///
+/// The decodes start from valid states.
 ///
 /// [`encodes_undo_decodes`] passes this type to [`lists_undo`].
 pub struct Decoding<Symbol> {
@@ -139,8 +141,8 @@ pub fn words_come_back<Symbol>()
 
 /// Popping steps in reverse order undoes their pushes, and pushing steps in reverse order undoes their pops.
 ///
-/// The law is about steps alone, without tables. A list of steps can be pushed onto each valid state in exactly one
-/// way.
+/// The law is about steps alone, without tables. Pushes undo pops that start from a valid state. A list of steps can
+/// be pushed onto each valid state in exactly one way.
 pub fn lists_of_entries_undo()
     ensures pushes { (w s : ℕ) (steps : List Step) (old : AnsState) → FromValid w s steps old ((new : AnsState) × Pushes
         w s steps old new × IsValid w s new) }

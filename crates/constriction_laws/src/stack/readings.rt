@@ -1,8 +1,8 @@
-//! Coders over backends without a list of words, such as iterators.
+//! Laws of stack coders over backends that don't behave as a fixed list of words (`is_list`), such as iterators.
 //!
-//! For these backends `is_list` doesn't hold. Suppose that a function lists the words of each value of the backend, and
-//! that reads return these words one by one. Then a decode that reads from the backend (a decode by reads) equals a
-//! decode from the list.
+//! Suppose that a function lists the words of each value of the backend, and that reads return these words one by one.
+//! Then importing words from the backend equals importing the list, and decoding from the backend equals decoding from
+//! the list.
 
 ghost use Rattle.std.specs.Prelude.{ℕ, List};
 ghost use Rattle.constriction_base.specs.Iterators.{FusedRead};

@@ -1,4 +1,4 @@
-//! The words of the stack coder's states.
+//! Laws of the stack coder's imports and exports: a valid state and its words determine each other.
 
 ghost use Rattle.constriction_base.specs.Readings.{BeginsHigh};
 ghost use Rattle.std.specs.Prelude.{◌≡◌, ◌<◌, ◌^◌, ℕ, List, map};
@@ -30,7 +30,7 @@ pub fn export_of_import()
         IsValid w s (filled w s 0 words) }
 {}
 
-/// If `words` lists the words of a backend, refilling from the backend equals refilling from that list.
+/// If `words` lists the words of a backend, refilling a head from the backend equals refilling it from that list.
 ///
 /// Both refills lead to the same head and leave the same words.
 pub fn reads_are_words<Word: BitArray, Backend: ReadWords<Word, Stack>>()

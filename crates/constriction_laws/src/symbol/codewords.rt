@@ -1,4 +1,4 @@
-//! The two forms of codewords.
+//! How the two forms of a codeword relate: the prefix form for queues, and the suffix form for stacks.
 
 ghost use Rattle.constriction_symbol.specs.Codewords.{formed};
 ghost use Rattle.std.specs.Prelude.{Bool, List, Some, reverse, ◌≡◌};

@@ -18,13 +18,16 @@ use std::convert::Infallible;
 
 /// Builds a Huffman tree of `weights` for an encoder. No other codebook costs less with these weights.
 ///
-/// The tree's cost is the sum of weight times length in bits over the codewords of the symbols `0`, `1`, .., one for
-/// each weight. The cost of another codebook is this sum over the codewords of any list with one symbol for each
-/// weight. The list has no two symbols that mean the same. The other codebook may have any type of symbols.
+/// The cost of a codebook is a sum over all weights: each weight times the length of its symbol's codeword in bits. In
+/// the tree, the symbols of the weights are `0`, `1` and so on. In the other codebook, which has the type `C`, they
+/// are any symbols with codewords, one for each weight. No two of these symbols mean the same (`is_same`).
 ///
 /// # Errors
 ///
-/// Returns the errors that [`EncoderHuffmanTree::from_probabilities`] returns.
+/// - `Memory`: there is no memory for the weights or the tree.
+/// - `Empty`: there is no weight.
+/// - `TooManySymbols`: there are more than `usize::MAX / 4` weights.
+/// - `WeightOverflow`: the sum of all weights doesn't fit their type.
 ///
 /// # Examples
 ///

@@ -1,4 +1,4 @@
-//! Exp-Golomb codewords.
+//! Laws of Exp-Golomb codewords: they are prefix-free, and their suffix forms end in zeros.
 
 ghost use Rattle.constriction_symbol.specs.Golomb.{binary, golomb};
 ghost use Rattle.std.specs.Prelude.{Bool, List, false, length, replicate, reverse, ◌+◌, ◌++◌, ◌-◌, ◌≡◌, ℕ};

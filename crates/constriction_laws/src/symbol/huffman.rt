@@ -1,11 +1,11 @@
-//! Codewords of Huffman trees.
+//! Laws of Huffman trees: weights lead to one tree, and its codewords are prefix-free and have the least cost.
 
 ghost use Rattle.constriction_laws.specs.symbol.Cost.{AreCodewordsOf, AreLawful, IsLeastCost, IsPrefixFree};
 ghost use Rattle.constriction_laws.specs.symbol.Cost.{WithCodewords, cost};
 ghost use Rattle.constriction_symbol.specs.Huffman.{Book, IsHuffman, Tree, huffman, merge};
 ghost use Rattle.std.specs.Prelude.{Bool, List, None, Option, Some, [], ◌∷◌, ◌<◌, ◌≡◌, ◌≤◌, length, ℕ};
 
-/// Merging turns a nonempty list of weights into exactly one tree.
+/// Merging the two least weights until one is left turns a nonempty list of weights into exactly one tree.
 pub fn one_tree()
     ensures { (weights : List ℕ) → 0 < length weights → (tree : Tree) × (merge weights ≡ tree ∷ []) }
 {}
@@ -24,8 +24,9 @@ pub fn huffman_knows_its_symbols()
 
 /// The codewords of a Huffman tree cost at most as much as any prefix-free codewords for the same weights.
 ///
-/// The clause `codewords` compares the tree with any prefix-free list of codewords. The clause `codebook` compares the
-/// tree with the codewords of any prefix-free codebook. The clause `tree` is about any tree that meets `IsHuffman`.
+/// The cost is the sum of each weight times the length of its codeword in bits. The clause `codewords` compares the
+/// tree with any prefix-free list of codewords. The clause `codebook` compares the tree with the codewords of any
+/// prefix-free codebook. The clause `tree` is about any codebook that has the codewords of the tree (`IsHuffman`).
 pub fn least_cost()
     ensures codewords { (weights : List ℕ) (codewords others : List (List Bool)) → IsLeastCost weights (huffman weights)
         codewords others }

@@ -13,8 +13,8 @@ use constriction_symbol::reading::ReadBitStream;
 
 /// Decoding a stream whose bits begin with the codewords of symbols returns these symbols.
 ///
-/// The law requires that the stream's `is_list` holds. All symbols have the same codebook. A decode may return another
-/// symbol that means the same (`is_same`). Each decode reads exactly one codeword.
+/// The law requires that the stream behaves as a fixed list of bits (`is_list`). All symbols have the same codebook. A
+/// decode may return another symbol that means the same (`is_same`). Each decode reads exactly one codeword.
 pub fn symbols_come_back<S: Semantics, R: ReadBitStream<S>, C: DecoderCodebook>()
     requires { R.is_list }
     ensures { (codebook : C) (symbols again : List C.Symbol) (code rest : List Bool) (old new : R) → ComeBackUnder
@@ -23,9 +23,9 @@ pub fn symbols_come_back<S: Semantics, R: ReadBitStream<S>, C: DecoderCodebook>(
 
 /// Decoding codewords, each with its own codebook, returns their symbols.
 ///
-/// The law requires that the stream's `is_list` holds. The unread bits begin with the codewords of `symbols`, one
-/// codebook for each symbol. The decodes use the same codebooks in order, and read exactly these codewords. A decode
-/// may return another symbol that means the same (`is_same`).
+/// The law requires that the stream behaves as a fixed list of bits (`is_list`). The unread bits begin with the
+/// codewords of `symbols`, one codebook for each symbol. The decodes use the same codebooks in order, and read exactly
+/// these codewords. A decode may return another symbol that means the same (`is_same`).
 pub fn mixed_symbols_come_back<S: Semantics, R: ReadBitStream<S>, C: DecoderCodebook>()
     requires { R.is_list }
     ensures { (codebooks : List C) (symbols again : List C.Symbol) (code rest : List Bool) (old new : R) →
@@ -35,7 +35,8 @@ pub fn mixed_symbols_come_back<S: Semantics, R: ReadBitStream<S>, C: DecoderCode
 
 /// If decoding `amt` symbols stops with a codebook's error, the bits don't begin with the codewords of `amt` symbols.
 ///
-/// The law requires that the stream's `is_list` holds. `bits` is any prefix of the stream's unread bits.
+/// The law requires that the stream behaves as a fixed list of bits (`is_list`). `bits` is any prefix of the stream's
+/// unread bits, or all of them.
 pub fn refused_where_none_begin<S: Semantics, R: ReadBitStream<S>, C: DecoderCodebook>()
     requires { R.is_list }
     ensures { (codebook : C) (amt : ℕ) (bits tail : List Bool) (old new : R) (e : SymbolCodeError C.InvalidCodeword) →

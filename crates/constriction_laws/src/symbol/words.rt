@@ -1,4 +1,4 @@
-//! The words of lists of bits.
+//! Laws about the words that hold the bits of a stack or of a queue.
 
 ghost use Rattle.constriction_base.specs.Steps.{AreWords};
 ghost use Rattle.constriction_laws.specs.Outcomes.{AreOne};

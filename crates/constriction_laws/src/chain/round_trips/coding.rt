@@ -1,4 +1,6 @@
-//! List calls of the chain coder. Their contracts use the laws' definitions to describe the states that they reach.
+//! Functions that encode or decode a list of symbols on a chain coder.
+//!
+//! The contracts use the laws' definitions to relate the coder's states before and after a call.
 
 ghost use Rattle.std.specs.Prelude.{◌≡◌, length, reverse, IfErr, IfOk, OnOk};
 ghost use Rattle.constriction_base.specs.Models.{pairs_of};
@@ -18,7 +20,7 @@ use constriction_stream::encoding::{Encode, EncodeReverse};
 use constriction_words::{BitArray, WordOf};
 use std::alloc::Global;
 
-/// Decodes one symbol for each model.
+/// Decodes one symbol for each model, and returns the symbols in the order of the models.
 ///
 /// # Errors
 ///

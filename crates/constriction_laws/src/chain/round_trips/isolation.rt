@@ -22,9 +22,9 @@ use std::alloc::Global;
 /// Calls `decode_symbols` on `coder` with `models`, and on `same` with `others`. Returns the symbols of `coder` and the
 /// symbols of `same`, in this order. The two lists may have models of different types.
 ///
-/// Suppose that `is_list` of the backend `C` holds, and that both coders have the same compressed head and compressed
-/// words. If the `k`-th models of both lists have equal tables, the `k`-th symbols are equal, whatever the other tables
-/// are.
+/// Suppose that the backend `C` behaves as a fixed list of words (`is_list`), and that both coders have the same
+/// compressed head and compressed words. If the `k`-th models of both lists have equal tables, the `k`-th symbols are
+/// equal, whatever the other tables are.
 ///
 /// # Errors
 ///

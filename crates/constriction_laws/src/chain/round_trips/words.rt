@@ -1,6 +1,7 @@
-//! The two halves of a round trip: from words to symbols and remainders, and back.
+//! The two halves of a round trip on the chain coder: from words to symbols and remainders, and back.
 //!
-//! The law [`words_come_back`](crate::chain::words::words_come_back) joins the states of the two halves.
+//! By the law [`words_come_back`](crate::chain::words::words_come_back), the second half restores the words that the
+//! first half decoded.
 
 ghost use Rattle.std.specs.Prelude.{◌≡◌, ℕ, List, length, map, reverse, IfErr, IfOk, OnOk};
 ghost use Rattle.constriction_base.specs.Models.{pairs_of};
@@ -56,11 +57,19 @@ where
 
 /// Creates a coder from remainders, and encodes symbols onto it from last to first, each with its own model.
 ///
-/// Calls `from_remainders` and `encode_symbols_reverse`. Returns the coder.
+/// Calls `from_remainders` and `encode_symbols_reverse`. Returns the coder. Suppose that [`take_pairs`] decoded these
+/// symbols with these models right after an import, and returned `remainders`. Then the coder holds the imported words
+/// except the compressed words that `take_pairs` returned.
 ///
 /// # Errors
 ///
-/// Returns a [`PutBackError`]. The clause `err` proves the documented reason of each case except `NoMemory`.
+/// The clause `err` proves the reason for each error except `NoMemory`.
+///
+/// - `UnequalCounts`: the number of models and the number of symbols differ.
+/// - `InvalidRemainders`: no coder exports these words as remainders.
+/// - `ImpossibleSymbol`: a model has no entry for its symbol.
+/// - `OutOfRemainders`: the coder needs a word of the remainders, and none is left.
+/// - `NoMemory`: there was no memory.
 pub fn put_back_pairs<
     Word: WordOf<State>,
     State: BitArray,

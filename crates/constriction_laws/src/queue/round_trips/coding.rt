@@ -1,5 +1,6 @@
-//! List calls of the range coder. Their contracts use the laws' definitions to relate the intervals before and after a
-//! call.
+//! Functions that encode or decode a list of symbols on a range coder, or test for its end.
+//!
+//! The contracts use the laws' definitions to relate the coder's intervals before and after a call.
 
 ghost use Rattle.std.specs.Prelude.{◌≡◌, ◌↔◌, ◌+◌, ◌<◌, ◌≤◌, ℕ, List, length, IfOk, IfErr, IsTrue};
 ghost use Rattle.constriction_base.specs.Models.{pairs_of};
@@ -29,7 +30,7 @@ use std::alloc::Global;
 /// # Errors
 ///
 /// - `ImpossibleSymbol`: a model has no entry for its symbol. The symbols before that symbol are encoded.
-/// - `TooManySymbols`: there are more symbols than the encoder can still encode. No symbol is encoded.
+/// - `TooManySymbols`: there are more symbols than `symbols_left` returns. No symbol is encoded.
 /// - `Refused`: the backend refused a word. The symbols before the refused symbol are encoded.
 pub fn encode_pairs<
     Word: WordOf<State>,
@@ -64,8 +65,9 @@ where
 
 /// Decodes one symbol for each model.
 ///
-/// Each symbol narrows the decoder's interval. Suppose that the backend's `is_list` holds, and that the words, starting
-/// at the decoder's position, encode one symbol with each model. Then the call returns these symbols in order.
+/// Each symbol narrows the decoder's interval. Suppose that the backend behaves as a fixed list of words (`is_list`).
+/// If the words, starting at the decoder's position, encode one symbol with each model, the call returns these symbols
+/// in order.
 ///
 /// # Errors
 ///
@@ -102,7 +104,7 @@ where
 
 /// Returns whether the decoder reports that it may be exhausted. Calls `maybe_exhausted`.
 ///
-/// The call returns `true` after the last symbol of sealed words is decoded.
+/// After the last symbol of sealed words, the call returns `true` if no words follow the seal.
 pub fn has_ended<
     Word: WordOf<State>,
     State: BitArray,

@@ -1,6 +1,6 @@
 //! Decoding symbols, each with its own model, from the words that an encoder lends.
 //!
-//! No function here calls [`RangeEncoder::decoder`]. The contract of that call says that the decoder begins with the
+//! A caller can also decode from [`RangeEncoder::decoder`]. By the contract of that call, the decoder begins with the
 //! words that the encoder would export. The law [`symbols_come_back`](crate::queue::lists::symbols_come_back) says
 //! which symbols the decoder then returns.
 

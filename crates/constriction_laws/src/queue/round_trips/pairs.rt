@@ -1,8 +1,12 @@
-//! Encoding symbols, each with its own model, to words, and decoding symbols from words.
+//! The two halves of a round trip on the range coder: encoding symbols to words, and decoding symbols from words.
 //!
-//! The contract of [`compressed_words_of_pairs`] says which words the encoder exports. The contract of
-//! [`pairs_from_words`] says which symbols any words encode. Its clause `back` has the fields `sealed`, `followed` and
-//! `delimited`. These fields assume that an encoder exported the words, and so join the two halves.
+//! Each symbol has its own model. The contract of [`compressed_words_of_pairs`] says which words the encoder exports.
+//! The contract of [`pairs_from_words`] says which symbols the call returns for any words. If an encoder exported the
+//! words, these are the encoded symbols. Three fields of the clause `back` say so, each in one case:
+//!
+//! - `sealed`: the words are sealed words, and no words follow.
+//! - `followed`: the words begin with sealed words, any words may follow, and `State` is two words wide.
+//! - `delimited`: the words begin with words that have a self-delimiting seal, and any words may follow.
 
 ghost use Rattle.std.specs.Prelude.{◌≡◌, ◌<◌, length, map, reverse, IfOk, IfErr};
 ghost use Rattle.constriction_base.specs.Models.{pairs_of};
@@ -35,7 +39,7 @@ use std::alloc::Global;
 /// # Errors
 ///
 /// - `ImpossibleSymbol`: a model has no entry for its symbol.
-/// - `TooManySymbols`: there are more symbols than the encoder can still encode.
+/// - `TooManySymbols`: there are more symbols than `symbols_left` returns.
 /// - `Refused`: the backend refused a word.
 pub fn compressed_words_of_pairs<
     Word: WordOf<State>,

@@ -22,7 +22,8 @@ use std::alloc::Global;
 /// Decodes one symbol for each model, from a position in words.
 ///
 /// Calls `from_compressed`, `seek` and `decode_symbols`. `position` consists of the number of words before the
-/// position, and the interval (`lower` and `range`) at the position.
+/// position, and the interval (`lower` and `range`) at the position. Suppose that an encoder recorded the position,
+/// encoded one symbol with each model in order, and exported `words`. Then the call returns these symbols in order.
 ///
 /// # Errors
 ///

@@ -20,7 +20,8 @@ use std::alloc::Global;
 
 /// Decodes one symbol for each model from any words in binary form. Returns the symbols and the coder.
 ///
-/// Calls `from_binary` and `decode_symbols`.
+/// Calls `from_binary` and `decode_symbols`. [`binary_words_with_pairs`] encodes the symbols back and restores the
+/// words.
 ///
 /// # Errors
 ///

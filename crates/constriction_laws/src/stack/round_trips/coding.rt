@@ -1,4 +1,6 @@
-//! List calls of the stack coder. Their contracts use the laws' definitions to describe the states that they reach.
+//! Functions that encode or decode a list of symbols on a stack coder.
+//!
+//! The contracts use the laws' definitions to relate the coder's states before and after a call.
 
 ghost use Rattle.std.specs.Prelude.{◌≡◌, length, IfOk, IfErr, OnOk};
 ghost use Rattle.constriction_laws.specs.Outcomes.{HasImpossibleItem, OnlyRefused, UnlessImpossible};

@@ -1,4 +1,7 @@
-//! Encoding symbols, each with its own model, to words, and decoding symbols from words.
+//! The two halves of a round trip on the stack coder: encoding symbols to words, and decoding symbols from words.
+//!
+//! Each symbol has its own model. The clause `back` of [`pairs_from_words`] joins the two halves: if a stack coder
+//! exported the words, the call returns the encoded symbols.
 
 ghost use Rattle.std.specs.Prelude.{◌≡◌, length, map, reverse, IfOk, IfErr, OnOk};
 ghost use Rattle.constriction_base.specs.Models.{pairs_of};
@@ -64,9 +67,9 @@ where
 
 /// Decodes one symbol for each model from words, and returns the symbols and the coder.
 ///
-/// Calls `from_compressed` and `decode_symbols`. Suppose that the backend's `is_list` holds. Suppose also that a coder
-/// in a valid state encoded one symbol with each model, from last to first, and then exported the words. Then the call
-/// returns the symbols in order, and a coder in the state before these encodes.
+/// Calls `from_compressed` and `decode_symbols`. Suppose that the backend behaves as a fixed list of words
+/// (`is_list`). Suppose also that a coder in a valid state encoded one symbol with each model, from last to first, and
+/// then exported the words. Then the call returns the symbols in order, and a coder in the state before these encodes.
 ///
 /// # Errors
 ///

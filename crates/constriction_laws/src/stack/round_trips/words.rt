@@ -1,4 +1,4 @@
-//! Decoding symbols from exported words in reverse order.
+//! Decoding symbols from exported words that a vector or an iterator holds in reverse order.
 
 ghost use Rattle.std.specs.Prelude.{◌≡◌, List, length, map, IfOk, IfErr, OnOk};
 ghost use Rattle.constriction_base.specs.Readings.{BeginsHigh};
@@ -24,7 +24,9 @@ use std::alloc::Global;
 
 /// Decodes one symbol for each model from exported words that are stored in reverse order.
 ///
-/// Calls `from_reversed_compressed` and `decode_symbols`. The coder reads the first word of `words` first.
+/// Calls `from_reversed_compressed` and `decode_symbols`. The coder reads the first word of `words` first. Suppose
+/// that a coder that started empty encoded one symbol with each model, from last to first, and exported the words.
+/// Then the call returns these symbols in order.
 ///
 /// # Errors
 ///
@@ -61,6 +63,8 @@ where
 /// Decodes one symbol for each model from an iterator that returns exported words in reverse order.
 ///
 /// Calls `from_reversed_compressed_iter` and `decode_symbols`. The coder reads the iterator's first word first.
+/// Suppose that a coder that started empty encoded one symbol with each model, from last to first, and exported the
+/// words. Then the call returns these symbols in order.
 ///
 /// # Errors
 ///

@@ -1,7 +1,8 @@
-//! Symbols, each with its own codebook, in one stream.
+//! Functions that encode or decode a list of symbols, each with its own codebook, in one stream of bits.
 //!
-//! The contracts of `into_compressed` and `from_compressed` say which words the bits have. The law
-//! [`one_stack_of_words`](crate::symbol::words::one_stack_of_words) says that no other bits have these words.
+//! No function here exports or imports words. The contracts of `into_compressed` and `from_compressed` say which words
+//! the bits have. The law [`one_stack_of_words`](crate::symbol::words::one_stack_of_words) says that no other bits of
+//! a stack have these words.
 
 ghost use Rattle.constriction_symbol.specs.Lists.{AreCodewordsBy, ReadsPairs};
 ghost use Rattle.constriction_base.specs.Backends.{IsWrite};
@@ -26,8 +27,8 @@ use std::alloc::{AllocError, Global};
 ///
 /// # Errors
 ///
-/// - `Frontend(ImpossibleSymbol)`: a codebook has no codeword for its symbol. The codewords of the symbols before it
-///   are written.
+/// - `Frontend(ImpossibleSymbol)`: a codebook has no codeword for its symbol. The codewords of the symbols before that
+///   symbol are written.
 /// - `Backend(error)`: the backend refused a word, or there was no memory. The codewords of the symbols before the
 ///   failing symbol are written. Of the failing symbol's codeword, the bits before the refused bit are written.
 pub fn encode_pairs<W: WriteBitStream<Queue>, C: EncoderCodebook>(
@@ -50,8 +51,8 @@ pub fn encode_pairs<W: WriteBitStream<Queue>, C: EncoderCodebook>(
 ///
 /// # Errors
 ///
-/// - `Frontend(ImpossibleSymbol)`: a codebook has no codeword for its symbol. The codewords of the symbols after it in
-///   the list are written.
+/// - `Frontend(ImpossibleSymbol)`: a codebook has no codeword for its symbol. The codewords of the symbols after that
+///   symbol in the list are written.
 /// - `Backend(error)`: the backend refused a word, or there was no memory. The codewords of the symbols after the
 ///   failing symbol are written. Of the failing symbol's codeword, the bits before the refused bit are written.
 pub fn encode_pairs_reverse<Word: BitArray, B: WriteWords<Word>, C: EncoderCodebook>(
@@ -73,8 +74,9 @@ where
 
 /// Decodes one symbol for each codebook, with [`ReadBitStream::decode_symbols`].
 ///
-/// Suppose that the stream's `is_list` holds, and that the unread bits begin with one codeword of each codebook, in
-/// order. Then the call returns the codewords' symbols and reads exactly these codewords.
+/// Suppose that the stream behaves as a fixed list of bits (`is_list`). If the unread bits begin with one codeword of
+/// each codebook, in order, the call reads exactly these codewords and returns their symbols. The call may return
+/// another symbol that means the same (`is_same`).
 ///
 /// # Errors
 ///
