@@ -1,10 +1,9 @@
-//! `AnsCoder`: creating a coder, taking its parts, and testing whether it is empty.
+//! The stack coder, [`AnsCoder`]: its type, its constructors and its parts.
 //!
 //! - [`symbols`]: the two steps, `encode_symbol` and `decode_symbol`.
 //! - [`lists`]: encoding lists of symbols from last to first.
 //! - [`words`]: importing and exporting words, and counting them.
-//! - [`decoders`]: positions, and coders for reading: over other backends, over borrowed words, or over words in
-//!   reading order.
+//! - [`decoders`]: turning a coder into a decoder, decoders of borrowed or reversed words, and seeking.
 //! - [`guard`]: guards that lend the compressed words.
 
 pub mod decoders;
