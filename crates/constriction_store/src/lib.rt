@@ -1,4 +1,4 @@
-//! An indexed store: chunks of symbols in the words of one range encoder. The caller looks up a chunk by its number.
+//! An indexed store: chunks (lists of symbols) in the words of one range encoder. A caller looks up a chunk by number.
 //!
 //! ```
 //! let table = WeightTable::<u32, 24>::new(alloc, &[8388608, 8388608])?;
