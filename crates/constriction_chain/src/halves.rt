@@ -41,8 +41,8 @@ pub fn take<Word: WordOf<State>, State: BitArray, C: ReadWords<Word, Stack>, R: 
 
 /// Moves the offset `quantile - left` into the remainders head `r`, and returns the new remainders head.
 ///
-/// `p` is the length of the quantile's interval. If the head rises to `2^(State::BITS - precision)` or more, it is above
-/// its window. The call then writes the lowest word of the head to `remainders`.
+/// `p` is the length of the quantile's interval. If the head rises to `2^(State::BITS - precision)` or more, it is
+/// above its window. The call then writes the lowest word of the head to `remainders`.
 #[inline(always)]
 pub fn keep<Word: WordOf<State>, State: BitArray, R: WriteWords<Word>>(
     remainders: &mut R,

@@ -102,8 +102,8 @@ impl<Word: WordOf<State>, State: BitArray, Backend: Holds<Word, Stack>> AnsCoder
     /// Returns whether the coder is empty, which means that its head is 0.
     ///
     /// A new coder is empty. It is empty again after the caller has decoded all symbols that the caller encoded. An
-    /// empty coder may still hold symbols: encoding a symbol whose interval begins at 0 leaves an empty coder empty, and
-    /// decoding returns that symbol.
+    /// empty coder may still hold symbols: encoding a symbol whose interval begins at 0 leaves an empty coder empty,
+    /// and decoding returns that symbol.
     #[inline]
     pub fn is_empty(&self) -> bool
         ensures { IsTrue result ↔ (self.now.state.head ≡ 0) }

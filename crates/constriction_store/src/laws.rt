@@ -18,8 +18,8 @@ use std::alloc::Global;
 /// At any entry, a list of words holds at most one chunk.
 ///
 /// An entry states a position, an interval and a number of symbols. Words hold a chunk at an entry if decoding this
-/// number of symbols from there returns the chunk (`HoldsChunk`). If words hold a chunk at an entry, this decoding can't
-/// also fail (`HoldsNoChunk`).
+/// number of symbols from there returns the chunk (`HoldsChunk`). If words hold a chunk at an entry, this decoding
+/// can't also fail (`HoldsNoChunk`).
 pub fn one_chunk_at_entry()
     ensures one { (w s : ℕ) (model : Model ℕ) (words : List ℕ) (entry : Entry) (symbols others : List ℕ) →
         IsModel w model → HoldsChunk w s model words entry symbols → HoldsChunk w s model words entry others →
