@@ -1,4 +1,7 @@
-//! Decoding and encoding on the heads and the backends. A decode has two halves, with a call of the model between them.
+//! Decoding and encoding one symbol, on the heads and the backends.
+//!
+//! A decode has two halves: [`take`] takes a quantile, and [`keep`] moves the offset into the remainders. Between the
+//! two calls, the coder asks the model for the symbol. An encode calls [`give`].
 //!
 //! The heads are two numbers here, not a struct with a const parameter. In a function that is generic over two backends
 //! and a model, the struct would make the proof's conditions too large for the checker.
@@ -17,8 +20,8 @@ use constriction_words::{BitArray, Reciprocal, WordOf};
 
 /// Takes the next quantile off the compressed side. Returns the quantile and the new compressed head.
 ///
-/// `heads` contains the compressed head and the remainders head. If the call needs a compressed word, it first asks the
-/// remainders for room for one word.
+/// `heads` contains the compressed head and the remainders head. If fewer than `precision` bits are left over, the call
+/// first asks the remainders for room for one word, and then reads a compressed word.
 #[inline(always)]
 pub fn take<Word: WordOf<State>, State: BitArray, C: ReadWords<Word, Stack>, R: WriteWords<Word>>(
     compressed: &mut C,
@@ -38,8 +41,8 @@ pub fn take<Word: WordOf<State>, State: BitArray, C: ReadWords<Word, Stack>, R: 
 
 /// Moves the offset `quantile - left` into the remainders head `r`, and returns the new remainders head.
 ///
-/// `p` is the length of the quantile's interval. If the head rises above its window, the call writes the lowest word of
-/// the head to `remainders`.
+/// `p` is the length of the quantile's interval. If the head rises to `2^(State::BITS - precision)` or more, it is
+/// above its window. The call then writes the lowest word of the head to `remainders`.
 #[inline(always)]
 pub fn keep<Word: WordOf<State>, State: BitArray, R: WriteWords<Word>>(
     remainders: &mut R,
@@ -87,9 +90,11 @@ fn divided<State: BitArray>(
     }
 }
 
-/// Puts back the quantile that the remainders determine, and returns both new heads.
+/// Encodes the symbol of the interval `[left, left + p)`, and returns the new compressed head and remainders head.
 ///
-/// The quantile lies in the interval `[left, left + p)`.
+/// If the remainders head is too low to be divided by `p`, the call first reads a word of the remainders into the head.
+/// It divides the head by `p`. The remainder plus `left` is the quantile, and the call puts it back onto the compressed
+/// side. The quotient becomes the new remainders head.
 #[inline(always)]
 fn give_at<Word: WordOf<State>, State: BitArray, C: WriteWords<Word>, R: ReadWords<Word, Stack>>(
     compressed: &mut C,
@@ -128,10 +133,11 @@ fn give_at<Word: WordOf<State>, State: BitArray, C: WriteWords<Word>, R: ReadWor
     }
 }
 
-/// Puts back the quantile that the remainders determine, and returns both new heads.
+/// Encodes the symbol of the interval `[left, left + p)`, and returns the new compressed head and remainders head.
 ///
-/// The quantile lies in the interval `[left, left + p)`. The call branches once on whether there is a reciprocal. One
-/// path divides, and the other multiplies by the reciprocal.
+/// The call takes an offset below `p` from the remainders. It puts the quantile, which is `left` plus this offset, back
+/// onto the compressed side. The call branches once on whether there is a reciprocal. One path divides, and the other
+/// multiplies by the reciprocal.
 #[inline(always)]
 pub fn give<Word: WordOf<State>, State: BitArray, C: WriteWords<Word>, R: ReadWords<Word, Stack>>(
     compressed: &mut C,

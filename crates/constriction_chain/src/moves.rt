@@ -23,7 +23,8 @@ pub fn is_below_power<State: BitArray>(r: State, less: u32) -> bool
 
 /// Reads words of `source` into a new remainders head until the head is in its window, and returns the head.
 ///
-/// The call returns `None` if the first word is 0, or if there are too few words to reach the window.
+/// The window begins at `2^(State::BITS - Word::BITS - precision)`. The call returns `None` if the first word is 0, or
+/// if there are too few words to reach the window.
 pub fn begin_window<Word: WordOf<State>, State: BitArray, B: ReadWords<Word, Stack>>(
     source: &mut B,
     precision: u32,
@@ -54,7 +55,8 @@ pub fn begin_window<Word: WordOf<State>, State: BitArray, B: ReadWords<Word, Sta
 
 /// Asks `backend` for room for all words of both heads, and then writes the heads to `backend`.
 ///
-/// The words of the remainders head come first, lowest first and without leading zeros. The compressed head follows.
+/// The words of the remainders head come first, lowest first and without leading zero words. The compressed head
+/// follows.
 ///
 /// # Errors
 ///

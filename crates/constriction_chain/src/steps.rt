@@ -1,4 +1,7 @@
-//! The parts of a step, each on the compressed side or the remainders' side.
+//! The parts of a decode and of an encode, each on the compressed side or the remainders' side.
+//!
+//! A decode calls [`take_quantile`] and [`gain`]. An encode calls [`prepare_for_quantile`], [`regain`] and
+//! [`give_quantile`].
 
 ghost use Rattle.constriction_chain.specs.Chain.{IsRemaindersHead, IsSized, least};
 ghost use Rattle.constriction_chain.specs.Steps.{Given, Halts, Keeps, Lacks, Prepared, Regained, Taken};
@@ -13,6 +16,8 @@ use constriction_base::errors::CoderError;
 use constriction_words::{BitArray, WordOf};
 
 /// Returns whether fewer than `precision` bits are left over, so that the next quantile needs a compressed word.
+///
+/// `h` is the compressed head: a 1 followed by the bits left over.
 #[inline(always)]
 fn needs_word<Word: BitArray>(h: Word, precision: u32) -> bool
     requires { precision ≤ Word.BITS }
@@ -22,7 +27,7 @@ fn needs_word<Word: BitArray>(h: Word, precision: u32) -> bool
     precision == Word::BITS || h.shifted_right(precision).is_nothing()
 }
 
-/// Returns the quantile in the low bits of `word`, and the head `h` with the word's other bits appended.
+/// Returns the low `precision` bits of `word` as a quantile, and the head `h` with the word's other bits appended.
 #[inline(always)]
 fn from_word<Word: BitArray>(h: Word, word: Word, precision: u32) -> (Word, Word)
     requires sized { (1 ≤ precision) × (precision ≤ Word.BITS) }
@@ -43,7 +48,8 @@ fn from_word<Word: BitArray>(h: Word, word: Word, precision: u32) -> (Word, Word
 
 /// Takes the next quantile off the compressed side. Returns the quantile and the new compressed head.
 ///
-/// If the call needs a compressed word, it first asks the remainders for room for one word.
+/// If fewer than `precision` bits are left over in the compressed head `h`, the call needs a compressed word. It first
+/// asks the remainders for room for one word, and then reads the compressed word.
 #[inline(always)]
 pub fn take_quantile<Word: BitArray, C: ReadWords<Word, Stack>, R: WriteWords<Word>>(
     compressed: &mut C,
@@ -78,7 +84,8 @@ pub fn take_quantile<Word: BitArray, C: ReadWords<Word, Stack>, R: WriteWords<Wo
 
 /// Multiplies the remainders head `r` by `p`, adds the offset `t`, and brings the head back into its window.
 ///
-/// If the sum is above the window, the call writes the low word of the sum to `remainders`. Returns the new head.
+/// If the sum is `2^(State::BITS - precision)` or more, it is above the window. The call then writes the low word of
+/// the sum to `remainders`. The call returns the new head.
 #[inline(always)]
 pub fn gain<Word: WordOf<State>, State: BitArray, R: WriteWords<Word>>(
     remainders: &mut R,
@@ -104,7 +111,7 @@ pub fn gain<Word: WordOf<State>, State: BitArray, R: WriteWords<Word>>(
     }
 }
 
-/// Returns whether a quantile of `precision` bits makes the compressed head `h` too long.
+/// Returns whether the compressed head `h`, with a quantile of `precision` bits appended, is too long for a `Word`.
 ///
 /// In this case, putting the quantile back writes a word to the compressed backend.
 #[inline(always)]
@@ -116,7 +123,10 @@ fn owes_word<Word: BitArray>(h: Word, precision: u32) -> bool
     precision == Word::BITS || !h.shifted_right(Word::BITS - precision).is_nothing()
 }
 
-/// Asks `compressed` for room for a word if a quantile of `precision` bits would make the compressed head `h` too long.
+/// Asks `compressed` for room for one word if putting back a quantile of `precision` bits will write a word.
+///
+/// Putting the quantile back writes a word if the compressed head `h`, with the quantile appended, is too long for a
+/// `Word`.
 #[inline(always)]
 pub fn prepare_for_quantile<Word: BitArray, C: WriteWords<Word>>(
     compressed: &mut C,
@@ -140,7 +150,7 @@ pub fn prepare_for_quantile<Word: BitArray, C: WriteWords<Word>>(
 
 /// Puts `quantile` back onto the compressed head `h`, and returns the new head.
 ///
-/// If the head becomes too long, the call writes a word to `compressed`.
+/// If the head, with the quantile appended, is too long for a `Word`, the call writes its low word to `compressed`.
 #[inline(always)]
 pub fn give_quantile<Word: BitArray, C: WriteWords<Word>>(
     compressed: &mut C,
@@ -170,9 +180,10 @@ pub fn give_quantile<Word: BitArray, C: WriteWords<Word>>(
     Ok(h.shifted_right(Word::BITS - precision))
 }
 
-/// Returns whether the remainders head `r` is too low for an encode with an interval of length `p`.
+/// Returns whether the remainders head `r` is below `p * 2^(State::BITS - Word::BITS - precision)`.
 ///
-/// In this case, the encode first reads a word of the remainders.
+/// An encode divides the head by `p`, the length of the symbol's interval. If the head is below this bound, the encode
+/// first reads a word of the remainders into the head, so that the quotient stays in the window.
 #[inline(always)]
 fn is_short<Word: BitArray, State: BitArray>(r: State, p: State, precision: u32) -> bool
     requires { IsSized Word.BITS State.BITS precision }
@@ -185,7 +196,8 @@ fn is_short<Word: BitArray, State: BitArray>(r: State, p: State, precision: u32)
 
 /// Moves a word into the remainders head `r` if `r` is too low for an interval of length `p`, and returns the head.
 ///
-/// The call returns `None` if it needs a word and no word is left.
+/// The head is too low if it is below `p * 2^(State::BITS - Word::BITS - precision)`. If it is too low and no word is
+/// left, the call returns `None`.
 #[inline(always)]
 pub fn regain<Word: WordOf<State>, State: BitArray, R: ReadWords<Word, Stack>>(
     remainders: &mut R,

@@ -1,4 +1,4 @@
-//! Backends that lend their words in the order in which they were written.
+//! `LendsAsWritten`: the backends that lend their words in the order in which they were written.
 
 ghost use Rattle.std.specs.Prelude.{◌≡◌, reverse};
 

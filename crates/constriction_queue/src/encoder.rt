@@ -35,7 +35,7 @@ use std::marker::Model;
 /// The symbols form a queue: the symbol encoded first is decoded first.
 ///
 /// The width of `State` is a whole number of words, at least two. Each symbol narrows the interval, and the encoder
-/// writes the words that all numbers of the interval have in common. An interval that passes the greatest number of
+/// writes the leading words that all numbers of the interval share. An interval that passes the greatest number of
 /// `State` continues at 0. Then a later symbol may still add 1 to the next words to be written (a carry), so the
 /// encoder keeps these words pending.
 ///

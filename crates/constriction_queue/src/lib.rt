@@ -1,7 +1,7 @@
 //! The range coder: a queue of symbols.
 //!
-//! A [`encoder::RangeEncoder`] narrows an interval of numbers with each symbol, and writes the words that all numbers
-//! of the interval have in common. A [`decoder::RangeDecoder`] decodes the symbols from these words, in the order in
+//! A [`encoder::RangeEncoder`] narrows an interval of numbers with each symbol, and writes the leading words that all
+//! numbers of the interval share. A [`decoder::RangeDecoder`] decodes the symbols from these words, in the order in
 //! which they were encoded. Each symbol may have its own model and precision, as long as the decoder gets the same
 //! models in the same order.
 //!
@@ -24,7 +24,8 @@
 //! - [`flagged`]: two models in one stream, separated by a flag symbol.
 //! - [`as_written`]: backends that lend their words in the order in which they were written.
 //! - [`state`], [`situation`]: the interval and the pending words.
-//! - `step`, `seal`: the arithmetic of a step and of a seal.
+//! - `step`: the arithmetic of encoding one symbol.
+//! - `seal`: the arithmetic of a seal, the words that end the data.
 //! - `reading`: reading words, and computing a quantile from the words read.
 //! - `writing`: writing words to a backend.
 //!

@@ -1,4 +1,4 @@
-//! The pending words of an encoder.
+//! `EncoderSituation`: the pending words of an encoder, which a later symbol may still change.
 
 ghost use Rattle.std.specs.Prelude.{◌≡◌, ◌+◌, ◌<◌, ◌^◌};
 ghost use Rattle.std.specs.Int.NonZero.{non_zero_usize_get};
@@ -8,8 +8,8 @@ use std::num::NonZeroUsize;
 
 /// The pending words of an encoder.
 ///
-/// Words are pending while the interval's lower end plus its length is at least `2^State::BITS`, because a later symbol
-/// may still add 1 to the pending words (a carry).
+/// The encoder holds these words back, because a later symbol may still add 1 to them (a carry). Words are pending
+/// while the interval's lower end plus its length is at least `2^State::BITS`.
 ///
 /// # Examples
 ///

@@ -1,8 +1,8 @@
-//! The interval of a range coder.
+//! `RangeCoderState`: the interval of a range coder.
 //!
-//! `RangeCoderState` keeps the length as a `State`, and an invariant states that the interval is long enough. `range()`
-//! returns the length as a nonzero number. `new` takes the length as a plain `State`, and refuses every length that is
-//! too short, including 0.
+//! The type keeps the interval's lower end and its length, each as a `State`. An invariant states that the length is at
+//! least `2^(State::BITS - Word::BITS)`. [`RangeCoderState::new`] refuses every shorter length, including 0. Therefore
+//! [`RangeCoderState::range`] can return the length as a nonzero number.
 
 ghost use Rattle.std.specs.Prelude.{◌≡◌, ◌↔◌, ◌+◌, ◌-◌, ◌*◌, ◌<◌, ◌≤◌, ◌^◌, IfOk, IsOk};
 

@@ -1,4 +1,4 @@
-//! The arithmetic of an encoder's step.
+//! The arithmetic of encoding one symbol: [`step_onto`] narrows the interval, renormalizes it, and writes words.
 
 ghost use Rattle.std.specs.Prelude.{◌≡◌, ◌↔◌, ◌+◌, ◌-◌, ◌*◌, ◌<◌, ◌≤◌, ◌^◌, ◌/◌, [], IsTrue, None, Some, length};
 ghost use Rattle.std.specs.Int.NonZero.{non_zero_usize_get};
@@ -14,7 +14,7 @@ use constriction_base::backends::{Holds, Stack, WriteWords};
 use constriction_words::{BitArray, WordOf};
 use std::num::NonZeroUsize;
 
-/// Returns whether `lower + range`, the end of an interval, is above the greatest number of `State`.
+/// Returns whether `lower + range`, the end of an interval, is at least `2^State::BITS`.
 #[inline(always)]
 pub fn reaches_over<State: BitArray>(lower: State, range: State) -> bool
     ensures { IsTrue result ↔ (2 ^ State.BITS ≤ State.number lower + State.number range) }
@@ -180,8 +180,8 @@ pub fn grow<Word: WordOf<State>, State: BitArray>(
 
 /// Encodes the symbol with the quantiles `[left, left + p)`, and returns the new interval and pending words.
 ///
-/// The call writes the words that no later carry can change. It returns the backend's error if the backend refuses room
-/// for these words or refuses a write.
+/// The call writes the words that no later carry can change, after it has asked for room for them. If the backend
+/// refuses room or a write, the call returns the backend's error.
 #[inline(always)]
 pub fn step_onto<Word: WordOf<State>, State: BitArray, Backend: WriteWords<Word>>(
     bulk: &mut Backend,

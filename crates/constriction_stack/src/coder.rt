@@ -1,10 +1,9 @@
-//! `AnsCoder`: creating a coder, taking its parts, and testing whether it is empty.
+//! The stack coder, [`AnsCoder`]: its type, its constructors and its parts.
 //!
 //! - [`symbols`]: the two steps, `encode_symbol` and `decode_symbol`.
 //! - [`lists`]: encoding lists of symbols from last to first.
 //! - [`words`]: importing and exporting words, and counting them.
-//! - [`decoders`]: positions, and coders for reading: over other backends, over borrowed words, or over words in
-//!   reading order.
+//! - [`decoders`]: turning a coder into a decoder, decoders of borrowed or reversed words, and seeking.
 //! - [`guard`]: guards that lend the compressed words.
 
 pub mod decoders;
@@ -102,9 +101,9 @@ impl<Word: WordOf<State>, State: BitArray, Backend: Holds<Word, Stack>> AnsCoder
 > {
     /// Returns whether the coder is empty, which means that its head is 0.
     ///
-    /// A new coder is empty. The coder is empty again after the caller has decoded all its symbols. An empty coder may
-    /// still hold symbols: encoding a symbol whose interval begins at 0 leaves an empty coder empty, and decoding
-    /// returns that symbol.
+    /// A new coder is empty. It is empty again after the caller has decoded all symbols that the caller encoded. An
+    /// empty coder may still hold symbols: encoding a symbol whose interval begins at 0 leaves an empty coder empty,
+    /// and decoding returns that symbol.
     #[inline]
     pub fn is_empty(&self) -> bool
         ensures { IsTrue result ↔ (self.now.state.head ≡ 0) }

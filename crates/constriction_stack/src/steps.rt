@@ -1,4 +1,6 @@
 //! The arithmetic of encoding and decoding one symbol, on a head and a backend.
+//!
+//! A decode calls [`popped_head`] and then [`refilled`]. An encode calls [`pushed_onto`].
 
 ghost use Rattle.std.specs.Prelude.{◌≡◌, ◌+◌, ◌-◌, ◌*◌, ◌/◌, ◌%◌, ◌^◌, ◌<◌, ◌≤◌, IfSome};
 ghost use Rattle.constriction_base.specs.Steps.{IsStep, IsSizes};
@@ -9,6 +11,8 @@ use constriction_base::backends::{Holds, ReadWords, Stack, WriteWords};
 use constriction_words::{BitArray, Reciprocal, WordOf};
 
 /// Returns the head after decoding the symbol of the interval `[left, left + p)`, before renormalization.
+///
+/// The caller proves that the quantile, which is the low `precision` bits of `head`, is at least `left`.
 #[inline]
 pub fn popped_head<State: BitArray>(head: State, left: State, p: State, precision: u32) -> State
     requires within { precision < State.BITS }
@@ -22,9 +26,10 @@ pub fn popped_head<State: BitArray>(head: State, left: State, p: State, precisio
     head.shifted_right(precision).times(p).plus(offset)
 }
 
-/// Moves the next word into `head` if `head` is below `2^(State::BITS - Word::BITS)`, and returns the head.
+/// Moves the next word of `bulk` into `head` if `head` is below `2^(State::BITS - Word::BITS)`.
 ///
-/// If no word is left, the head is unchanged.
+/// Returns the new head. If no word is left, the head is unchanged. If the read fails, the call returns the error of
+/// the read.
 #[inline]
 pub fn refilled<Word: WordOf<State>, State: BitArray, Backend: ReadWords<Word, Stack>>(
     bulk: &mut Backend,
@@ -49,8 +54,9 @@ pub fn refilled<Word: WordOf<State>, State: BitArray, Backend: ReadWords<Word, S
 
 /// Encodes the symbol of the interval `[left, left + p)` onto `head`, and returns the new head.
 ///
-/// If `head` has no room for the symbol, the call first asks the backend for room for one word. It then writes the low
-/// word of `head`.
+/// If `head` is at least `p * 2^(State::BITS - precision)`, the new head would not fit a `State`. The call then first
+/// moves the low word of `head` to the backend: it asks for room for one word, and writes the word. If the backend
+/// refuses, the call returns the backend's error.
 #[inline(always)]
 pub fn pushed_onto<Word: WordOf<State>, State: BitArray, Backend: WriteWords<Word>>(
     bulk: &mut Backend,
@@ -86,7 +92,9 @@ pub fn pushed_onto<Word: WordOf<State>, State: BitArray, Backend: WriteWords<Wor
     ))
 }
 
-/// Encodes a symbol onto `head`, which has room for the symbol, and returns the new head.
+/// Encodes the symbol of the interval `[left, left + p)` onto `head`, and returns the new head.
+///
+/// The caller proves that `head` is below `p * 2^(State::BITS - precision)`, so the new head fits a `State`.
 ///
 /// With a reciprocal, the call computes the new head as `head + left + head / p * (2^precision - p)`. This formula
 /// needs the quotient but no remainder.

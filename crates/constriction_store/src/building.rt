@@ -68,7 +68,7 @@ enum Refusal {
     Memory,
 }
 
-/// Encodes the symbols of one chunk with `model`.
+/// Encodes the symbols of one chunk with `model`, and stops at the first error.
 fn encode_chunk<
     Word: WordOf<State>,
     State: BitArray,

@@ -17,8 +17,9 @@ use std::alloc::Global;
 
 /// At any entry, a list of words holds at most one chunk.
 ///
-/// Words hold a chunk at an entry if decoding from the entry returns the chunk's symbols. For the same words and the
-/// same entry, `HoldsChunk` and `HoldsNoChunk` never both hold.
+/// An entry states a position, an interval and a number of symbols. Words hold a chunk at an entry if decoding this
+/// number of symbols from there returns the chunk (`HoldsChunk`). If words hold a chunk at an entry, this decoding
+/// can't also fail (`HoldsNoChunk`).
 pub fn one_chunk_at_entry()
     ensures one { (w s : ℕ) (model : Model ℕ) (words : List ℕ) (entry : Entry) (symbols others : List ℕ) →
         IsModel w model → HoldsChunk w s model words entry symbols → HoldsChunk w s model words entry others →
@@ -29,8 +30,8 @@ pub fn one_chunk_at_entry()
 
 /// A look-up depends only on the words of its chunk, and on the `s / w` words after them.
 ///
-/// Here a word has `w` bits, and a state has `s` bits. If the list `others` has the same words at these positions,
-/// decoding `others` from the chunk's entry returns the same symbols.
+/// Here a word has `w` bits, and a state has `s` bits. If another list has the same words at these positions, decoding
+/// that list from the chunk's entry returns the same symbols.
 pub fn other_words_are_not_read()
     ensures { (w s : ℕ) (model : Model ℕ) (words others : List ℕ) (entry : Entry) (symbols : List ℕ) (last : Run) →
         IsSizes w s → AreWords w words → AreWords w others →
@@ -97,7 +98,8 @@ pub enum ThroughStore {
 /// # Errors
 ///
 /// - `Build(error)`: [`Store::build`] returned `error`.
-/// - `LookUp(error)`: [`look_up`] returned `error`, which is never `Invalid`.
+/// - `LookUp(NoSuchChunk)`: a number in `places` is at least the number of chunks.
+/// - `LookUp(Memory)`: there is no memory for the chunks looked up.
 pub fn chunks_in_any_order<
     Word: WordOf<State>,
     State: BitArray,
@@ -138,7 +140,8 @@ where
 /// # Errors
 ///
 /// - `Build(error)`: [`Store::build`] returned `error`.
-/// - `LookUp(error)`: [`look_up`] returned `error`, which is never `Invalid`.
+/// - `LookUp(NoSuchChunk)`: a number in `places` is at least the number of chunks.
+/// - `LookUp(Memory)`: there is no memory for the chunks looked up.
 pub fn chunks_through_parts<
     Word: WordOf<State>,
     State: BitArray,

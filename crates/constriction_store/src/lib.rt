@@ -1,4 +1,4 @@
-//! An indexed store: chunks of symbols in the words of one range encoder. The caller looks up a chunk by its number.
+//! An indexed store: chunks (lists of symbols) in the words of one range encoder. A caller looks up a chunk by number.
 //!
 //! ```
 //! let table = WeightTable::<u32, 24>::new(alloc, &[8388608, 8388608])?;
@@ -30,8 +30,9 @@ pub const MOST_SYMBOLS: usize = 1048576;
 
 /// Encoded chunks of symbols: the words of a range encoder, an index of where each chunk begins, and the model.
 ///
-/// The width of `State` is a whole number of words, at least two. Contracts describe a store by a `Stored`: the values
-/// of its words, the entries of its index, and its model. See [`Store::build`] and [`Store::chunk`] for examples.
+/// A chunk is a list of symbols. The width of `State` is a whole number of words, at least two. Contracts describe a
+/// store by a `Stored`: the values of its words, the entries of its index, and its model. See [`Store::build`] and
+/// [`Store::chunk`] for examples.
 #[derive(Drop)]
 pub struct Store<
     Word: WordOf<State>,

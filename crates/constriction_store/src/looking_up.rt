@@ -61,6 +61,9 @@ fn decoder_at<'a, Word: WordOf<State>, State: BitArray>(
 }
 
 /// Decodes `len` symbols with `model`.
+///
+/// Returns `Invalid` if the decoder's words encode fewer than `len` symbols of the model, and `Memory` if there is no
+/// memory for the symbols.
 fn decode_chunk<
     Word: WordOf<State>,
     State: BitArray,

@@ -23,9 +23,9 @@ impl<
     ///
     /// # Errors
     ///
-    /// Returns the error of the first symbol that fails, counted from the end of the list. The coder has encoded the
-    /// symbols after the failing symbol in the list, and no other symbols. The call takes no further item from
-    /// `symbols_and_models`.
+    /// Returns the error of the first `encode_symbol` that fails, counted from the end of the list. The coder has
+    /// encoded the symbols after the failing symbol in the list, and no other symbols. The call takes no further item
+    /// from `symbols_and_models`.
     pub fn encode_symbols_reverse<S, M, I>(
         &mut self,
         symbols_and_models: I,
@@ -81,9 +81,9 @@ impl<
     ///
     /// # Errors
     ///
-    /// Returns the error of the first symbol that fails, counted from the end of the list. The coder has encoded the
-    /// symbols after the failing symbol in the list, and no other symbols. The call takes no further item from
-    /// `symbols`.
+    /// Returns the error of the first `encode_symbol` that fails, counted from the end of the list. The coder has
+    /// encoded the symbols after the failing symbol in the list, and no other symbols. The call takes no further symbol
+    /// from `symbols`.
     ///
     /// # Examples
     ///

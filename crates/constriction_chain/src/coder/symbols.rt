@@ -3,8 +3,8 @@
 //! Other methods of the trait `Encode` encode lists of symbols from first to last, and the methods of `EncodeReverse`
 //! encode lists from last to first.
 //!
-//! A decode may write a word without reading one. It then doesn't ask for room, because the write is its only backend
-//! call.
+//! A decode may write a word without reading one. It then doesn't ask for room, because the write is its only call of a
+//! backend.
 
 ghost use Rattle.constriction_base.specs.Steps.{Step};
 ghost use Rattle.constriction_chain.specs.Steps.{DecodeCall, EncodeCall, Halted, IsEndOfData, IsLackOfRoom};
@@ -56,14 +56,15 @@ impl<
     ///
     /// After an error, the heads are unchanged, and the remainders have at least as much room as before the call.
     ///
-    /// - `Frontend(OutOfCompressedData)`: the coder needs a compressed word, and none is left. If `is_list` of the
-    ///   compressed backend holds, the state is unchanged.
-    /// - `Backend(Compressed(error))`: the coder needs a compressed word, and the read returns `error`. If `is_list` of
-    ///   the compressed backend holds, the compressed words are unchanged.
+    /// - `Frontend(OutOfCompressedData)`: the coder needs a compressed word, and none is left. If the compressed
+    ///   backend behaves as a fixed list of words (`is_list`), as vectors do, the state is unchanged.
+    /// - `Backend(Compressed(error))`: the coder needs a compressed word, and the read returns `error`. If the
+    ///   compressed backend behaves as a fixed list of words (`is_list`), the compressed words are unchanged.
     /// - `Backend(Remainders(error))`: the coder needs a compressed word, and the remainders' backend refuses room for
     ///   one word. The state is unchanged.
     /// - `Backend(Remainders(error))`: the remainders' backend refuses to write a word. The compressed backend has lost
-    ///   at most one word. It has lost none if `makes_room` of the remainders' backend holds.
+    ///   at most one word. It has lost none if a successful `prepare` of the remainders' backend guarantees room
+    ///   (`makes_room`), as for vectors.
     #[inline(always)]
     fn decode_symbol<M>(
         &mut self,
@@ -96,6 +97,9 @@ impl<
     }
 
     /// Returns whether the compressed words may have ended, or the remainders may be full.
+    ///
+    /// If the call returns `false`, the next decode doesn't fail for lack of a compressed word or of room in the
+    /// remainders.
     #[inline]
     fn maybe_exhausted(&self) -> bool
         ensures value { result ≡ C.seems_exhausted self.now.compressed || R.seems_full self.now.remainders }
@@ -155,14 +159,15 @@ impl<
     ///
     /// - `Frontend(ImpossibleSymbol)`: returned if and only if the symbol is impossible under the model. The coder is
     ///   unchanged.
-    /// - `Frontend(OutOfRemainders)`: the coder needs a word of the remainders, and none is left. If `is_list` of the
-    ///   remainders' backend holds, the state is unchanged.
-    /// - `Backend(Remainders(error))`: the coder needs a word of the remainders, and the read returns `error`. If
-    ///   `is_list` of the remainders' backend holds, the remainders are unchanged.
+    /// - `Frontend(OutOfRemainders)`: the coder needs a word of the remainders, and none is left. If the remainders'
+    ///   backend behaves as a fixed list of words (`is_list`), as vectors do, the state is unchanged.
+    /// - `Backend(Remainders(error))`: the coder needs a word of the remainders, and the read returns `error`. If the
+    ///   remainders' backend behaves as a fixed list of words (`is_list`), the remainders are unchanged.
     /// - `Backend(Compressed(error))`: the coder has to write a word, and the compressed backend refuses room for it.
     ///   The state is unchanged.
-    /// - `Backend(Compressed(error))`: the compressed backend refuses to write that word. This happens only if
-    ///   `makes_room` of the compressed backend doesn't hold. The remainders have lost at most one word.
+    /// - `Backend(Compressed(error))`: the compressed backend refuses to write that word. This happens only if a
+    ///   successful `prepare` of the backend doesn't guarantee room (`makes_room` doesn't hold), as for cursors. The
+    ///   remainders have lost at most one word.
     #[inline(always)]
     fn encode_symbol<M>(
         &mut self,
@@ -195,7 +200,10 @@ impl<
         }
     }
 
-    /// Returns whether the remainders may have ended, or the compressed words may be full.
+    /// Returns whether the remainders may have ended, or the compressed backend may be full.
+    ///
+    /// If the call returns `false`, the next encode doesn't fail for lack of a word of the remainders or of room in the
+    /// compressed backend.
     #[inline]
     fn maybe_full(&self) -> bool
         ensures value { result ≡ R.seems_exhausted self.now.remainders || C.seems_full self.now.compressed }

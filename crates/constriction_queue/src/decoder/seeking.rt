@@ -1,7 +1,8 @@
 //! Seeking a decoder to a position: a number of words and an interval.
 //!
-//! A decoder has no `pos`, because encoders record positions. A seek reads the words of a point, so a read can fail
-//! after the backend has moved. The interval and the point are then unchanged (`stays`).
+//! A decoder has no `pos`, because encoders record positions. After the backend has moved, a seek reads
+//! `State::BITS / Word::BITS` words, which form the new point. If one of these reads fails, the decoder keeps its old
+//! interval and point (`stays`).
 
 ghost use Rattle.std.specs.Prelude.{◌≡◌, ◌⊎◌, ◌/◌, ◌^◌, ℕ};
 ghost use Rattle.constriction_queue.specs.States.{lower_of, range_of};
@@ -50,8 +51,8 @@ where
     ///
     /// # Errors
     ///
-    /// Returns `Err(())` if the backend refuses the seek or a read fails. The interval and the point are unchanged. If
-    /// a read failed, the backend has already moved.
+    /// Returns `Err(())` if the backend refuses the seek or a read fails. In both cases, the interval and the point are
+    /// unchanged. If a read failed, the backend has already moved.
     ///
     /// # Examples
     ///

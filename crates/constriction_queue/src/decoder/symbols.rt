@@ -75,8 +75,8 @@ impl<
     /// - `Frontend(InvalidData)`: returned if and only if the words don't encode a symbol of any model with this
     ///   precision. The decoder is unchanged.
     /// - `Backend(error)`: returned only if the decoder had to read a word and the read returned `error`. The interval
-    ///   and the point are unchanged. If `Holds::is_list` holds for the backend, as for cursors, the words are also
-    ///   unchanged.
+    ///   and the point are unchanged. If the backend behaves as a fixed list of words (`Holds::is_list`), as cursors
+    ///   do, the words are also unchanged.
     #[inline]
     fn decode_symbol<M>(
         &mut self,

@@ -21,6 +21,8 @@ impl<
 > RangeEncoder<Word, State, Backend> {
     /// Turns the encoder into a decoder of the words that [`RangeEncoder::into_compressed`] would return.
     ///
+    /// The decoder's backend is the encoder's backend, turned into a backend for reading from the first word.
+    ///
     /// # Errors
     ///
     /// The call consumes the encoder, also if it returns an error.

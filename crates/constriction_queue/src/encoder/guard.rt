@@ -1,4 +1,7 @@
-//! Guards that lend an encoder's compressed words: a guard writes them, and its drop removes them.
+//! Guards that lend an encoder's compressed words until the guards are dropped.
+//!
+//! The call that creates a guard writes the pending words and the seal onto the encoder's vector. Dropping the guard
+//! removes these words.
 
 ghost use Rattle.std.specs.Prelude.{◌≡◌, ◌+◌, ◌<◌, drop, length, map, reverse, IfOk, OnOk, OnErr};
 ghost use Rattle.std.specs.Borrow.{sem, RestsIfErr};
@@ -16,8 +19,8 @@ use std::fmt;
 
 /// A guard that keeps an encoder's pending words and seal in the encoder's vector until the guard is dropped.
 ///
-/// [`RangeEncoder::get_compressed`] returns a guard. See there for an example. Dropping a guard allocates no memory. If
-/// the caller forgets a guard instead of dropping it, the words that the guard wrote stay in the vector.
+/// [`RangeEncoder::get_compressed`] returns a guard. See there for an example. Dropping a guard removes these words and
+/// allocates no memory. If the caller forgets a guard instead of dropping it, these words stay in the vector.
 pub struct EncoderGuard<'a, Word: WordOf<State>, State: BitArray, A: Allocator = Global> {
     pub(crate) inner: &'a mut RangeEncoder<Word, State, Vec<Word, A>>,
     pub(crate) count: usize,
@@ -41,7 +44,7 @@ impl<'a, Word: WordOf<State>, State: BitArray, A: Allocator> EncoderGuard<'a, Wo
 impl<Word: WordOf<State>, State: BitArray, A: Allocator> Drop for EncoderGuard<'_, Word, State, A> {
     ghost use Rattle.constriction_queue.specs.Guarded.{lender, lent_back, written};
 
-    /// Removes the words that the guard wrote.
+    /// Removes the pending words and the seal from the encoder's vector.
     fn drop(self)
         ensures heads { HasHeads (lender self.entry).now (lent_back self.exit).now }
         ensures back { (lent_back self.exit).now.words ≡ drop (written self.entry) (lender self.entry).now.words }
@@ -88,7 +91,7 @@ impl<Word: WordOf<State>, State: BitArray, A: Allocator> RangeEncoder<Word, Stat
 
     /// Returns a guard that lends the words that [`RangeEncoder::into_compressed`] would return.
     ///
-    /// Dropping the guard restores the encoder.
+    /// While the guard lives, the encoder's vector holds these words. Dropping the guard restores the encoder.
     ///
     /// # Errors
     ///

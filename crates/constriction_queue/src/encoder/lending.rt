@@ -1,7 +1,7 @@
 //! Lending an encoder's compressed words to a function.
 //!
-//! The function receives words instead of a decoder, because the language has no bound for a closure that takes a
-//! decoder over a borrowed slice. The function can create a decoder from the words.
+//! The function receives words instead of a decoder, because Rattle has no bound for a closure that takes a decoder
+//! over a borrowed slice. The function can create a decoder from the words.
 
 ghost use Rattle.std.specs.Prelude.{◌≡◌, ◌+◌, ◌<◌, List, length, map, IfOk, OnErr};
 ghost use Rattle.std.specs.Fn.{FnOnceReturnsAt, FnOnceTakesAt};

@@ -62,10 +62,10 @@ impl<
 
     ghost never_full = { λ e impossible lack. lack };
 
-    /// Returns how many more symbols the caller may ask the encoder to encode.
+    /// Returns how many more symbols the encoder can encode: `usize::MAX - 17` minus the number of pending words.
     ///
-    /// The number of pending words plus the number of words of a seal has to fit a `usize`. A seal has at most 16
-    /// words, and each encode adds at most one pending word.
+    /// The limit exists because the number of pending words plus the number of words of a seal has to fit a `usize`. A
+    /// seal has at most 16 words, and each encode adds at most one pending word.
     #[inline]
     fn symbols_left(&self) -> usize {
         match self.situation {
@@ -129,7 +129,7 @@ impl<
 
     /// Returns whether the backend may be full.
     ///
-    /// If the call returns `false` and no words are pending, the next encode doesn't fail for lack of room. That encode
+    /// If the call returns `false` and no words are pending, the next encode doesn't fail for lack of room, because it
     /// writes at most one word.
     #[inline]
     fn maybe_full(&self) -> bool

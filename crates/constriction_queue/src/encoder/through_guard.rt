@@ -1,4 +1,4 @@
-//! Decoding the words that a guard lends: the guard as the buffer of a cursor.
+//! Decoders that borrow an encoder: the decoder's backend is a cursor whose buffer is the encoder's guard.
 
 ghost use Rattle.std.specs.Prelude.{◌≡◌, ◌+◌, ◌<◌, drop, length, reverse, IfOk, OnErr};
 ghost use Rattle.constriction_queue.specs.Encoder.{HasHeads, sealed_by};
@@ -96,12 +96,12 @@ impl<'a, Word: WordOf<State>, State: BitArray, A: Allocator> IntoSeekReadWords<W
 impl<Word: WordOf<State>, State: BitArray, A: Allocator> RangeEncoder<Word, State, Vec<Word, A>> {
     ghost use Rattle.constriction_queue.specs.Guarded.{lender, written, SealLacksRoom};
 
-    /// Returns a decoder that borrows the encoder and reads the encoder's words.
+    /// Borrows the encoder, and returns a decoder of the words that [`RangeEncoder::into_compressed`] would return.
     ///
-    /// These are the words that [`RangeEncoder::into_compressed`] would return. The decoder holds them in a guard.
-    /// Dropping the decoder restores the encoder, and an error leaves the encoder unchanged. The contract of this call
-    /// states neither fact; tests check both. The contract of [`RangeEncoder::with_compressed`] states both for that
-    /// call.
+    /// The call writes the pending words and a seal onto the encoder's vector, and the decoder reads the vector through
+    /// an [`EncoderGuard`]. Dropping the decoder restores the encoder, and an error leaves the encoder unchanged. The
+    /// contract of this call states neither fact; tests check both. The contract of [`RangeEncoder::with_compressed`]
+    /// states both for that call.
     ///
     /// # Errors
     ///

@@ -1,7 +1,7 @@
-//! Coders for reading: over other backends, over borrowed words, over words in reading order, and with seeking.
+//! Decoders: turning a coder into one, creating one from borrowed or reversed words, and seeking to positions.
 //!
-//! `into_reversed` goes through the trait `IntoReversed`. With separate methods for cursors and for reversed cursors,
-//! code that calls them couldn't be proved.
+//! `AnsCoder::into_reversed` is one method for cursors and reversed cursors, through the trait `IntoReversed`. With two
+//! methods of the same name, code that calls one of them couldn't be proved.
 
 ghost use Rattle.constriction_base.specs.Readings.{BeginsHigh};
 ghost use Rattle.constriction_base.specs.Iterators.{FusedRead};
@@ -42,7 +42,7 @@ impl<
 
     ghost fails = { λ _ _. ⊥ };
 
-    /// Turns the coder into a decoder with the same state, over a backend for reading. The call never fails.
+    /// Turns the coder into a decoder, as the method [`AnsCoder::into_decoder`] does. The call never fails.
     fn into_decoder(self) -> Result<AnsCoder<Word, State, Backend::IntoReadWords>, Infallible> {
         Ok(self.into_decoder())
     }
@@ -75,7 +75,7 @@ impl<Word: WordOf<State>, State: BitArray, Backend: IntoReadWords<Word, Stack>> 
     State,
     Backend,
 > {
-    /// Turns the coder into a decoder with the same state, over a backend for reading.
+    /// Turns the coder into a decoder with the same state. The coder's backend becomes a backend for reading.
     pub fn into_decoder(self) -> AnsCoder<Word, State, Backend::IntoReadWords>
         ensures state { result.state ≡ self.state }
         ensures place { Backend.becomes self.backend result.backend }
@@ -211,7 +211,7 @@ impl<Word: WordOf<State>, State: BitArray, Buf: Words<Word> + Drop> AnsCoder<
 
     /// Creates a coder from words in the reverse order of [`AnsCoder::into_binary`].
     ///
-    /// Every list of words is allowed.
+    /// Every list of words is allowed, because every list is the binary form of a coder.
     ///
     /// # Examples
     ///
@@ -242,8 +242,8 @@ impl<
 > AnsCoder<Word, State, FallibleIteratorReadWords<Iter>> {
     /// Creates a coder from an iterator over words in the reverse order of [`AnsCoder::into_compressed`].
     ///
-    /// The call reads words into the head until the head is full or the iterator ends. Each decode then reads at most
-    /// one more word. The caller proves that the iterator's `next` may be called.
+    /// The call reads words into the head until the head is at least `2^(State::BITS - Word::BITS)` or the iterator
+    /// ends. Each decode then reads at most one more word. The caller proves that the iterator's `next` may be called.
     ///
     /// # Errors
     ///
@@ -278,8 +278,9 @@ impl<
 
     /// Creates a coder from an iterator over words in the reverse order of [`AnsCoder::into_binary`].
     ///
-    /// Every list of words is allowed. The call reads words into the head until the head is full or the iterator
-    /// ends. Each decode then reads at most one more word. The caller proves that the iterator's `next` may be called.
+    /// Every list of words is allowed. The call reads words into the head, below a leading 1 bit, until the head is at
+    /// least `2^(State::BITS - Word::BITS)` or the iterator ends. Each decode then reads at most one more word. The
+    /// caller proves that the iterator's `next` may be called.
     ///
     /// # Errors
     ///
@@ -304,7 +305,7 @@ impl<Word: WordOf<State>, State: BitArray, Backend: IntoReversed<Word>> AnsCoder
     State,
     Backend,
 > {
-    /// Reverses the buffer below the head and keeps the state.
+    /// Reverses the order of the words in the backend's buffer. The coder's state is unchanged.
     ///
     /// The call turns a coder over a cursor into a coder over a reversed cursor, or the other way round. In a cursor,
     /// the words below the head lie before the position, and the last of these words is read first. In a reversed
@@ -325,7 +326,7 @@ impl<Word: WordOf<State>, State: BitArray, Backend: IntoSeekReadWords<Word, Stac
     State,
     Backend,
 > {
-    /// Turns the coder into a decoder with the same state, over a backend for reading and seeking.
+    /// Turns the coder into a decoder with the same state. The coder's backend becomes one for reading and seeking.
     pub fn into_seekable_decoder(self) -> AnsCoder<Word, State, Backend::IntoSeekReadWords>
         ensures state { result.state ≡ self.state }
         ensures place { Backend.becomes self.backend result.backend }
@@ -409,7 +410,7 @@ impl<Word: WordOf<State>, State: BitArray, Backend: Holds<Word, Stack> + Seek> S
         × (new.state ≡ state_of Word.number Backend.Holds old.state.head new.backend)
         × (new.backend ≡ old.backend → new ≡ old) };
 
-    /// Moves to a recorded position: seeks in the backend, and restores the recorded head.
+    /// Moves the coder to a recorded position: seeks in the backend, and restores the recorded head.
     ///
     /// # Errors
     ///

@@ -1,9 +1,12 @@
-//! Guards that lend a coder's compressed words: a guard writes them onto the backend, and its drop removes them.
+//! Guards that lend a coder's exported words until the guards are dropped.
 //!
-//! Contracts name the borrowed coder by `lender` and the number of written words by `written`, both of
-//! `specs/Guarded.antt`. The guard has no `Model`, because a `Model` couldn't pass on the ghost name of the coder. The
-//! contract of `backend` states that the backend holds the coder's words, so a caller who decodes lent words needs no
-//! other contract.
+//! The call that creates a guard writes the words of the coder's head onto the backend. Dropping the guard removes
+//! these words.
+//!
+//! In contracts, `lender` is the coder that a guard borrows, and `written` is how many words the call wrote (see
+//! `specs/Guarded.antt`). A guard has no `Model`, because a `Model` couldn't pass on which coder the guard borrows (its
+//! ghost name). The contract of `backend` states that the backend holds the coder's words, so a caller who decodes lent
+//! words needs no other contract.
 
 ghost use Rattle.constriction_base.specs.Readings.{NeverRefused};
 ghost use Rattle.std.specs.Prelude.{◌≡◌, ◌↔◌, ◌^◌, ◌++◌, ℕ, drop, map, Ok, Err, IfOk, IfErr, OnOk};
@@ -29,8 +32,9 @@ use std::fmt;
 /// [`AnsCoder::get_compressed`] returns a guard with `SEALED` 0. [`AnsCoder::get_binary`] returns a guard with `SEALED`
 /// 1. See [`AnsCoder::get_compressed`] for an example.
 ///
-/// Dropping a guard removes the words that the guard wrote. The drop allocates no memory, and stops at the first read
-/// that fails. If the caller forgets a guard instead of dropping it, the words stay on the backend, below the head.
+/// Dropping a guard removes the head's words by reading them off the backend. The drop allocates no memory, and stops
+/// at the first read that fails. If the caller forgets a guard instead of dropping it, the words stay on the backend,
+/// below the head.
 pub struct CoderGuard<'a, Word: WordOf<State>, State: BitArray, Backend, const SEALED: usize>
 where
     Backend: WriteWords<Word> + ReadWords<Word, Stack>,
@@ -71,7 +75,7 @@ where
 {
     ghost use Rattle.constriction_stack.specs.Guarded.{lender, lent_back, written};
 
-    /// Removes from the backend the words that the guard wrote, unless a read fails.
+    /// Removes the head's words by reading them off the backend, and stops at the first read that fails.
     fn drop(self)
         ensures kept { (lent_back self.exit).now.state.head ≡ (lender self.entry).now.state.head }
         ensures back { NeverRefused Backend.reads →
@@ -102,7 +106,8 @@ where
 {
     /// Writes the head's words onto the backend, keeps the head, and returns how many words it wrote.
     ///
-    /// If the backend refuses room or a write, the call removes the words that it wrote, unless a read fails.
+    /// If the backend refuses room or a write, the call returns the backend's error. Before it returns, it removes the
+    /// words that it wrote by reading them back, and stops at the first read that fails.
     fn put_compressed(&mut self) -> Result<usize, Backend::WriteError>
         ensures coder { IsCoder Word.number Backend.Holds Word.BITS State.BITS self.old }
         ensures shows { OnOk result (ShowsExported Word.BITS self.old.state self.new.state) }
@@ -123,8 +128,9 @@ where
     /// Writes the words of the head below its leading 1 to the backend, and returns how many words it wrote.
     ///
     /// The head is unchanged. The call returns `Frontend(())` if and only if the head is 0 or its bit length minus 1
-    /// isn't a multiple of `Word::BITS`. If the backend refuses room or a write, the call removes the words that it
-    /// wrote, unless a read fails.
+    /// isn't a multiple of `Word::BITS`. If the backend refuses room or a write, the call returns the backend's error.
+    /// Before it returns, it removes the words that it wrote by reading them back, and stops at the first read that
+    /// fails.
     fn put_binary(&mut self) -> Result<usize, CoderError<(), Backend::WriteError>>
         ensures coder { IsCoder Word.number Backend.Holds Word.BITS State.BITS self.old }
         ensures shows { OnOk result (ShowsBinary Word.BITS self.old.state self.new.state) }
@@ -159,12 +165,14 @@ where
     ///
     /// While the guard lives, the backend holds the words below the head and then the words of the head. The coder
     /// first asks the backend for room for the head's words. It then writes these words, lowest first, without leading
-    /// zero words. A head of 0 has no words. Dropping the guard restores the coder, unless a read fails.
+    /// zero words. A head of 0 has no words. Dropping the guard reads the words of the head back. If reads never
+    /// fail, as for vectors, this restores the coder.
     ///
     /// # Errors
     ///
     /// Returns the backend's error if the backend refuses room for the head's words, or refuses to write a word. The
-    /// coder then removes the words that it wrote, unless a read fails.
+    /// coder then removes the words that it wrote by reading them back. If reads never fail, as for vectors, the head
+    /// and the words are unchanged.
     ///
     /// # Examples
     ///
@@ -199,15 +207,16 @@ where
     ///
     /// While the guard lives, the backend holds the words below the head and then the head's words below its leading 1,
     /// lowest first. Words directly below the leading 1 are included even if they are 0. A head of 1 has no words below
-    /// its leading 1. The coder first asks the backend for room for the head's words. Dropping the guard restores the
-    /// coder, unless a read fails.
+    /// its leading 1. The coder first asks the backend for room for the head's words. Dropping the guard reads these
+    /// words back. If reads never fail, as for vectors, this restores the coder.
     ///
     /// # Errors
     ///
     /// - `Frontend(())`: returned if and only if the head is 0 or its bit length minus 1 isn't a multiple of
     ///   `Word::BITS`. The coder is unchanged.
-    /// - `Backend(error)`: returned if the backend refuses room for the head's words, or refuses to write a word. The
-    ///   coder then removes the words that it wrote, unless a read fails.
+    /// - `Backend(error)`: returned only if the backend refuses room for the head's words, or refuses to write a word.
+    ///   The coder then removes the words that it wrote by reading them back. If reads never fail, as for vectors, the
+    ///   head and the words are unchanged.
     pub fn get_binary(
         &mut self,
     ) -> Result<CoderGuard<'_, Word, State, Backend, 1>, CoderError<(), Backend::WriteError>>
@@ -235,7 +244,9 @@ where
 
 /// Writes the lowest `count` words of `head` onto `bulk`, lowest first.
 ///
-/// If a write fails, the call removes the words that it wrote, unless a read fails.
+/// The call first asks for room for these words. If the backend refuses room or a write, the call returns the backend's
+/// error. Before it returns, it removes the words that it wrote by reading them back, and stops at the first read that
+/// fails.
 fn show_words<Word: WordOf<State>, State: BitArray, Backend>(
     bulk: &mut Backend,
     head: State,

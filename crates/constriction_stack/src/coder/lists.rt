@@ -1,7 +1,7 @@
 //! Encoding lists of symbols from last to first, as methods of the coder, so that no trait has to be in scope.
 //!
-//! The contracts refer to the iterator's `next_back`, so a caller needs no contract of `Rev`. The contracts require
-//! that the iterator ends and that its `next_back` may be called.
+//! The contracts require that the iterator ends and that its `next_back` may be called. They refer to `next_back`
+//! itself, so a caller needs no contract of the adapter `Rev`.
 
 ghost use Rattle.constriction_stream.specs.CoderLists.{EncodesEachPair, EncodesSymbols, GivesAtMostLeft, LowersLeft, TriesPairs};
 
@@ -18,14 +18,15 @@ impl<Word: WordOf<State>, State: BitArray, Backend: WriteWords<Word>> AnsCoder<
     State,
     Backend,
 > {
-    /// Encodes symbols from last to first, each under its own model.
+    /// Encodes the symbols of a list from last to first, each under its own model.
     ///
     /// Decoding then returns the symbols in the order of the list.
     ///
     /// # Errors
     ///
-    /// Returns the error of the first symbol that the coder refuses, counted from the end of the list. Exactly the
-    /// symbols after this symbol in the list are encoded. The call takes no further item from `symbols_and_models`.
+    /// Returns the error of the first `encode_symbol` that fails, counted from the end of the list. The coder has
+    /// encoded the symbols after the failing symbol in the list, and no other symbols. The call takes no further item
+    /// from `symbols_and_models`.
     pub fn encode_symbols_reverse<S, M, I, const PRECISION: usize>(
         &mut self,
         symbols_and_models: I,
@@ -46,15 +47,15 @@ impl<Word: WordOf<State>, State: BitArray, Backend: WriteWords<Word>> AnsCoder<
         EncodeReverse::<PRECISION>::encode_symbols_reverse(self, symbols_and_models)
     }
 
-    /// Encodes symbols from last to first, where each item is a symbol with its own model, or an error.
+    /// Encodes the symbols of a list from last to first. Each item is a symbol with its own model, or an error.
     ///
     /// # Errors
     ///
-    /// The call stops at the first item that fails, counted from the end of the list. Exactly the symbols after this
-    /// item in the list are encoded. The call takes no further item from `symbols_and_models`.
+    /// The call stops at the first failing item, counted from the end of the list. The coder has encoded the symbols
+    /// after that item in the list, and no other symbols. The call takes no further item from `symbols_and_models`.
     ///
     /// - `InvalidEntropyModel(error)`: the item is `Err(error)`.
-    /// - `CodingError(error)`: the coder refuses the item's symbol.
+    /// - `CodingError(error)`: encoding the item's symbol returned `error`.
     pub fn try_encode_symbols_reverse<S, M, E, I, const PRECISION: usize>(
         &mut self,
         symbols_and_models: I,
@@ -75,14 +76,15 @@ impl<Word: WordOf<State>, State: BitArray, Backend: WriteWords<Word>> AnsCoder<
         EncodeReverse::<PRECISION>::try_encode_symbols_reverse(self, symbols_and_models)
     }
 
-    /// Encodes symbols from last to first, all under the same model.
+    /// Encodes the symbols of a list from last to first, all under the same model.
     ///
     /// Decoding then returns the symbols in the order of the list.
     ///
     /// # Errors
     ///
-    /// Returns the error of the first symbol that the coder refuses, counted from the end of the list. Exactly the
-    /// symbols after this symbol in the list are encoded. The call takes no further symbol from `symbols`.
+    /// Returns the error of the first `encode_symbol` that fails, counted from the end of the list. The coder has
+    /// encoded the symbols after the failing symbol in the list, and no other symbols. The call takes no further symbol
+    /// from `symbols`.
     ///
     /// # Examples
     ///

@@ -1,6 +1,6 @@
 //! The two steps of the coder: encoding and decoding one symbol.
 //!
-//! The trait `Encode` encodes lists of symbols in their order, and `EncodeReverse` encodes them from last to first.
+//! The trait `Encode` encodes lists of symbols from first to last. `EncodeReverse` encodes lists from last to first.
 
 ghost use Rattle.constriction_base.specs.declared.errors.DefaultEncoderFrontendError.TheVariants.{ImpossibleSymbol};
 ghost use Rattle.constriction_stack.specs.Ans.{DecodeCall, EncodeCall, IsCoder};
@@ -155,7 +155,8 @@ impl<
     /// # Errors
     ///
     /// Returns `Backend(error)` only if the coder has to read a word and the read returns `error`. The head is
-    /// unchanged. If `Holds::is_list` holds for the backend, as for vectors and cursors, the words are unchanged too.
+    /// unchanged. If the backend behaves as a fixed list of words (`Holds::is_list`), as vectors and cursors do, the
+    /// words are unchanged too.
     #[inline]
     fn decode_symbol<M>(
         &mut self,

@@ -1,7 +1,8 @@
 //! Importing and exporting a coder's words in two forms, and counting them.
 //!
-//! In the compressed form, the head's words have no leading zeros. In the binary form, an implicit leading 1 marks the
-//! top of the head. Therefore every list of words is the export of a coder in binary form.
+//! Both forms contain the words below the head, and then the words of the head, lowest first. The compressed form
+//! leaves out the head's leading zero words. The binary form leaves out the head's leading 1 bit, but no zero words
+//! below this bit. Therefore every list of words is the binary form of a coder.
 
 ghost use Rattle.constriction_base.specs.Readings.{BeginsHigh};
 ghost use Rattle.constriction_base.specs.Steps.{IsSizes};
@@ -38,8 +39,8 @@ impl<Word: WordOf<State>, State: BitArray, Backend: ReadWords<Word, Stack>> AnsC
 > {
     /// Creates a coder from words in the form that [`AnsCoder::into_compressed`] returns.
     ///
-    /// The call reads words into the head until the head is full or no word is left. If `State` has twice the bits of
-    /// `Word`, two words fill the head. If there are no words, the coder is empty.
+    /// The call reads words into the head until the head is at least `2^(State::BITS - Word::BITS)` or no word is left.
+    /// If `State` has twice the bits of `Word`, two words fill the head. If there are no words, the coder is empty.
     ///
     /// # Errors
     ///
@@ -102,10 +103,10 @@ impl<Word: WordOf<State>, State: BitArray, Backend: WriteWords<Word>> AnsCoder<
     State,
     Backend,
 > {
-    /// Returns the backend, with all words of the coder on it.
+    /// Writes the head's words onto the backend, and returns the backend, which then holds all words of the coder.
     ///
-    /// These are the words below the head, then the words of the head, lowest first, without leading zero words. The
-    /// coder first asks the backend for room for the head's words. If the head is 0, the backend is unchanged.
+    /// The call writes the words of the head above the words below the head, lowest first, without leading zero words.
+    /// It first asks the backend for room for the head's words. If the head is 0, the backend is unchanged.
     ///
     /// # Errors
     ///
@@ -142,8 +143,9 @@ impl<Word: WordOf<State>, State: BitArray, Backend: ReadWords<Word, Stack>> AnsC
     ///
     /// [`AnsCoder::into_binary`] turns the coder back into these words, including zero words at the top.
     ///
-    /// The call reads words into the head, below a leading 1, until the head is full or no word is left. If `State` has
-    /// twice the bits of `Word`, one word fills the head. If there are no words, the coder has the head 1.
+    /// The head begins as 1. The call reads words into the head until the head is at least
+    /// `2^(State::BITS - Word::BITS)` or no word is left. If `State` has twice the bits of `Word`, one word fills the
+    /// head. If there are no words, the head is 1.
     ///
     /// # Errors
     ///
@@ -186,18 +188,18 @@ impl<Word: WordOf<State>, State: BitArray, Backend: WriteWords<Word>> AnsCoder<
     State,
     Backend,
 > {
-    /// Returns the backend, with the words of the coder's binary form on it.
+    /// Writes the head's words below its leading 1 bit onto the backend, and returns the backend.
     ///
-    /// These are the words below the head, then the head's words below its leading 1, lowest first. Zero words directly
-    /// below the leading 1 are included. The coder first asks the backend for room for the head's words. If the head is
-    /// 1, the backend is unchanged.
+    /// The backend then holds the binary form of the coder: the words below the head, and then the words that the call
+    /// writes, lowest first. The call also writes zero words directly below the leading 1. It first asks the backend
+    /// for room for all words to write. If the head is 1, the backend is unchanged.
     ///
     /// # Errors
     ///
     /// Every error consumes the coder.
     ///
     /// - `None`: returned if and only if the head is 0 or its bit length minus 1 isn't a multiple of `Word::BITS`.
-    /// - `Some(error)`: returned if the backend refuses room for the head's words, or refuses to write a word.
+    /// - `Some(error)`: returned only if the backend refuses room for the head's words, or refuses to write a word.
     pub fn into_binary(self) -> Result<Backend, Option<Backend::WriteError>>
     where
         Backend: Drop,
