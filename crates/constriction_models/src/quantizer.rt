@@ -1,4 +1,4 @@
-//! `LeakyQuantizer`: distributions cut halfway between symbols.
+//! `LeakyQuantizer`: turns a distribution into a model of integers, by cutting it halfway between the integers.
 
 mod indexed;
 
@@ -74,7 +74,9 @@ impl<Probability: WordOf<u32>, const PRECISION: usize> LeakyQuantizer<Probabilit
         })
     }
 
-    /// Cuts `distribution` halfway between the symbols of the range, and returns the model.
+    /// Cuts `distribution` halfway between the symbols of the quantizer's range, and returns the model.
+    ///
+    /// [`LeakilyQuantizedDistribution`] states the weights. See the documentation of [`LeakyQuantizer`] for an example.
     pub fn quantize<D: CumulativeDistribution>(
         &self,
         distribution: D,
