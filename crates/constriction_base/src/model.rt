@@ -44,9 +44,9 @@ pub trait EntropyModel<const PRECISION: usize>: Drop {
 
 /// A model that an encoder can use.
 ///
-/// An implementor proves that each call returns the start and the length of the symbol's interval, or `None` if the
-/// table has no entry for the symbol. If a call also returns a reciprocal, the implementor proves that it is the
-/// reciprocal of the interval's length.
+/// An implementor proves that each call returns the start and the length of the symbol's interval. The call returns
+/// `None` if and only if the table has no entry for the symbol. If a call also returns a reciprocal, the implementor
+/// proves that it is the reciprocal of the interval's length.
 ///
 /// # Examples
 ///

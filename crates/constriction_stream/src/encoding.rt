@@ -255,8 +255,8 @@ pub trait Encode<const PRECISION: usize>: Code {
 
     /// Returns whether the coder may refuse the next symbol for lack of room.
     ///
-    /// If the call returns `false`, and the coder can determine whether there is room (`tells_room`), the coder doesn't
-    /// refuse the next symbol for lack of room.
+    /// Suppose that the coder can determine whether there is room (`tells_room`). If the call then returns `false`, the
+    /// coder doesn't refuse the next symbol for lack of room.
     fn maybe_full(&self) -> bool
         ensures room { OnFalse result (tells_room self.now → HasRoom encodes is_lack_of_room self.now) }
     {
