@@ -88,7 +88,7 @@ pub enum ReadWriteError<R, W> {
 /// ```
 #[derive(Debug, Clone, Copy, PartialEq, Eq, Hash, Error)]
 pub enum BoundedWriteError {
-    /// The position of the write is the end of the buffer.
+    /// The position is the end of the buffer, so there is no word that the write could replace.
     #[error("out of space")]
     OutOfSpace,
     /// An allocation failed.

@@ -1,8 +1,10 @@
-//! Functions that move words between a coder's head and a backend. The head is the number above the coder's words.
+//! Functions that move words between a coder's head and a backend.
 //!
-//! If there are no words to write, `append_words` doesn't call the backend. If a write is refused, the call returns how
-//! many words it wrote before that write. The stack coder's guard needs this number to take the words off again,
-//! because generic code can't count the words on a backend.
+//! The head is the number on top of the coder's words. An export writes the head's words to the backend with
+//! [`append_words`]. An import reads words into the head with [`fill`].
+//!
+//! If the backend refuses a write, `append_words` returns how many words it wrote before that write. The stack coder's
+//! guard needs this number to take the words off again, because generic code can't count the words on a backend.
 
 ghost use Rattle.std.specs.Prelude.{IfErr, IfNone, IfOk, IfSome, Ok, ℕ, ◌+◌, ◌<◌};
 ghost use Rattle.std.specs.Prelude.{true, ◌^◌, ◌≡◌, ◌≤◌};
@@ -52,7 +54,7 @@ pub fn words_below_one<Word: WordOf<State>, State: BitArray>(head: State) -> Opt
     Some((bits / Word::BITS) as usize)
 }
 
-/// Writes the lowest `count` words of `head` to `bulk`, the lowest word first, without asking for room.
+/// Writes the lowest `count` words of `head` to `bulk`, the lowest word first, without calling `prepare`.
 ///
 /// The caller proves that the width of `State` is a whole number of words, at least two.
 ///

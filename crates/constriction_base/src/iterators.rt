@@ -46,8 +46,8 @@ impl<Word, ReadError, Iter: Iterator<Item = Result<Word, ReadError>>> FallibleIt
 > {
     /// Creates a backend over an iterator.
     ///
-    /// The reads of the backend can return exactly the results that the iterator can return. The caller proves that the
-    /// iterator's `next` may be called.
+    /// The backend's reads can return a list of results if and only if the iterator can return this list. The caller
+    /// proves that the iterator's `next` may be called.
     ///
     /// # Examples
     ///

@@ -1,9 +1,10 @@
-//! Model traits. A model gives each symbol an interval. The interval's length stands for the symbol's probability.
+//! Model traits. A model gives each symbol an interval, whose length stands for the symbol's probability.
 //!
 //! A model of a given precision (in bits) partitions its quantiles, the numbers below `2 ^ PRECISION`, into intervals.
-//! Each symbol that the model can code has one interval. [`EncoderModel`] finds the interval of a symbol.
-//! [`DecoderModel`] finds the interval that holds a quantile. Both require [`EntropyModel`]. Its laws state that the
-//! intervals are a table. If `M` is a model, `&M` is a model too.
+//! Each symbol that the model can code has one interval. The interval's length, divided by `2 ^ PRECISION`, is the
+//! symbol's probability. [`EncoderModel`] finds the interval of a symbol. [`DecoderModel`] finds the interval that
+//! holds a quantile. Both traits require [`EntropyModel`], whose laws state that the intervals partition the quantiles.
+//! If `M` is a model, `&M` is a model too.
 
 ghost use Rattle.std.specs.Prelude.{◌≡◌, ℕ, ◌^◌, ◌<◌, ◌≤◌, List, length, IfSome, IfNone};
 ghost use Rattle.constriction_base.specs.Tables.{Has, Impossible, IsTable, Covers};
@@ -45,7 +46,7 @@ pub trait EntropyModel<const PRECISION: usize>: Drop {
 ///
 /// An implementor proves that each call returns the start and the length of the symbol's interval. The call returns
 /// `None` if and only if the table has no entry for the symbol. If a call also returns a reciprocal, the implementor
-/// proves that it is the reciprocal of this length.
+/// proves that it is the reciprocal of the interval's length.
 ///
 /// # Examples
 ///

@@ -64,7 +64,11 @@ impl<A: Allocator + Copy> WriteWords<usize> for SmallVec<usize, 1, A> {
 
     ghost seems_full = { λ _. false };
 
-    /// Writes a word onto the stack. A write onto an empty stack never fails.
+    /// Writes a word onto the stack.
+    ///
+    /// # Errors
+    ///
+    /// Returns `AllocError` if the vector has to grow and there is no memory. A write onto an empty stack never fails.
     #[tactic(auto, using(crate::proofs::Ends::reverse_push))]
     fn write(&mut self, word: usize) -> Result<(), AllocError> {
         // The capacity is at least the one inline word.
@@ -79,7 +83,10 @@ impl<A: Allocator + Copy> WriteWords<usize> for SmallVec<usize, 1, A> {
 
     /// Asks for room for `count` more words.
     ///
-    /// The call never fails if the number of words on the stack plus `count` is at most 1.
+    /// # Errors
+    ///
+    /// Returns `AllocError` if the vector has to grow and there is no memory. The call never fails if the number of
+    /// words on the stack plus `count` is at most 1.
     fn prepare(&mut self, count: usize) -> Result<(), AllocError> {
         // The capacity is at least one, and at least the number of words.
         let _inline = self.capacity();

@@ -1,12 +1,13 @@
 //! `WeightTable`: a model built from the weights of its symbols.
 //!
-//! The table cuts off weights of 0 at the end of the list, so that the start of each remaining symbol fits
-//! `Probability`. Starts and hints take one allocation each. Contracts describe a table by its `entries`, defined in
-//! `specs/`, because the laws of `EntropyModel` hold for every value of the type.
+//! A table stores the start of each symbol's interval, hints that speed up decoding, and optionally the reciprocal of
+//! each weight. Each of these lists takes one allocation. The table cuts off weights of 0 at the end of the list of
+//! weights, so that the start of each remaining symbol fits `Probability`. Contracts describe a table by its list of
+//! entries (`entries` in `specs/WeightTables.antt`).
 //!
-//! Computing a reciprocal takes one 128-bit division: 33 to 41 ns in a prototype. Building the rest of a table takes
-//! 10.4 to 10.8 ns a symbol. Two 64-bit divisions would take 19 to 29 ns, but work only for weights below 2^32.
-//! Therefore `new` uses the 128-bit division.
+//! Computing a reciprocal takes 33 to 41 ns in a prototype, because it divides a 128-bit number. Building the rest of a
+//! table takes 10.4 to 10.8 ns a symbol. Two 64-bit divisions would take 19 to 29 ns, but work only for weights below
+//! 2^32. Therefore `new` divides 128-bit numbers.
 //!
 //! With a table from `for_decoding`, an encoder that divides by weights, such as the stack coder, executes a division
 //! for each symbol. With a table from `new`, at a precision of at most 63 bits, the encoder never divides if its state
@@ -151,9 +152,9 @@ impl<Probability: BitArray, const PRECISION: usize> WeightTable<Probability, PRE
 
     /// Creates a table from `weights` without reciprocals, for decoding.
     ///
-    /// The table has the same entries as the table of [`new`](WeightTable::new), and takes less time and memory. Use it
-    /// also for encoders that don't divide by weights, such as the range encoder. Encoders that divide by weights, such
-    /// as the stack coder, accept the table too, but run slower.
+    /// The table has the same entries as the table that [`new`](WeightTable::new) creates, but takes less time to build
+    /// and less memory. Use it also for encoders that don't divide by weights, such as the range encoder. Encoders that
+    /// divide by weights, such as the stack coder, accept the table too, but run slower.
     ///
     /// # Errors
     ///
@@ -219,7 +220,7 @@ impl<Probability: BitArray, const PRECISION: usize> WeightTable<Probability, PRE
         Ok(made)
     }
 
-    /// Returns the number of the bucket that holds `quantile`.
+    /// Returns the index of the bucket that holds `quantile`: `quantile` without its lowest `shift` bits.
     fn bucket(&self, quantile: Probability) -> usize
         requires { Probability.number quantile < 2 ^ PRECISION }
         ensures within { result + 1 < length self.now.hints.items }
@@ -253,7 +254,7 @@ impl<Probability: BitArray, const PRECISION: usize> WeightTable<Probability, PRE
         }
     }
 
-    /// Returns the reciprocal that the table keeps for `symbol`, or `None` if the table keeps none.
+    /// Returns the reciprocal that the table keeps for `symbol`, or `None` if the table keeps none for this symbol.
     fn reciprocal(&self, symbol: usize) -> Option<Reciprocal>
         ensures ok { IfSome result (λ r.
             0 < slice_index (weights_between (map Probability.number self.now.starts.items) (2 ^ PRECISION)) symbol

@@ -1,4 +1,4 @@
-//! `Family`: a family of distributions, chosen at run time.
+//! `Family`: a choice at run time between normal, Laplace and logistic distributions.
 
 ghost use Rattle.std.specs.Prelude.{◌≡◌, ◌↔◌, IfSome, IsNone};
 ghost use Rattle.constriction_models.specs.Families.{below_of_one, family_below, one_never_falls};
@@ -8,7 +8,7 @@ use crate::gaussian::Gaussian;
 use crate::laplace::Laplace;
 use crate::logistic::Logistic;
 
-/// A distribution of one of three types.
+/// A distribution of one of three types, which a program chooses at run time.
 ///
 /// # Examples
 ///

@@ -1,13 +1,13 @@
 //! Functions given by a table of values, and interpolated linearly between the values.
 //!
-//! The division by the scale happens once, in `Scale::new`, which computes the `rate`. The values of the Gaussian are
-//! 1/128 of a standard deviation apart. A distance of 1/32 would cost 2e-6 more bits per symbol.
+//! A lookup multiplies by the `rate` that `Scale::new` computes, so it never divides by the scale. The values of the
+//! Gaussian are 1/128 of a standard deviation apart. A distance of 1/32 would cost 2e-6 more bits per symbol.
 
 ghost use Rattle.std.specs.Prelude.{◌≡◌, ◌+◌, ◌-◌, ◌*◌, ◌/◌, ◌<◌, ◌≤◌, length, ℤ, pos, ◌+ℤ◌, ◌-ℤ◌};
 ghost use Rattle.constriction_models.specs.Interpolation.{AreValues, value_at, located};
 ghost use Rattle.constriction_models.specs.laws.Interpolating.{Fits};
 
-/// Returns the interpolated value at `place`, which is in 65536ths of the table's spacing.
+/// Returns the interpolated value at `place`, the distance from the first value in 65536ths of the table's spacing.
 #[inline(always)]
 fn value_at(values: &[u64], place: u64) -> u64
     requires values { AreValues values.now }

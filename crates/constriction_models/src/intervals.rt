@@ -1,10 +1,12 @@
-//! Conversion of intervals to the type of a model's probabilities.
+//! `interval`: converts an interval to the type of a model's probabilities.
 
 ghost use Rattle.std.specs.Prelude.{◌≡◌, ◌-◌, ◌^◌, ◌<◌};
 
 use constriction_words::{BitArray, WordOf};
 
 /// Returns the start and the length of the interval `[left, end)`, as values of type `Probability`.
+///
+/// The caller proves that the interval isn't empty, and that its start and its length fit `Probability`.
 #[inline(always)]
 pub fn interval<Probability: WordOf<u32>>(
     left: u64,

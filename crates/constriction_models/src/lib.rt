@@ -4,8 +4,8 @@
 //! the decoder then returns wrong symbols. This crate computes all models in integers, and proves that each model's
 //! intervals partition the quantiles.
 //!
-//! - [`distribution`]: `CumulativeDistribution`, a cumulative distribution function in integers, with the law
-//!   `never_falls`.
+//! - [`distribution`]: `CumulativeDistribution`, a cumulative distribution function in integers, with the law that it
+//!   never falls.
 //! - [`quantizer`]: `LeakyQuantizer`, which cuts a distribution function halfway between symbols. It creates two
 //!   models: `LeakilyQuantizedDistribution`, and `IndexedDistribution`, whose `usize` symbols are counted from 0.
 //! - [`location_scale`]: `LocationScale`, a standard distribution moved to a location and stretched by a scale;

@@ -14,8 +14,8 @@ use std::marker::PhantomData;
 
 /// The standard distribution of a family, with location 0 and scale 1, as a table of its distribution function.
 ///
-/// The table has the values at 2049 evenly spaced places, from half its width below 0 to half its width above 0. Below
-/// the first place, the distribution function is 0. From the last place on, it is `2^32`.
+/// The table has the values at 2049 evenly spaced places, from `-WIDTH / 2` to `WIDTH / 2` scales. Below the first
+/// place, the distribution function is 0. At and above the last place, it is `2^32`.
 ///
 /// An implementor proves that `table` returns the values and that `guesses` returns 1025 numbers. An implementor also
 /// proves two laws:
@@ -44,8 +44,8 @@ pub trait StandardDistribution: Copy {
 
     /// Returns estimates of the places at which the distribution function reaches 0, 1/1024, 2/1024, .., 1.
     ///
-    /// Each number is the distance from the first of the 2049 places, in 65536ths of the table's spacing.
-    /// Every list of 1025 numbers is allowed. Accurate numbers make decoding fast.
+    /// Each number is the distance from the first of the 2049 places, in 65536ths of the table's spacing. Every list of
+    /// 1025 numbers is allowed. Accurate numbers make decoding fast.
     fn guesses() -> &'static [u32]
         ensures { length result.now ≡ 1025 };
 }

@@ -1,9 +1,9 @@
 //! `ContiguousLookupDecoderModel`: a model with a row for each quantile.
 //!
-//! A row holds the interval of a quantile's symbol. The symbols are in a second list, because a decoder computes its
-//! next state from the interval alone. If probabilities are `u16`, a row takes 4 bytes and a symbol takes 2 bytes. A
-//! load instruction can itself multiply an index by these sizes. At a precision of 12 bits, both lists fit the
-//! first-level cache.
+//! A row holds the start and the length of the interval that holds the quantile. The symbols are in a second list,
+//! because a decoder computes its next state from the interval alone. If probabilities are `u16`, a row takes 4 bytes
+//! and a symbol takes 2 bytes. A load instruction can itself multiply an index by these sizes. At a precision of 12
+//! bits, both lists together then take 24 KiB, so they fit the first-level cache.
 
 ghost use Rattle.std.specs.Prelude.{◌≡◌, ◌+◌, ◌^◌, ◌<◌, ◌≤◌, IfOk, IsErrOf};
 ghost use Rattle.constriction_base.specs.Tables.{Has, Covers};
@@ -27,10 +27,10 @@ use thiserror::Error;
 /// ```
 #[derive(Debug, Clone, Copy, PartialEq, Eq, Hash, Error)]
 pub enum LookupError {
-    /// The model has a symbol above 65535, which a row can't hold.
+    /// The model has a symbol above 65535, which doesn't fit the 16 bits that the lookup table has for a symbol.
     #[error("a symbol above 65535")]
     Symbol,
-    /// There is no memory for the rows.
+    /// There is no memory for the lookup table.
     #[error("out of memory")]
     Memory,
 }
@@ -150,14 +150,14 @@ impl<
 where
     M::Probability: WordOf<u32>,
 {
-    /// Creates the lookup table of a model. The caller proves that the precision is at most 16 bits.
+    /// Creates a lookup model with the same table as `model`. The caller proves that `PRECISION` is at most 16 bits.
     ///
     /// See the type's documentation for an example.
     ///
     /// # Errors
     ///
     /// - `Symbol`: the model has a symbol above 65535.
-    /// - `Memory`: there is no memory for the rows.
+    /// - `Memory`: there is no memory for the lookup table.
     pub fn new(alloc: Global, model: M) -> Result<Self, LookupError>
         requires { PRECISION ≤ 16 }
         ensures ok { IfOk result

@@ -134,8 +134,8 @@ impl<'a, D: CumulativeDistribution> Mixture<'a, D> {
     /// Estimates the place at which the mixture reaches `below`, as if its components didn't overlap.
     ///
     /// `below` is in units of `2^-32`, and `places[k]` is the guess of component `k` for `below`. The call multiplies
-    /// `below`, limited to `2^32 - 1`, by the sum of the weights. It finds the component whose share holds the product
-    /// (see `share_of`), and returns this component's guess for the part of the share that lies below the product.
+    /// `below`, limited to `2^32 - 1`, by the sum of the weights. Then it finds the component whose share holds the
+    /// product (see `share_of`). The result is this component's guess for the part of the share below the product.
     fn place_by_shares(&self, places: &[i64; FEW], below: u64) -> i64 {
         let sum = below.min(4294967295) * self.total;
         let (k, inside) = self.share_of(places, sum);
@@ -198,9 +198,9 @@ impl<'a, D: CumulativeDistribution> CumulativeDistribution for Mixture<'a, D> {
     ///
     /// The call follows one of two rules, in which one symbol is a distance of 65536.
     ///
-    /// - If the least and the greatest guess lie more than 64 symbols apart, and there are at most 8 components, the
-    ///   call assumes that the components don't overlap. The result is a guess of the component in which `below` falls.
-    ///   The call limits the result to the range from the least to the greatest guess.
+    /// - The first rule applies if the least and the greatest guess lie more than 64 symbols apart, and there are at
+    ///   most 8 components. The call then assumes that the components don't overlap. The result is a guess of the
+    ///   component in which `below` falls, limited to the range from the least to the greatest guess.
     /// - Otherwise the result is the weighted mean of the guesses. In this mean, a guess more than 32768 symbols from
     ///   the first component's guess counts as a guess 32768 symbols from it.
     #[inline(always)]

@@ -1,4 +1,4 @@
-//! `LeakyQuantizer`: distributions cut halfway between symbols.
+//! `LeakyQuantizer`: turns a distribution into a model of integers, by cutting it halfway between the integers.
 
 mod indexed;
 
@@ -74,7 +74,9 @@ impl<Probability: WordOf<u32>, const PRECISION: usize> LeakyQuantizer<Probabilit
         })
     }
 
-    /// Cuts `distribution` halfway between the symbols of the range, and returns the model.
+    /// Cuts `distribution` halfway between the symbols of the quantizer's range, and returns the model.
+    ///
+    /// [`LeakilyQuantizedDistribution`] states the weights. See the documentation of [`LeakyQuantizer`] for an example.
     pub fn quantize<D: CumulativeDistribution>(
         &self,
         distribution: D,
@@ -303,8 +305,8 @@ fn between(low: u64, high: u64, wanted: u64) -> u64
 /// - If the search has `turned`, it has probed on both sides of the quantile. The result is `2^64 - 1`. The next probe
 ///   then lies outside the remaining range, so `between` halves that range.
 /// - Otherwise, if this is the `first` move, the result is 1.
-/// - Otherwise the last move passed `last` symbols, which have the total weight `mass`, and the quantile lies `far`
-///   beyond the start of the last probe. The result is `far * last / mass + 1`, but at most `8 * last`.
+/// - Otherwise the last move passed `last` symbols with the total weight `mass`. The quantile lies `far` beyond the
+///   start of the last probe. The result is `far * last / mass + 1`, but at most `8 * last`.
 #[inline(always)]
 fn stride(turned: bool, first: bool, far: u64, mass: u64, last: u64) -> u64 {
     if turned {

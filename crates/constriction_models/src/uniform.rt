@@ -16,7 +16,7 @@ use std::marker::PhantomData;
 
 /// A model of `count` symbols `0`, `1`, .. with equal weights: each weight is `2 ^ PRECISION / count`, rounded down.
 ///
-/// The weight of the last symbol also includes the remainder.
+/// The weight of the last symbol also includes the remainder of the division.
 ///
 /// # Examples
 ///

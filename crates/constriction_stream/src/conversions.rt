@@ -1,7 +1,7 @@
 //! Conversions from encoders to decoders.
 //!
-//! The decoders of `IntoDecoder` and `AsDecoder` and the type `Code::State` are `Drop`, so that generic code can drop
-//! them.
+//! [`IntoDecoder`] turns an encoder into a decoder. [`AsDecoder`] lends the data of an encoder to a decoder. The
+//! decoder types of both traits and the type `Code::State` are `Drop`, so that generic code can drop their values.
 
 ghost use Rattle.std.specs.Prelude.{IfOk, IfErr};
 
@@ -32,7 +32,8 @@ pub trait IntoDecoder<const PRECISION: usize>: Encode<PRECISION> {
     ///
     /// # Errors
     ///
-    /// Returns an error that `fails` allows.
+    /// Returns the coder's error if the encoder can't turn into a decoder, for example because its backend refuses a
+    /// word. The implementor states in `fails` which errors are possible.
     fn into_decoder(self) -> Result<Self::IntoDecoder, Self::Error>
         ensures ok { IfOk result (λ decoder. becomes self decoder) }
         ensures err { IfErr result (λ e. fails self e) };

@@ -18,9 +18,9 @@ use constriction_words::WordOf;
 ///
 /// An implementor chooses the ghost members and proves two facts:
 ///
-/// - `decode_symbol` makes the step of an entry of the model's table, as `decodes` allows, and returns the entry's
-///   symbol. Otherwise it returns an error that `decodes` or `halts` allows.
-/// - If `maybe_exhausted` returns `false`, then `has_data` holds, and the next decode doesn't fail for lack of data.
+/// - `decode_symbol` finds an entry of the model's table, makes the entry's step as `decodes` allows, and returns the
+///   entry's symbol. Otherwise it returns an error that `decodes` or `halts` allows.
+/// - If `maybe_exhausted` returns `false`, the next decode doesn't fail for lack of data, and `has_data` holds.
 ///
 /// Generic code can rely only on these facts. If a caller needs stronger guarantees, it must name the coder's type.
 pub trait Decode<const PRECISION: usize>: Code {
@@ -32,7 +32,8 @@ pub trait Decode<const PRECISION: usize>: Code {
 
     /// Relates the coder before a step, the step, the step's result, and the coder after the step.
     ///
-    /// With this relation, an implementor states what its coder does.
+    /// A step consists of the precision, and the start and the length of a symbol's interval. With this relation, an
+    /// implementor states what its coder does.
     ghost decodes: { Self → Step → Result (Unit {0}) (CoderError Self.FrontendError Self.BackendError)
         → Self → Type 0 };
 
@@ -52,12 +53,16 @@ pub trait Decode<const PRECISION: usize>: Code {
     /// Decodes a symbol under a model.
     ///
     /// The coder finds an entry of the model's table, makes the entry's step as `decodes` allows, and returns the
-    /// entry's symbol.
+    /// entry's symbol. A step consists of the precision, and the start and the length of the entry's interval.
     ///
     /// # Errors
     ///
-    /// - `Frontend(error)` or `Backend(error)`, as `halts` allows: the coder refuses before it uses the model.
-    /// - `Frontend(error)` or `Backend(error)`, as `decodes` allows: the coder refuses the step of the decoded symbol.
+    /// The call returns `Frontend(error)` or `Backend(error)` in two cases:
+    ///
+    /// - The coder or its backend refuses the call before the coder uses the model. The implementor states in `halts`
+    ///   which errors are possible.
+    /// - The coder or its backend refuses the step of an entry. The implementor states in `decodes` which errors are
+    ///   possible.
     ///
     /// # Examples
     ///
@@ -104,7 +109,8 @@ pub trait Decode<const PRECISION: usize>: Code {
     /// Returns an iterator that decodes one symbol for each model, where each item is a model or an error.
     ///
     /// For an item `Err(error)`, the iterator returns `InvalidEntropyModel(error)` and leaves the decoder unchanged.
-    /// For a model, it decodes a symbol as the iterator of [`decode_symbols`](Decode::decode_symbols) does.
+    /// For a model, it decodes a symbol as the iterator of [`decode_symbols`](Decode::decode_symbols) does. It returns
+    /// an error of the decoder as `CodingError(error)`.
     final fn try_decode_symbols<I>(
         &mut self,
         models: I,
@@ -156,7 +162,7 @@ pub trait Decode<const PRECISION: usize>: Code {
 
     /// Returns whether the data may have ended.
     ///
-    /// If the call returns `false`, then `has_data` holds, and the next decode doesn't fail for lack of data.
+    /// If the call returns `false`, the next decode doesn't fail for lack of data, and the coder's `has_data` holds.
     fn maybe_exhausted(&self) -> bool
         ensures data { OnFalse result (has_data self.now) }
         ensures goes_on { OnFalse result (GoesOn decodes halts is_end_of_data self.now) }

@@ -58,7 +58,8 @@ pub trait Encode<const PRECISION: usize>: Code {
 
     /// Relates the coder before a step, the step, the step's result, and the coder after the step.
     ///
-    /// With this relation, an implementor states what its coder does.
+    /// A step consists of the precision, and the start and the length of the symbol's interval. With this relation, an
+    /// implementor states what its coder does.
     ghost encodes: { Self → Step → Result (Unit {0}) (CoderError Self.FrontendError Self.BackendError)
         → Self → Type 0 };
 
@@ -74,7 +75,7 @@ pub trait Encode<const PRECISION: usize>: Code {
     /// prove anything about `symbols_left`.
     ghost counts_symbols: { Type 0 };
 
-    /// The number of symbols that a caller may still encode, where `counts_symbols` holds.
+    /// The number of symbols that a caller may still encode, if the coder limits this number (`counts_symbols`).
     ///
     /// An implementor chooses the number freely, but `encode_symbol` lowers it by at most 1.
     ghost symbols_left: { Self → ℕ };
@@ -87,7 +88,7 @@ pub trait Encode<const PRECISION: usize>: Code {
 
     /// Holds if `maybe_full` can determine whether there is room.
     ///
-    /// An implementor chooses freely when `tells_room` holds. Where `tells_room` doesn't hold, `maybe_full` guarantees
+    /// An implementor chooses freely when `tells_room` holds. If `tells_room` doesn't hold, `maybe_full` guarantees
     /// nothing.
     ghost tells_room: { Self → Type 0 };
 
@@ -99,12 +100,13 @@ pub trait Encode<const PRECISION: usize>: Code {
 
     /// Encodes a symbol under a model.
     ///
-    /// Where `counts_symbols` holds, the caller proves that `symbols_left` is at least 1.
+    /// If the coder limits the number of symbols (`counts_symbols`), the caller proves that `symbols_left` is above 0.
     ///
     /// # Errors
     ///
     /// - `Frontend(error)`: the symbol is impossible under the model. The coder is unchanged.
-    /// - `Frontend(error)` or `Backend(error)`: the coder refuses the step, as `encodes` allows.
+    /// - `Frontend(error)` or `Backend(error)`: the symbol is possible, but the coder or its backend refuses it. The
+    ///   implementor states in `encodes` which errors are possible and how they change the coder.
     ///
     /// # Examples
     ///
@@ -126,12 +128,13 @@ pub trait Encode<const PRECISION: usize>: Code {
 
     /// Encodes symbols in order, each under its own model, and stops at the first error.
     ///
-    /// Where `counts_symbols` holds, the caller proves that `symbols_left` is at least the number of items.
+    /// If the coder limits the number of symbols (`counts_symbols`), the caller proves that `symbols_left` is at least
+    /// the number of items.
     ///
     /// # Errors
     ///
-    /// Returns the error of the first symbol that the coder refuses. Exactly the symbols before this symbol are
-    /// encoded. The call takes no further item from the iterator.
+    /// Returns the error of the first symbol that the coder refuses. The coder has encoded the symbols before this
+    /// symbol, and no other symbols. The call takes no further item from the iterator.
     ///
     /// # Examples
     ///
@@ -166,12 +169,13 @@ pub trait Encode<const PRECISION: usize>: Code {
 
     /// Encodes symbols in order, where each item is a symbol with its own model, or an error.
     ///
-    /// Where `counts_symbols` holds, the caller proves that `symbols_left` is at least the number of items.
+    /// If the coder limits the number of symbols (`counts_symbols`), the caller proves that `symbols_left` is at least
+    /// the number of items.
     ///
     /// # Errors
     ///
-    /// The call stops at the first item that fails. Exactly the symbols of the items before this item are encoded. The
-    /// call takes no further item from the iterator.
+    /// The call stops at the first item that fails. The coder has encoded the symbols of the items before this item,
+    /// and no other symbols. The call takes no further item from the iterator.
     ///
     /// - `InvalidEntropyModel(error)`: the item is `Err(error)`.
     /// - `CodingError(error)`: the coder refuses the item's symbol.
@@ -207,12 +211,13 @@ pub trait Encode<const PRECISION: usize>: Code {
 
     /// Encodes symbols in order, all under one model, and stops at the first error.
     ///
-    /// Where `counts_symbols` holds, the caller proves that `symbols_left` is at least the number of symbols.
+    /// If the coder limits the number of symbols (`counts_symbols`), the caller proves that `symbols_left` is at least
+    /// the number of symbols.
     ///
     /// # Errors
     ///
-    /// Returns the error of the first symbol that the coder refuses. Exactly the symbols before this symbol are
-    /// encoded. The call takes no further symbol from the iterator.
+    /// Returns the error of the first symbol that the coder refuses. The coder has encoded the symbols before this
+    /// symbol, and no other symbols. The call takes no further symbol from the iterator.
     ///
     /// # Examples
     ///
@@ -250,7 +255,8 @@ pub trait Encode<const PRECISION: usize>: Code {
 
     /// Returns whether the coder may refuse the next symbol for lack of room.
     ///
-    /// If the call returns `false` and `tells_room` holds, the coder doesn't refuse the next symbol for lack of room.
+    /// Suppose that the coder can determine whether there is room (`tells_room`). If the call then returns `false`, the
+    /// coder doesn't refuse the next symbol for lack of room.
     fn maybe_full(&self) -> bool
         ensures room { OnFalse result (tells_room self.now → HasRoom encodes is_lack_of_room self.now) }
     {

@@ -6,7 +6,7 @@ ghost use Rattle.constriction_stream.specs.declared.errors.TryCodingError.TheVar
 use std::fmt::Display;
 use thiserror::Error;
 
-/// The error of a call that takes items as `Result`s: either an item is an error, or the coder refuses a step.
+/// The error of a call that takes items as `Result`s: either an item is an error, or the coder returns an error.
 ///
 /// The `?` operator turns a coder's error into a `CodingError`.
 ///
@@ -25,7 +25,7 @@ pub enum TryCodingError<C, E> {
     /// An item is an error instead of a model, or instead of a symbol with its model.
     #[error("Error while constructing entropy model or data: {0}")]
     InvalidEntropyModel(E),
-    /// The coder refuses a step.
+    /// The coder or its backend refuses to encode or decode a symbol.
     #[error("Error while entropy coding: {0}")]
     CodingError(C),
 }

@@ -3,6 +3,7 @@
 //! The iterators are lazy: they decode a symbol only when the caller calls `next`. They return one result for each
 //! model. An error doesn't end an iterator. After the caller drops an iterator, the decoder is positioned after the
 //! symbols returned so far.
+//!
 //! The fields are public, because contracts name the decoder and the models that are left. The methods of `Decode` that
 //! return the iterators are `final`: if they were plain default methods, no impl of `Decode` could be proved.
 //!

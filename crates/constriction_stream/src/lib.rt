@@ -1,7 +1,7 @@
 //! The coder traits: generic code uses them to encode and decode symbols with any coder.
 //!
-//! An encoder encodes symbols, each under a model that states its probability. A decoder with the same models returns
-//! the symbols. In each step, a coder gets only the start and the length of an interval of the numbers below
+//! An encoder encodes symbols, each under a model that gives the symbol a probability. A decoder with the same models
+//! returns the symbols. In each step, a coder gets only the start and the length of an interval of the numbers below
 //! `2 ^ PRECISION`. Each coder states in `Encode::encodes` or `Decode::decodes` what it does with the interval. The
 //! traits state what all coders have in common:
 //!

@@ -22,8 +22,8 @@ mod of_usize;
 /// every word. Generic code may rely on this law, and its callers don't have to prove it.
 ///
 /// Some methods have a condition, for example that a sum fits the type. The caller proves the condition. The compiler
-/// inlines each method as one or a few machine instructions. The exceptions are quotients and remainders of `u128`, for
-/// which the machine has no instruction.
+/// inlines each method as one or a few machine instructions. The exceptions are quotients and remainders of `u128`,
+/// because most machines have no instruction for them.
 ///
 /// An implementor proves the contract of each method and three laws:
 ///
@@ -130,7 +130,7 @@ pub trait BitArray: Copy + Drop {
         requires { count < BITS }
         ensures { number result ≡ number self % 2 ^ count };
 
-    /// Returns the number of bits of `self` without leading zeros: 0 for 0, `BITS` for the greatest number.
+    /// Returns the number of bits of `self`, not counting leading zero bits: 0 for 0, `BITS` for the greatest number.
     fn bit_length(self) -> u32
         ensures below { number self < 2 ^ result }
         ensures least { 2 ^ result ≤ 2 * number self + 1 }

@@ -14,8 +14,8 @@
 //! - `BITS` is between 8 and 128.
 //! - A word type that is `WordOf<T>` has at most `T::BITS` bits.
 //!
-//! For example, this function computes the mean of two words, rounded down. It never adds the two words, because their
-//! sum may not fit the type. Therefore its contract has no condition:
+//! For example, this function computes the mean of two words, rounded down. It adds the halves of the words, because
+//! the sum of the words may not fit the type. Therefore callers of the function have nothing to prove:
 //!
 //! ```
 //! fn mean<Word: BitArray>(first: Word, second: Word) -> Word

@@ -1,9 +1,12 @@
 //! `Reciprocal`: exact division by a fixed number, with a multiplication instead of a division instruction.
 //!
-//! Let `2^k` be the greatest power of two that is at most the divisor `p`. Let `q` and `r` be the quotient and the
-//! remainder of `2^(64+k) - 1` divided by `p`. The shift is `k`. If `r < 2^k`, multiplier and addend are both `q`.
-//! Otherwise the multiplier is `q + 1` and the addend is 0. Multiplier and addend fit 64 bits. If `p` is a power of
-//! two, then `r < 2^k`.
+//! A reciprocal of a divisor `p` is a multiplier, an addend and a shift. For each `n` below `2^64`, the quotient
+//! `n / p`, rounded down, is `(n * multiplier + addend) >> (64 + shift)`.
+//!
+//! Let `2^k` be the greatest power of two that is at most `p`. Let `q` and `r` be the quotient and the remainder of
+//! `2^(64+k) - 1` divided by `p`. The shift is `k`. If `r < 2^k`, multiplier and addend are both `q`. Otherwise the
+//! multiplier is `q + 1` and the addend is 0. Multiplier and addend fit 64 bits: `q + 1` is `2^64` only if `p` is a
+//! power of two, and then `r < 2^k`.
 //!
 //! Reciprocals of 64 bits work for every coder state of at most 64 bits. A multiplication of two 64-bit numbers is one
 //! machine instruction, so reciprocals of 32 bits would save no time.
@@ -25,7 +28,7 @@ ghost use Rattle.std.specs.Prelude.{◌≡◌, ◌+◌, ◌*◌, ◌/◌, ◌<�
 #[derive(Clone, Copy)]
 pub struct Reciprocal {
     multiplier: u64,
-    /// The same number as `multiplier` if `multiplier` is rounded down, or 0 if it is rounded up.
+    /// Equals `multiplier` if the multiplier is `q` of the module's description, or 0 if the multiplier is `q + 1`.
     addend: u64,
     shift: u32,
     ghost shift_fits: { shift < 64 },
@@ -68,7 +71,7 @@ impl Reciprocal {
         }
     }
 
-    /// Returns `number` divided by the divisor of this reciprocal, rounded down.
+    /// Returns `number` divided by the reciprocal's divisor, rounded down.
     #[inline]
     pub fn quotient(self, number: u64) -> u64
         ensures { (divisor : ℕ) → IsReciprocalOf self divisor → result ≡ number / divisor }

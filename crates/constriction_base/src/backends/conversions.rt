@@ -1,9 +1,9 @@
 //! Traits of values that turn into a backend for reading, or lend one.
 //!
-//! The new backend holds the same words. This law alone doesn't keep recorded positions valid. For example, the new
-//! buffer could begin with an extra word, and the cursor could start after that word. The words left to read would be
-//! equal, but recorded positions would lead to other words. Therefore `becomes` of vectors and slices also states the
-//! buffer and the position of the new backend.
+//! Each trait has the law that the new backend holds the same words as the value. This law alone doesn't keep recorded
+//! positions valid. For example, the buffer of a new cursor could begin with an extra word, and the cursor could start
+//! after that word. The words left to read would be equal, but recorded positions would lead to other words. Therefore
+//! vectors and slices also state the buffer and the position of the new cursor, in the ghost member `becomes`.
 
 ghost use Rattle.std.specs.Prelude.{◌≡◌};
 
@@ -17,6 +17,7 @@ use crate::backends::semantics::{Semantics, Stack};
 /// holds the same words. For vectors and slices, `becomes` states the buffer and the position of the cursor that they
 /// turn into.
 pub trait IntoReadWords<Word, S: Semantics>: Holds<Word, S> {
+    /// The backend that the value turns into.
     type IntoReadWords: ReadWords<Word, S> + Drop;
 
     /// Relates the value to the backend that it turns into.
@@ -33,6 +34,7 @@ pub trait IntoReadWords<Word, S: Semantics>: Holds<Word, S> {
 /// An implementor chooses the relation `becomes` between the value and the lent backend. It proves that the lent
 /// backend holds the same words, as for [`IntoReadWords`].
 pub trait AsReadWords<'a, Word, S: Semantics>: Holds<Word, S> {
+    /// The backend that the value lends.
     type AsReadWords: ReadWords<Word, S> + Drop;
 
     /// Relates the value to the backend that it lends.
@@ -49,6 +51,7 @@ pub trait AsReadWords<'a, Word, S: Semantics>: Holds<Word, S> {
 /// An implementor chooses the relation `becomes` between the value and the new backend. It proves that the new backend
 /// holds the same words, as for [`IntoReadWords`].
 pub trait IntoSeekReadWords<Word, S: Semantics>: Holds<Word, S> {
+    /// The backend that the value turns into.
     type IntoSeekReadWords: ReadWords<Word, S> + Seek + Drop;
 
     /// Relates the value to the backend that it turns into.
@@ -65,6 +68,7 @@ pub trait IntoSeekReadWords<Word, S: Semantics>: Holds<Word, S> {
 /// An implementor chooses the relation `becomes` between the value and the lent backend. It proves that the lent
 /// backend holds the same words, as for [`IntoReadWords`].
 pub trait AsSeekReadWords<'a, Word, S: Semantics>: Holds<Word, S> {
+    /// The backend that the value lends.
     type AsSeekReadWords: ReadWords<Word, S> + Seek + Drop;
 
     /// Relates the value to the backend that it lends.
@@ -81,6 +85,7 @@ pub trait AsSeekReadWords<'a, Word, S: Semantics>: Holds<Word, S> {
 /// An implementor chooses the relation `turns` between the value and the new value. It proves that the new value holds
 /// the same stack. For cursors, `turns` states the buffer and the position of the new cursor.
 pub trait IntoReversed<Word>: Holds<Word, Stack> {
+    /// The value over the reversed buffer.
     type IntoReversed: Holds<Word, Stack> + Drop;
 
     /// Relates the value to the new value over the reversed buffer.

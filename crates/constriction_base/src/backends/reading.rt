@@ -10,9 +10,9 @@ use crate::backends::semantics::Semantics;
 /// A type that implements the trait for both orders has one list of words for each order.
 ///
 /// An implementor freely chooses `words`, the list of words, and `is_list`, which states whether reads follow this
-/// list. Where `is_list` holds, the contracts of reading and writing state how each call changes the list.
+/// list. If reads follow the list, the contracts of reading and writing state how each call changes the list.
 pub trait Holds<Word, S: Semantics> {
-    /// The words that the next reads return, in order. Where `is_list` doesn't hold, the list has no meaning.
+    /// The words that the next reads return, in order. If `is_list` doesn't hold, the list has no meaning.
     ghost words: { Self → List Word };
 
     /// Holds if `words` is the list of words that the next reads return.
@@ -28,9 +28,9 @@ pub trait Holds<Word, S: Semantics> {
 ///
 /// - The calls obey these choices.
 /// - `maybe_exhausted` returns `true` if the next read may return `Ok(None)`.
-/// - Where `is_list` holds, a read that succeeds takes the first word off the list, or returns `Ok(None)` if the list
-///   is empty.
-/// - Where `is_list` holds, `maybe_exhausted` returns `true` if the list is empty.
+/// - If reads follow the list of words (`is_list`), a read that succeeds takes the first word off the list. If the list
+///   is empty, the read returns `Ok(None)`. A read that fails leaves the list unchanged.
+/// - If reads follow the list of words, `maybe_exhausted` returns `true` if the list is empty.
 ///
 /// # Examples
 ///
@@ -53,12 +53,12 @@ pub trait ReadWords<Word, S: Semantics>: Holds<Word, S> {
 
     /// Reads the next word, or returns `Ok(None)` if no word is left.
     ///
-    /// Where `is_list` holds, a read that returns `Ok(None)` leaves the list of words unchanged.
+    /// If reads follow the list of words (`is_list`), a read that returns a word takes the first word off the list.
     ///
     /// # Errors
     ///
-    /// Returns an error that `reads` allows. Where `is_list` holds, a read that fails leaves the list of words
-    /// unchanged.
+    /// Returns the backend's error if the read fails. The implementor states in `reads` which errors are possible. If
+    /// reads follow the list of words, a read that fails leaves the list unchanged.
     fn read(&mut self) -> Result<Option<Word>, Self::ReadError>
         ensures reads { reads self.old result self.new }
         ensures words { Self.is_list → Reads (Self.words self.old) result (Self.words self.new) };
@@ -75,7 +75,8 @@ pub trait ReadWords<Word, S: Semantics>: Holds<Word, S> {
 
 /// A backend that can count the words left to read.
 ///
-/// An implementor proves that `is_list` holds and that `remaining` returns the length of the list.
+/// An implementor proves that reads follow the list of words (`is_list`), and that `remaining` returns the length of
+/// this list.
 pub trait BoundedReadWords<Word, S: Semantics>: ReadWords<Word, S> {
     /// Returns the number of words left to read in the order `S`.
     fn remaining(&self) -> usize

@@ -1,9 +1,14 @@
-//! Positions in a backend or in a coder.
+//! Positions in a backend or in a coder: recording a position, and seeking to it.
+//!
+//! Contracts describe seeks by three ghost members of [`Seek`]:
+//!
+//! - `can_seek` holds for each position to which a seek may succeed.
+//! - `seek_fails` holds for each position to which a seek may be refused.
+//! - `stays` states how a refused seek may change the value.
 //!
 //! For vectors and cursors, `can_seek` and `seek_fails` exclude each other: a seek succeeds if and only if `can_seek`
 //! holds, and a refused seek changes nothing. Some coders read words after a seek of their backend, or have two
-//! backends. For these coders, `can_seek` and `seek_fails` may both hold for a position. `stays` states how a refused
-//! seek may change the value.
+//! backends. For these coders, `can_seek` and `seek_fails` may both hold for a position.
 
 ghost use Rattle.std.specs.Prelude.{◌≡◌, ℕ, length, IsOk, OnOk, OnErr};
 
@@ -12,6 +17,7 @@ use crate::backends::semantics::Stack;
 
 /// A backend or a coder that has positions.
 pub trait PosSeek {
+    /// The type of positions. For vectors and cursors, a position is the number of words before it.
     type Position: Drop;
 }
 
@@ -29,7 +35,9 @@ pub trait Pos: PosSeek {
     /// For vectors and cursors, `can_tell` always holds.
     ghost can_tell: { Self → Type 0 };
 
-    /// Returns the current position. The caller proves that `can_tell` holds.
+    /// Returns the current position.
+    ///
+    /// The caller proves that `pos` can return the position (`can_tell`). For vectors and cursors, this always holds.
     fn pos(&self) -> Self::Position
         requires { can_tell self.now }
         ensures { stands_at self.now result };
@@ -74,8 +82,9 @@ pub trait Seek: PosSeek {
     ///
     /// # Errors
     ///
-    /// Returns `Err(())` only where `seek_fails` holds, for example because a vector has fewer words than `position`. A
-    /// vector or a cursor is then unchanged.
+    /// Returns `Err(())` if the value refuses the seek, for example because a vector has fewer words than `position`.
+    /// The implementor states in `seek_fails` which seeks may be refused. A refused seek leaves a vector or a cursor
+    /// unchanged.
     fn seek(&mut self, position: Self::Position) -> Result<(), ()>
         ensures variant { IsOk result → can_seek self.old position }
         ensures err { OnErr result (seek_fails self.old position) }

@@ -1,9 +1,12 @@
 //! Writing words to a backend.
 //!
-//! A refused `prepare` doesn't reduce the room, so a caller that took words off the backend can write them back.
-//! `writes` has no default, because a default that holds for every backend would be vacuous. For vectors, `writes`
-//! states the items, and that the capacity doesn't shrink. For cursors, it states the buffer and the position.
-//! `maybe_full` returns the ghost member `seems_full`, so the prover refuses a body that returns anything else.
+//! The room of a backend is the number of writes that are sure to succeed. A refused `prepare` doesn't reduce the room,
+//! so a caller that took words off the backend can write them back.
+//!
+//! The ghost member `writes` states how a write changes the backend. It has no default, because a default that holds
+//! for every backend would be vacuous. For vectors, `writes` states the items, and that the capacity doesn't shrink.
+//! For cursors, it states the buffer and the position. By its contract, `maybe_full` returns the ghost member
+//! `seems_full`, so the prover refuses a body that returns anything else.
 
 ghost use Rattle.std.specs.Prelude.{◌≡◌, ◌+◌, ℕ, Bool, false, ◌∷◌, ◌<◌, ◌≤◌, Result, OnOk, OnErr, IfErr};
 
@@ -20,7 +23,7 @@ use crate::backends::semantics::Stack;
 /// - `writes`: how a write changes the backend.
 /// - `write_fails` and `prepare_fails`: which errors the calls may return.
 /// - `room`: how many writes are sure to succeed, possibly none.
-/// - `makes_room`: whether a successful `prepare` makes room.
+/// - `makes_room`: whether a successful `prepare` makes room for the number of words that the caller asked for.
 /// - `is_lack_of_room`: which errors mean lack of room.
 /// - `seems_full`: what `maybe_full` returns.
 ///
@@ -56,7 +59,7 @@ pub trait WriteWords<Word>: Holds<Word, Stack> {
     /// The number of writes that are sure to succeed.
     ghost room: { Self → ℕ };
 
-    /// Holds if a successful `prepare` makes room for the words that it was asked for.
+    /// Holds if a successful `prepare` makes room for the number of words that the caller asked for.
     ghost makes_room: { Type 0 };
 
     /// Holds for each error that means that the backend is full. Lack of memory is a different error.
@@ -69,7 +72,8 @@ pub trait WriteWords<Word>: Holds<Word, Stack> {
     ///
     /// # Errors
     ///
-    /// Returns an error that `write_fails` allows for the backend before the call. The words then stay unchanged.
+    /// Returns the backend's error if the write fails, for example because a cursor is at the end of its buffer. The
+    /// implementor states in `write_fails` which errors are possible. A write that fails leaves the words unchanged.
     fn write(&mut self, word: Word) -> Result<(), Self::WriteError>
         ensures writes { writes self.old word result self.new }
         ensures ok { OnOk result (Self.words self.new ≡ word ∷ Self.words self.old) }
@@ -87,14 +91,14 @@ pub trait WriteWords<Word>: Holds<Word, Stack> {
 
     /// Asks for room for `count` more words. No word changes.
     ///
-    /// Where `makes_room` holds, as for vectors, `Ok` guarantees that the next `count` writes succeed. For a cursor,
-    /// `Ok` guarantees nothing. Every error that the next write may return after the call was also possible before the
-    /// call.
+    /// If a successful call makes room (`makes_room`), as for vectors, `Ok` guarantees that the next `count` writes
+    /// succeed. For a cursor, `Ok` doesn't guarantee room. Every error that the next write may return after the call
+    /// was also possible before the call.
     ///
     /// # Errors
     ///
-    /// Returns an error that `prepare_fails` allows for `count` and the backend before the call. The room doesn't
-    /// shrink.
+    /// Returns the backend's error if the backend refuses the request, for example because a vector lacks memory. The
+    /// implementor states in `prepare_fails` which errors are possible. A refused request doesn't reduce the room.
     fn prepare(&mut self, count: usize) -> Result<(), Self::WriteError>
         ensures words { Self.words self.new ≡ Self.words self.old }
         ensures room { OnOk result (room self.old ≤ room self.new) }

@@ -1,4 +1,4 @@
-//! Cursors over reversed buffers.
+//! `into_reversed`: reverses a cursor's buffer in place. The result holds the same words in the same reading orders.
 
 ghost use Rattle.std.specs.Prelude.{◌≡◌, ◌+◌, ◌-◌, length, reverse, take, drop};
 

@@ -66,7 +66,7 @@ impl<Word: BitArray, Buf: WordsMut<Word> + Drop> WriteWords<Word> for Cursor<Wor
         ensures variant { IsOk result }
         ensures unchanged { self.new ≡ self.old }
     {
-        // A cursor can't make room: its room is the rest of its buffer.
+        // A cursor's room is what its buffer has.
         Ok(())
     }
 

@@ -1,8 +1,12 @@
-//! Hints: where the search for a quantile's symbol begins and ends, by the quantile's high bits.
+//! Hints: the symbols at which a decoder's search for a quantile's symbol begins and ends.
 //!
-//! All quantiles with the same high bits form a bucket. The number of buckets is a power of two, and never above
-//! `2 ^ PRECISION` or 2^63. Let `n` be the number of symbols up to the last symbol with a weight above 0. There are at
-//! most `4 * n` buckets, and more than `2 * n` unless the number of buckets is `2 ^ PRECISION` or 2^63.
+//! All quantiles with the same high bits form a bucket. A bucket's hint is the symbol of its first quantile. The search
+//! begins at the hint of the quantile's bucket. It ends at the hint of the next bucket, or at the last symbol if there
+//! is no next bucket.
+//!
+//! The number of buckets is a power of two, and never above `2 ^ PRECISION` or 2^63. Let `n` be the number of symbols
+//! up to the last symbol with a weight above 0. There are at most `4 * n` buckets, and more than `2 * n` unless the
+//! number of buckets is `2 ^ PRECISION` or 2^63.
 
 ghost use Rattle.std.specs.Prelude.{◌≡◌, ◌+◌, ◌-◌, ◌*◌, ◌^◌, ◌<◌, ◌≤◌, ◌⊎◌, length, map, slice_index, IfOk};
 ghost use Rattle.constriction_base.specs.Tables.{IsRising};
@@ -13,8 +17,9 @@ use std::alloc::{AllocError, Global};
 
 /// Returns the number of low bits in which the quantiles of a bucket differ, in a table of `symbols` symbols.
 ///
-/// `precision` is the table's precision in bits. The table has at most `4 * symbols` buckets. The table has more than
-/// `2 * symbols` buckets unless each bucket is a single quantile, or there are 2^63 buckets.
+/// All quantiles with the same higher bits form a bucket. `precision` is the table's precision in bits. The table has
+/// at most `4 * symbols` buckets. It has more than `2 * symbols` buckets unless each bucket is a single quantile, or
+/// there are 2^63 buckets.
 pub fn shift_for(symbols: usize, precision: usize) -> u32
     requires some { 0 < symbols }
     requires within { (1 ≤ precision) × (precision ≤ 128) }

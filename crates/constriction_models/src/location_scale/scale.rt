@@ -11,7 +11,8 @@ use std::marker::PhantomData;
 /// A scale of a family of distributions, stored with its reciprocal.
 ///
 /// The scale is a multiple of `2^-16`. `Scale::new` divides, and `Scale::at` doesn't. A program whose scales repeat or
-/// come from a table can keep values of this type. It then creates the distribution of each symbol without a division.
+/// come from a table can keep values of this type. The program then creates the distribution of each symbol without a
+/// division.
 ///
 /// # Examples
 ///

@@ -39,7 +39,8 @@ impl<Probability: WordOf<u32>, const PRECISION: usize> LeakyQuantizer<Probabilit
 
     /// Cuts `distribution` halfway between the symbols of the range, and returns a model with symbols counted from 0.
     ///
-    /// Symbol `k` of the model stands for the symbol `first + k`, where `first` is the first symbol of the range.
+    /// Symbol `k` of the model stands for the symbol `first + k`, where `first` is the first symbol of the range. See
+    /// the documentation of [`IndexedDistribution`] for an example.
     pub fn quantize_indexed<D: CumulativeDistribution>(
         &self,
         distribution: D,

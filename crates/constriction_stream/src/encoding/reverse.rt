@@ -17,13 +17,14 @@ use constriction_words::WordOf;
 pub trait EncodeReverse<const PRECISION: usize>: Encode<PRECISION> {
     /// Encodes symbols from the last to the first, each under its own model, and stops at the first error.
     ///
-    /// A coder that is a stack then decodes the symbols in the order of the list. Where `counts_symbols` holds, the
-    /// caller proves that `symbols_left` is at least the number of items.
+    /// A coder that is a stack then decodes the symbols in the order of the list. If the coder limits the number of
+    /// symbols (`counts_symbols`), the caller proves that `symbols_left` is at least the number of items.
     ///
     /// # Errors
     ///
-    /// Returns the error of the first symbol that the coder refuses, counted from the end of the list. Exactly the
-    /// symbols after this symbol in the list are encoded. The call takes no further item from the iterator.
+    /// Returns the error of the first symbol that the coder refuses, counted from the end of the list. The coder has
+    /// encoded the symbols after this symbol in the list, and no other symbols. The call takes no further item from the
+    /// iterator.
     ///
     /// # Examples
     ///
@@ -59,12 +60,14 @@ pub trait EncodeReverse<const PRECISION: usize>: Encode<PRECISION> {
 
     /// Encodes symbols from the last to the first, where each item is a symbol with its own model, or an error.
     ///
-    /// Where `counts_symbols` holds, the caller proves that `symbols_left` is at least the number of items.
+    /// If the coder limits the number of symbols (`counts_symbols`), the caller proves that `symbols_left` is at least
+    /// the number of items.
     ///
     /// # Errors
     ///
-    /// The call stops at the first item that fails, counted from the end of the list. Exactly the symbols of the items
-    /// after this item in the list are encoded. The call takes no further item from the iterator.
+    /// The call stops at the first item that fails, counted from the end of the list. The coder has encoded the symbols
+    /// of the items after this item in the list, and no other symbols. The call takes no further item from the
+    /// iterator.
     ///
     /// - `InvalidEntropyModel(error)`: the item is `Err(error)`.
     /// - `CodingError(error)`: the coder refuses the item's symbol.
@@ -101,13 +104,14 @@ pub trait EncodeReverse<const PRECISION: usize>: Encode<PRECISION> {
 
     /// Encodes symbols from the last to the first, all under one model, and stops at the first error.
     ///
-    /// A coder that is a stack then decodes the symbols in the order of the list. Where `counts_symbols` holds, the
-    /// caller proves that `symbols_left` is at least the number of symbols.
+    /// A coder that is a stack then decodes the symbols in the order of the list. If the coder limits the number of
+    /// symbols (`counts_symbols`), the caller proves that `symbols_left` is at least the number of symbols.
     ///
     /// # Errors
     ///
-    /// Returns the error of the first symbol that the coder refuses, counted from the end of the list. Exactly the
-    /// symbols after this symbol in the list are encoded. The call takes no further symbol from the iterator.
+    /// Returns the error of the first symbol that the coder refuses, counted from the end of the list. The coder has
+    /// encoded the symbols after this symbol in the list, and no other symbols. The call takes no further symbol from
+    /// the iterator.
     ///
     /// # Examples
     ///
