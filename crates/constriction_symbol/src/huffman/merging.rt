@@ -54,9 +54,10 @@ fn sorted_leaves<P: BitArray>(
     Ok(VecDeque::from_vec(leaves))
 }
 
-/// Removes the least tree of both queues and returns it, or returns `None` if both queues are empty.
+/// Removes the least tree in the two queues and returns it, or returns `None` if both queues are empty.
 ///
-/// If a leaf and a union have the same weight, the leaf is the lesser.
+/// `leaves` holds the trees of symbols, and `unions` holds the trees that merges created. If a leaf and a union have
+/// the same weight, the leaf is the lesser.
 fn take_least<P: BitArray>(
     leaves: &mut VecDeque<Weighed<P>>,
     unions: &mut VecDeque<Weighed<P>>,
