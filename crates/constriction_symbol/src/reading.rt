@@ -21,8 +21,8 @@ use std::marker::PhantomData;
 ///
 /// An implementor defines the list of unread bits (`unread`), what a read may return (`gives`), and whether reads
 /// follow the list (`is_list`). The implementor proves that each call obeys these definitions. If reads follow the
-/// list, the implementor also proves that each read returns the first unread bit, `None` if no bit is unread, or an
-/// error.
+/// list, each read returns the first unread bit, `None` if no bit is unread, or an error. The implementor also proves
+/// this.
 pub trait ReadBitStream<S: Semantics> {
     type ReadError;
 

@@ -68,7 +68,8 @@ pub fn put_bits<Word: BitArray, B: WriteWords<Word>>(
 ///
 /// The call fills `last` and writes the full word to the backend. The remaining bits begin the next word. If the
 /// backend refuses the word, the call returns the backend's error, and `last` stays full. The caller proves that the
-/// bits don't all fit in `last`, that `count` is below `Word::BITS`, and that all higher bits of `bits` are 0.
+/// bits don't all fit in `last`, and that `count` is below `Word::BITS`. The caller also proves that all higher bits
+/// of `bits` are 0.
 #[inline]
 fn put_across<Word: BitArray, B: WriteWords<Word>>(
     backend: &mut B,

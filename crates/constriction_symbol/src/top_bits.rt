@@ -162,8 +162,8 @@ impl<Word: BitArray> TopBits<Word> {
 
     /// Appends the lowest `count` bits of `bits`, lowest first.
     ///
-    /// The caller proves that the list has room for `count` bits, that all higher bits of `bits` are 0, and that
-    /// `0 < count < Word::BITS`.
+    /// The caller proves that the list has room for `count` bits, and that `0 < count < Word::BITS`. The caller also
+    /// proves that all higher bits of `bits` are 0.
     #[inline]
     pub fn push_all(&mut self, bits: Word, count: u32)
         requires some { 0 < count }

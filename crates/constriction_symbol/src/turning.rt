@@ -38,8 +38,8 @@ pub fn first_lowest<Word: BitArray>(bits: Word, count: u32) -> Word
 
 /// Returns the lowest `to` bits of `word` in reverse order, given the result `done` for the lowest `from` bits.
 ///
-/// The caller proves that `done` is the lowest `from` bits of `word` in reverse order, and that `from` is at most
-/// `to`, and `to` at most `Word::BITS`.
+/// The caller proves that `done` is the lowest `from` bits of `word` in reverse order. The caller also proves that
+/// `from` is at most `to`, and `to` at most `Word::BITS`.
 #[inline]
 fn turned_to<Word: BitArray>(word: Word, done: Word, from: u32, to: u32) -> Word
     requires order { from ≤ to }

@@ -242,9 +242,9 @@ where
     /// # Errors
     ///
     /// Returns the error of the first symbol that fails, counted from the end of the list (see
-    /// [`WriteBitStream::encode_symbol`]). The call has then written exactly the codewords of the symbols after the
-    /// failing symbol in the list, and the failing codeword's bits before the failing write. The call takes no further
-    /// item from `symbols_and_codebooks`.
+    /// [`WriteBitStream::encode_symbol`]). The call has then written exactly the codewords of all later symbols in the
+    /// list, and the failing codeword's bits before the failing write. The call takes no further item from
+    /// `symbols_and_codebooks`.
     pub fn encode_symbols_reverse<L, C, I>(
         &mut self,
         symbols_and_codebooks: I,
