@@ -1,7 +1,8 @@
 //! The program `constriction`, which encodes and decodes lists of numbers.
 //!
-//! The program's only argument names a command. The program reads lines of numbers from standard input, and writes
-//! lines of numbers to standard output.
+//! The program's only argument names a command ([`constriction_commands::commands`]). The program reads lines of
+//! numbers from standard input, and writes the command's output to standard output. If the argument names no command
+//! or the command fails, the program writes one line to standard error.
 #![tactic(auto)]
 
 use constriction_commands::cli;

@@ -47,7 +47,7 @@ fn arguments(alloc: Global, given: io::Result<Args>) -> Result<Vec<String>, Faul
     }
 }
 
-/// Writes the usage line to `faults`. Returns exit status 2, even if the write fails.
+/// Writes the usage line to `faults`, and returns exit status 2, even if the write fails.
 fn refuse<E: Write>(faults: &mut E) -> u8
     ensures status { result ≡ 2 }
     ensures line { BeginsLine E.contents faults.old faults.new usage_line }
@@ -56,7 +56,7 @@ fn refuse<E: Write>(faults: &mut E) -> u8
     2
 }
 
-/// Writes the line of `fault` to `faults`. Returns exit status 1, even if the write fails.
+/// Writes the line of `fault` ([`Fault::line`]) to `faults`, and returns exit status 1, even if the write fails.
 fn report<E: Write>(fault: &Fault, faults: &mut E) -> u8
     ensures status { result ≡ 1 }
     ensures line { BeginsLine E.contents faults.old faults.new (fault_line fault.now) }
@@ -67,7 +67,7 @@ fn report<E: Write>(fault: &Fault, faults: &mut E) -> u8
 
 /// Reads the whole input, and then writes the command's answer to `output`.
 ///
-/// Returns a fault if the read, the command or the write fails.
+/// Returns the fault of the first step that fails: the read, the command or the write.
 fn answer_to<R: Read, O: Write>(
     alloc: Global,
     command: Command,
@@ -133,8 +133,9 @@ pub fn run<R: Read, O: Write, E: Write>(
 /// The first item of `given` is the program's name. The call passes the arguments after the name to [`run`], and
 /// returns the status that `run` returns. There are two exceptions:
 ///
-/// - If there is no memory for the arguments, the status is 1, and the line on `faults` is `out of memory`.
-/// - If an argument isn't UTF-8, the status is 2, and the line on `faults` is the usage line.
+/// - If there is no memory for the arguments, the status is 1, and the call writes the line `out of memory` to
+///   `faults`.
+/// - If an argument isn't UTF-8, the status is 2, and the call writes the usage line to `faults`.
 pub fn start<R: Read, O: Write, E: Write>(
     alloc: Global,
     given: io::Result<Args>,

@@ -1,4 +1,4 @@
-//! Returns codewords as lists of bits, and writes bits as digits.
+//! Finds the bits of codewords, and writes bits as the digits 0 and 1.
 
 ghost use Rattle.std.specs.Prelude.{◌≡◌, ◌++◌, Some, IfOk, OnOk};
 ghost use Rattle.constriction_symbol.specs.Bits.{PutsBit};
@@ -9,7 +9,7 @@ use constriction_symbol::codebooks::EncoderCodebook;
 use constriction_symbol::writing::WriteBitStream;
 use std::alloc::{AllocError, Global};
 
-/// A stream of bits that collects the bits of codewords in a list.
+/// A stream of bits that collects the bits of a codeword in a vector.
 #[derive(Drop)]
 struct Bits {
     list: Vec<bool>,

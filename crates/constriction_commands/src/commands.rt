@@ -1,4 +1,6 @@
-//! The commands, each in its own file. To add a command, add its variant, its name and its call of `answer` here.
+//! The commands of the program, each in its own file.
+//!
+//! To add a command, add its variant, its name and its call of `answer` to [`Command`].
 
 mod ans_decode;
 mod ans_encode;
@@ -16,7 +18,7 @@ ghost use Rattle.constriction_commands.specs.declared.commands.Command.{Command}
 use crate::fault::Fault;
 use std::alloc::Global;
 
-/// A command of the program.
+/// A command of the program, which computes the bytes of an output from the bytes of an input.
 #[derive(Clone, Copy, Debug, PartialEq, Eq)]
 pub enum Command {
     AnsEncode,
@@ -30,7 +32,7 @@ pub enum Command {
 }
 
 impl Command {
-    /// Returns the command whose name is the only argument.
+    /// Returns the command that `args` names, for example `AnsEncode` if the only argument is `ans-encode`.
     ///
     /// Returns `None` if the argument names no command, or if there isn't exactly one argument.
     pub fn parse(args: &[String]) -> Option<Command>
@@ -57,7 +59,7 @@ impl Command {
     ///
     /// # Errors
     ///
-    /// Returns the fault that stops the command. The command's file in `specs/commands/` states when each fault comes.
+    /// Returns the fault that stops the command. `Fails` of `specs/Answers.antt` states when each fault comes.
     pub fn answer(self, alloc: Global, text: &[u8]) -> Result<Vec<u8>, Fault>
         ensures ok { IfOk result (λ answer. Answers self text.now answer.items) }
         ensures err { IfErr result (Fails self text.now) }

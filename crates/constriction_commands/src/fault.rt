@@ -40,13 +40,13 @@ pub enum Fault {
     WeightOverflow,
     /// A symbol to encode is impossible.
     Encoder(DefaultEncoderFrontendError),
-    /// The last compressed word is 0.
+    /// The last of the words for an ANS decoder is 0.
     ZeroWord(CompressedDataEndsWithZeroWord),
-    /// No chain coder has these words: there is no word, the only word is below `2^8`, or the last word is 0.
+    /// The words make no chain coder: there is no word, the only word is below `2^8`, or the last word is 0.
     NoChain,
     /// The words end before a chain coder has decoded all symbols.
     OutOfData(chain::DecoderFrontendError),
-    /// The words of a range coder don't encode as many symbols as the input asks for.
+    /// The words for a range decoder don't encode as many symbols as the input asks for.
     InvalidData(DecoderFrontendError),
     /// The index of a chunk to look up is past the last chunk.
     NoSuchChunk,

@@ -1,4 +1,6 @@
-//! Parses the inputs of the commands that code symbols.
+//! Parses the inputs of the commands that encode or decode symbols.
+//!
+//! Line 1 of such an input has the weights of a table. The other lines depend on the command.
 
 pub mod chunks;
 pub mod symbols;
@@ -9,7 +11,7 @@ ghost use Rattle.constriction_commands.specs.Lines.{first_line, second_line};
 
 use crate::input::split_line;
 
-/// Returns the first two lines of `text` without their line feeds.
+/// Returns the first two lines of `text` without their line feeds. A missing line is empty.
 fn two_lines(text: &[u8]) -> (&[u8], &[u8])
     ensures first { result.0.now ≡ first_line text.now }
     ensures second { result.1.now ≡ second_line text.now }

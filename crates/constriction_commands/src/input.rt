@@ -79,14 +79,16 @@ impl Number for usize {
     }
 }
 
-/// Returns whether a byte separates numbers: a space, a tab or a carriage return.
+/// Returns whether `byte` is a separator of numbers: a space, a tab or a carriage return.
 fn is_blank(byte: u8) -> bool
     ensures { result ≡ is_blank byte }
 {
     byte == b' ' || byte == b'\t' || byte == b'\r'
 }
 
-/// Returns `10 * so_far` plus the digit `byte`, or `None` if `byte` isn't a digit or the sum exceeds `greatest`.
+/// Returns `10 * so_far` plus the decimal digit `byte`.
+///
+/// Returns `None` if `byte` isn't a digit, or if the sum exceeds `greatest`.
 fn with_digit(so_far: u64, byte: u8, greatest: u64) -> Option<u64>
     ensures { result ≡ with_digit greatest so_far byte }
 {

@@ -36,14 +36,14 @@ pub fn line_of_numbers<I: Integer>(alloc: Global, numbers: &[I]) -> Result<Vec<u
     Ok(out)
 }
 
-/// Returns a coder's words as a line of numbers, as [`line_of_numbers`] does.
+/// Returns a line of a coder's words in decimal, as [`line_of_numbers`] does.
 pub fn line_of_words(alloc: Global, words: &[u32]) -> Result<Vec<u8>, AllocError>
     ensures { IfOk result (λ line. line.items ≡ line_of (map (λ word. word % 2 ^ 32) words.now)) }
 {
     line_of_numbers(alloc, words)
 }
 
-/// Appends a coder's words to `out` as a line of numbers, as [`push_numbers`] does.
+/// Appends a line of a coder's words in decimal to `out`, as [`push_numbers`] does.
 pub fn push_words(out: &mut Vec<u8>, words: &[u32]) -> Result<(), AllocError>
     ensures { OnOk result (out.new.items ≡ out.old.items ++ line_of (map (λ word. word % 2 ^ 32) words.now)) }
 {
@@ -52,7 +52,8 @@ pub fn push_words(out: &mut Vec<u8>, words: &[u32]) -> Result<(), AllocError>
 
 /// Writes all of `bytes` to `output`.
 ///
-/// The call retries an interrupted write. Returns `Unwritable` if a write fails or writes no bytes.
+/// The call retries an interrupted write. It returns `Unwritable` if a write fails for another reason or writes no
+/// bytes. The call may then have written a prefix of `bytes`.
 fn write_bytes<O: Write>(output: &mut O, bytes: &[u8]) -> Result<(), Fault>
     ensures ok { OnOk result (Appends (O.contents output.old) (O.contents output.new) bytes.now) }
     ensures begun { GrowsByBeginning (O.contents output.old) (O.contents output.new) bytes.now }
@@ -77,7 +78,8 @@ fn write_bytes<O: Write>(output: &mut O, bytes: &[u8]) -> Result<(), Fault>
 ///
 /// # Errors
 ///
-/// Returns `Unwritable` if a write or the flush fails. The call may then have written a prefix of `bytes`.
+/// Returns `Unwritable` if a write fails or writes no bytes, or if the flush fails. The call may then have written a
+/// prefix of `bytes`. The call retries an interrupted write.
 pub fn write_out<O: Write>(output: &mut O, bytes: &[u8]) -> Result<(), Fault>
     ensures ok { OnOk result (Appends (O.contents output.old) (O.contents output.new) bytes.now) }
     ensures begun { GrowsByBeginning (O.contents output.old) (O.contents output.new) bytes.now }

@@ -1,4 +1,4 @@
-//! The model of the commands that code symbols.
+//! The model with which commands encode and decode symbols: a table of weights that add up to `2^24`.
 
 ghost use Rattle.std.specs.Prelude.{◌≡◌, ◌≢◌, ◌⊎◌, ◌^◌, [], sum, IfOk, IfErr, OnOk, IsErrOf};
 ghost use Rattle.constriction_base.specs.Tables.{table_of};
@@ -10,7 +10,7 @@ use constriction_base::model::EntropyModel;
 use constriction_base::weights::{TableError, WeightTable};
 use std::alloc::Global;
 
-/// The precision of the weights, in bits.
+/// The precision of the weights, in bits. The weights add up to `2^24`.
 pub const PRECISION: usize = 24;
 
 /// A table of the symbols 0, 1, .., with one weight for each symbol.

@@ -1,4 +1,7 @@
-//! The traits of codebooks, which assign a list of bits to each symbol.
+//! The traits of codebooks, which assign a codeword (a list of bits) to each symbol.
+//!
+//! A new codebook implements [`Codebook`], and [`EncoderCodebook`] or [`DecoderCodebook`] or both. [`SymbolCodeError`]
+//! is the error of a decode.
 
 ghost use Rattle.constriction_base.specs.declared.errors.CoderError.TheVariants as coder;
 ghost use Rattle.constriction_symbol.specs.Bits.{bits_of};
@@ -17,13 +20,13 @@ use thiserror::Error;
 
 /// A codebook, which assigns a codeword (a list of bits) to each symbol that it can code.
 ///
-/// An implementor defines which symbols mean the same, for example equal numbers. It proves that symbols that mean the
-/// same have the same codeword. It also proves that the code is prefix-free: if a symbol's codeword is a prefix of
-/// another symbol's codeword, the two symbols mean the same.
+/// An implementor defines which symbols mean the same, for example equal numbers. The implementor proves that symbols
+/// that mean the same have the same codeword. The implementor also proves that the code is prefix-free: if a symbol's
+/// codeword is a prefix of another symbol's codeword, the two symbols mean the same.
 pub trait Codebook: Drop {
     type Symbol;
 
-    /// The codeword of a symbol in reading order (its prefix form). It is `None` if the symbol has no codeword.
+    /// The codeword of a symbol, first bit first (the prefix form), or `None` if the symbol has no codeword.
     ghost codeword: { Self → Self.Symbol → Option (List Bool) };
 
     /// Holds if two symbols mean the same.
@@ -37,17 +40,18 @@ pub trait Codebook: Drop {
         codeword c s ≡ Some bits → codeword c t ≡ Some (bits ++ tail) → is_same c s t };
 }
 
-/// A codebook for encoding. It passes the bits of a codeword to a function, one by one.
+/// A codebook for encoding, which passes the bits of a codeword to a function, one by one.
 ///
-/// An implementor proves that the emitted bits are the codeword. It defines for which symbols emitting may need memory.
+/// An implementor proves that the bits passed are the codeword. The implementor also defines for which symbols a call
+/// may need memory (`prefix_wants`, `suffix_wants`).
 pub trait EncoderCodebook: Codebook {
-    /// Holds if emitting the prefix form of the symbol may need memory.
+    /// Holds if emitting the symbol's codeword from the first bit to the last (the prefix form) may need memory.
     ghost prefix_wants: { Self → Self.Symbol → Type 0 };
 
-    /// Holds if emitting the suffix form of the symbol may need memory.
+    /// Holds if emitting the symbol's codeword from the last bit to the first (the suffix form) may need memory.
     ghost suffix_wants: { Self → Self.Symbol → Type 0 };
 
-    /// Passes the bits of the symbol's codeword to `emit`, in reading order.
+    /// Passes the bits of the symbol's codeword to `emit`, from the first to the last (the prefix form).
     ///
     /// # Errors
     ///
@@ -68,7 +72,8 @@ pub trait EncoderCodebook: Codebook {
     ///
     /// # Errors
     ///
-    /// Returns the errors of [`EncoderCodebook::encode_symbol_prefix`].
+    /// Returns the errors of [`EncoderCodebook::encode_symbol_prefix`]: the symbol has no codeword, `emit` returns an
+    /// error, or there is no memory.
     fn encode_symbol_suffix<E: From<AllocError>, F: FnMut(bool) -> Result<(), E>>(
         &self,
         symbol: &Self::Symbol,
@@ -93,6 +98,8 @@ pub trait EncoderCodebook: Codebook {
 }
 
 /// The order in which a [`Queue`] or a [`Stack`] writes the bits of a codeword.
+///
+/// A queue writes the first bit first (the prefix form). A stack writes the last bit first (the suffix form).
 pub trait BitOrder: Semantics {
     /// The bits of a codeword in writing order, given its bits in reading order.
     ghost form: { List Bool → List Bool };
@@ -117,7 +124,8 @@ pub trait BitOrder: Semantics {
     ///
     /// # Errors
     ///
-    /// Returns the errors of [`EncoderCodebook::encode_symbol_prefix`].
+    /// Returns the errors of [`EncoderCodebook::encode_symbol_prefix`]: the symbol has no codeword, `emit` returns an
+    /// error, or there is no memory.
     fn emit_symbol<C: EncoderCodebook, E: From<AllocError>, F: FnMut(bool) -> Result<(), E>>(
         codebook: &C,
         symbol: &C::Symbol,
@@ -139,7 +147,7 @@ impl BitOrder for Queue {
         first_lowest(bits, count)
     }
 
-    /// Emits the codeword in prefix form.
+    /// Emits the codeword from the first bit to the last (the prefix form).
     #[inline]
     fn emit_symbol<C: EncoderCodebook, E: From<AllocError>, F: FnMut(bool) -> Result<(), E>>(
         codebook: &C,
@@ -161,7 +169,7 @@ impl BitOrder for Stack {
         bits
     }
 
-    /// Emits the codeword in suffix form.
+    /// Emits the codeword from the last bit to the first (the suffix form).
     #[inline]
     fn emit_symbol<C: EncoderCodebook, E: From<AllocError>, F: FnMut(bool) -> Result<(), E>>(
         codebook: &C,
@@ -197,16 +205,18 @@ impl<InvalidCodeword> SymbolCodeError<InvalidCodeword> {
 ///
 /// An implementor defines after which bits the codebook reads another bit (`reads_on`), and which bits are invalid
 /// (`is_invalid`). The implementor proves two laws. The codebook reads on only while no codeword is complete. Invalid
-/// bits don't begin with a codeword, whatever bits follow them. So if the bits begin with a codeword, a decode returns
-/// the codeword's symbol and reads exactly the codeword's bits.
+/// bits don't begin with a codeword, whatever bits follow them.
+///
+/// Suppose that the bits begin with a codeword, and that the source returns no error. Then a decode reads exactly this
+/// codeword, and returns a symbol that has it.
 pub trait DecoderCodebook: Codebook {
-    /// The error for bits that begin with no codeword.
+    /// The error of a decode that reads bits with which no codeword begins.
     type InvalidCodeword;
 
-    /// Holds if the codebook reads another bit after these bits.
+    /// Holds if a decode that has read these bits reads another bit.
     ghost reads_on: { Self → List Bool → Type 0 };
 
-    /// Holds if the codebook stops after these bits with this error.
+    /// Holds if a decode that has read these bits stops with this error.
     ghost is_invalid: { Self → List Bool → Self.InvalidCodeword → Type 0 };
 
     /// Reads the bits of the next codeword, and returns the codeword's symbol.

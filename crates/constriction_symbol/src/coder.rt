@@ -54,7 +54,7 @@ pub type StackCoder<Word, B = Vec<Word>> = SymbolCoder<Word, Stack, B>;
 
 /// A queue of bits, for writing.
 ///
-/// A [`QueueDecoder`](crate::queue::QueueDecoder) over the encoder's words reads the bits from first to last.
+/// [`QueueEncoder::into_decoder`] returns a decoder that reads the bits from first to last.
 pub type QueueEncoder<Word, B = Vec<Word>> = SymbolCoder<Word, Queue, B>;
 
 /// A stack of bits that is stored in 32-bit words.
@@ -161,7 +161,7 @@ impl NewSmallStack for SmallBitStack {
 }
 
 impl<Word: BitArray, S: Semantics, B: BoundedReadWords<Word, Stack>> SymbolCoder<Word, S, B> {
-    /// Returns whether the number of bits fits a `usize`, as [`SymbolCoder::len`] requires.
+    /// Returns whether the coder's number of bits fits a `usize`, as [`SymbolCoder::len`] requires.
     pub fn len_fits(&self) -> bool
         ensures { IsTrue result ↔ (length self.now.bits < 0x1_0000_0000_0000_0000) }
     {
@@ -169,7 +169,7 @@ impl<Word: BitArray, S: Semantics, B: BoundedReadWords<Word, Stack>> SymbolCoder
         self.backend.remaining() <= (usize::MAX - last) / Word::BITS as usize
     }
 
-    /// Returns the number of bits. The caller proves that this number fits a `usize` (see [`SymbolCoder::len_fits`]).
+    /// Returns the coder's number of bits. The caller proves that it fits a `usize` (see [`SymbolCoder::len_fits`]).
     pub fn len(&self) -> usize
         requires { length self.now.bits < 0x1_0000_0000_0000_0000 }
         ensures { result ≡ length self.now.bits }
@@ -177,7 +177,7 @@ impl<Word: BitArray, S: Semantics, B: BoundedReadWords<Word, Stack>> SymbolCoder
         self.backend.remaining() * Word::BITS as usize + self.last.count() as usize
     }
 
-    /// Returns whether the coder has no bits.
+    /// Returns whether the coder's list of bits is empty.
     pub fn is_empty(&self) -> bool
         ensures { IsTrue result ↔ (self.now.bits ≡ []) }
     {
@@ -210,7 +210,8 @@ impl<Word: BitArray, B: ReadWords<Word, Stack>> StackCoder<Word, B> {
     ///
     /// # Errors
     ///
-    /// Returns the backend's error if that read fails. If the backend's `is_list` holds, the bits are then unchanged.
+    /// Returns the backend's error if that read fails. If the backend's reads follow its list of words (`is_list`),
+    /// the bits are then unchanged.
     #[inline]
     pub fn read_bit(&mut self) -> Result<Option<bool>, B::ReadError>
         ensures { PopsBit Word.BITS Word.number B.is_list B.reads self.old (item_of_answer result) self.new }

@@ -1,6 +1,6 @@
-//! Functions that pass zeros, or the bits of a word, to `emit`.
+//! Functions that pass zeros, or the bits of a word, to the function `emit`, one by one.
 //!
-//! Each function stops when `emit` returns an error, and returns `Backend(error)`.
+//! If `emit` returns an error, each function stops and returns `Backend(error)`.
 
 ghost use Rattle.std.specs.Prelude.{◌≤◌, ◌∷◌, ◌++◌, true, false, [], replicate, reverse};
 ghost use Rattle.constriction_symbol.specs.Bits.{bits_of};
@@ -9,7 +9,7 @@ ghost use Rattle.constriction_symbol.specs.Codewords.{Emits};
 use constriction_base::errors::{CoderError, DefaultEncoderError};
 use constriction_words::BitArray;
 
-/// Emits `count` zeros.
+/// Passes `count` zeros to `emit`. Stops at the first error of `emit`, and returns `Backend(error)`.
 pub fn emit_zeros<E, F: FnMut(bool) -> Result<(), E>>(
     count: u32,
     emit: &mut F,
@@ -27,7 +27,10 @@ pub fn emit_zeros<E, F: FnMut(bool) -> Result<(), E>>(
     Ok(())
 }
 
-/// Emits the lowest `count` bits of `word`, highest first. The caller proves that `count` is at most `Word::BITS`.
+/// Passes the lowest `count` bits of `word` to `emit`, highest first.
+///
+/// The call stops at the first error of `emit`, and returns `Backend(error)`. The caller proves that `count` is at
+/// most `Word::BITS`.
 pub fn emit_down<Word: BitArray, E, F: FnMut(bool) -> Result<(), E>>(
     word: Word,
     count: u32,
@@ -49,7 +52,10 @@ pub fn emit_down<Word: BitArray, E, F: FnMut(bool) -> Result<(), E>>(
     Ok(())
 }
 
-/// Emits the lowest `count` bits of `word`, lowest first. If `count` exceeds `Word::BITS`, the further bits are zeros.
+/// Passes the lowest `count` bits of `word` to `emit`, lowest first.
+///
+/// If `count` exceeds `Word::BITS`, the further bits are zeros. The call stops at the first error of `emit`, and
+/// returns `Backend(error)`.
 pub fn emit_up<Word: BitArray, E, F: FnMut(bool) -> Result<(), E>>(
     word: Word,
     count: u32,
@@ -70,7 +76,9 @@ pub fn emit_up<Word: BitArray, E, F: FnMut(bool) -> Result<(), E>>(
     Ok(())
 }
 
-/// Emits `count` zeros, a 1, and another `count` zeros.
+/// Passes `count` zeros, a 1, and another `count` zeros to `emit`.
+///
+/// The call stops at the first error of `emit`, and returns `Backend(error)`.
 pub fn emit_lone<E, F: FnMut(bool) -> Result<(), E>>(
     count: u32,
     emit: &mut F,

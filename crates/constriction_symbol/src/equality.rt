@@ -1,4 +1,4 @@
-//! Equality of lists of bits that are stored in one word, `WordBits` and `TopBits`.
+//! Equality of `WordBits` and `TopBits`, the lists of bits that are stored in one word.
 
 ghost use Rattle.std.specs.Prelude.{IsTrue, ◌↔◌, ◌≡◌};
 
@@ -22,7 +22,7 @@ impl<Word: BitArray> PartialEq for WordBits<Word> {
 
     ghost laws = { lists_per (partial_equiv_from_equiv bool_eq_equiv) };
 
-    /// Returns whether both lists have the same bits.
+    /// Returns whether both lists have the same bits in the same order.
     fn eq(&self, other: &Self) -> bool {
         self.count() == other.count() && is_same_word(self.turned_word(), other.turned_word())
     }
@@ -44,7 +44,7 @@ impl<Word: BitArray> PartialEq for TopBits<Word> {
 
     ghost laws = { lists_per (partial_equiv_from_equiv bool_eq_equiv) };
 
-    /// Returns whether both lists have the same bits.
+    /// Returns whether both lists have the same bits in the same order.
     fn eq(&self, other: &Self) -> bool {
         self.count() == other.count() && is_same_word(self.word(), other.word())
     }

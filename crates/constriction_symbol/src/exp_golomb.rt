@@ -1,4 +1,4 @@
-//! The Exp-Golomb codebook, which has a codeword for every number.
+//! The Exp-Golomb codebook, which assigns a codeword to every number of an integer type.
 
 ghost use Rattle.constriction_symbol.specs.Codewords.{Emits};
 ghost use Rattle.constriction_symbol.specs.Golomb.{IsInvalid, WantsBit, golomb};
@@ -62,7 +62,10 @@ impl<N: BitArray> Codebook for ExpGolomb<N> {
         known_prefix_free (N.number m) (N.number n) bits tail first second };
 }
 
-/// Emits the codeword of `after - 1`, first bit first. The caller proves that `after` is above 0.
+/// Passes the codeword of the number `after - 1` to `emit`, first bit first.
+///
+/// The call stops at the first error of `emit`, and returns `Backend(error)`. The caller proves that `after` is above
+/// 0.
 #[inline]
 fn emit_number<N: BitArray, E, F: FnMut(bool) -> Result<(), E>>(
     after: N,
@@ -83,7 +86,10 @@ fn emit_number<N: BitArray, E, F: FnMut(bool) -> Result<(), E>>(
     emit_down(after, length, emit)
 }
 
-/// Emits the codeword of `after - 1`, last bit first. The caller proves that `after` is above 0.
+/// Passes the codeword of the number `after - 1` to `emit`, last bit first.
+///
+/// The call stops at the first error of `emit`, and returns `Backend(error)`. The caller proves that `after` is above
+/// 0.
 #[inline]
 fn emit_number_turned<N: BitArray, E, F: FnMut(bool) -> Result<(), E>>(
     after: N,
@@ -109,7 +115,7 @@ impl<N: BitArray> EncoderCodebook for ExpGolomb<N> {
 
     ghost suffix_wants = { λ _ _. ⊥ };
 
-    /// Emits the codeword, first bit first. The call needs no memory.
+    /// Passes the bits of the codeword to `emit`, first bit first. The call needs no memory.
     #[inline]
     fn encode_symbol_prefix<E: From<AllocError>, F: FnMut(bool) -> Result<(), E>>(
         &self,
@@ -123,7 +129,7 @@ impl<N: BitArray> EncoderCodebook for ExpGolomb<N> {
         }
     }
 
-    /// Emits the codeword, last bit first. The call needs no memory.
+    /// Passes the bits of the codeword to `emit`, last bit first. The call needs no memory.
     #[inline]
     fn encode_symbol_suffix<E: From<AllocError>, F: FnMut(bool) -> Result<(), E>>(
         &self,
@@ -155,7 +161,7 @@ impl<N: BitArray> EncoderCodebook for ExpGolomb<N> {
     }
 }
 
-/// The error for bits that begin with no codeword of an [`ExpGolomb`], such as 9 zeros for `ExpGolomb<u8>`.
+/// The error for bits with which no codeword of an [`ExpGolomb`] begins, such as 9 zeros for `ExpGolomb<u8>`.
 #[derive(Debug, Clone, PartialEq, Eq, Drop, Error)]
 #[error("Invalid Exp-Golomb codeword.")]
 pub struct InvalidCodeword;

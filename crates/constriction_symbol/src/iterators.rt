@@ -1,8 +1,8 @@
 //! Iterators over decoded symbols, and over a repeated codebook.
 //!
-//! The iterators over bits (`StackCoder` and `QueueDecoder`) don't report how many bits are left. One implementation
-//! serves all backends, and for an iterator backend this number is unknown. For a coder that has `len`, a loop over
-//! `0..coder.len()` visits each bit.
+//! `StackCoder` and `QueueDecoder` are iterators over bits. Their `size_hint` doesn't report the number of bits left,
+//! because a backend that is an iterator doesn't know how many words are left. If a coder has `len`, a loop over
+//! `0..coder.len()` can read each bit.
 
 ghost use Rattle.constriction_stream.specs.Lists.{AnswersNext};
 ghost use Rattle.constriction_symbol.specs.Codewords.{ReadsSymbol};
@@ -16,11 +16,11 @@ use constriction_base::backends::Semantics;
 use constriction_base::errors::CoderError;
 use std::marker::PhantomData;
 
-/// An iterator that decodes one symbol for each codebook.
+/// An iterator that decodes one symbol with each codebook of the iterator `I`.
 ///
-/// The iterator is lazy: each call of `next` decodes one symbol. The iterator continues after an error. Dropping the
-/// iterator leaves the stream positioned after the symbols returned so far. [`ReadBitStream::decode_symbols`] and
-/// [`ReadBitStream::decode_iid_symbols`] return this iterator.
+/// The iterator is lazy: each call of `next` decodes one symbol. After an error, the iterator continues with the next
+/// codebook. Dropping the iterator leaves the stream positioned after the symbols returned so far.
+/// [`ReadBitStream::decode_symbols`] and [`ReadBitStream::decode_iid_symbols`] return this iterator.
 ///
 /// # Examples
 ///
@@ -91,7 +91,7 @@ where
 pub struct RepeatCodebook<'a, C> {
     /// The codebook that the iterator returns.
     pub codebook: &'a C,
-    /// The number of repetitions left.
+    /// The number of times that the iterator still returns the codebook.
     pub amt: usize,
 }
 

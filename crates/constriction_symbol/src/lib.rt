@@ -17,13 +17,15 @@
 //! # Modules
 //!
 //! - [`codebooks`]: the traits of codebooks, and the error of a decode.
-//! - [`coder`]: `SymbolCoder`, a queue for writing or a stack of bits; import and export of words; guards.
-//! - [`queue`]: `QueueDecoder`, which reads the bits of words.
-//! - [`writing`], [`reading`]: streams of bits that encode and decode symbols, with list calls.
-//! - [`reversed`]: emits the prefix form of codewords that a codebook finds from the last bit to the first.
+//! - [`coder`]: `SymbolCoder`, which is a stack of bits or a queue of bits for writing; import and export of words;
+//!   guards.
+//! - [`queue`]: `QueueDecoder`, which reads a queue of bits from words.
+//! - [`writing`], [`reading`]: streams of bits that encode and decode symbols, one at a time or a whole list.
+//! - [`reversed`]: emits codewords from the first bit to the last, for codebooks that find the last bit first.
 //! - [`iterators`]: iterators over decoded symbols.
 //! - [`exp_golomb`]: the Exp-Golomb codebook for numbers.
-//! - [`huffman`]: Huffman trees for encoding and decoding. No prefix-free codebook costs less for the same weights.
+//! - [`huffman`]: Huffman trees for encoding and decoding. No prefix-free codebook has a lower sum of weight times
+//!   codeword length.
 //!
 //! # Definitions
 //!

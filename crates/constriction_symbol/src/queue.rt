@@ -1,4 +1,4 @@
-//! Decoders of bit queues, which read the bits of words from the first to the last.
+//! `QueueDecoder`: a decoder of bit queues, which reads the bits of a backend's words from the first to the last.
 
 ghost use Rattle.constriction_base.specs.Iterators.{item_of_answer};
 ghost use Rattle.constriction_symbol.specs.Bits.{AreZeros, BitsValue, TakesBit, bits_behind, bits_of_words};
@@ -12,7 +12,7 @@ use constriction_words::BitArray;
 use std::alloc::AllocError;
 use std::marker::Model;
 
-/// A decoder for the bits of a backend's words. It reads each word from the lowest bit to the highest.
+/// A decoder for the bits of a backend's words, which reads each word from the lowest bit to the highest.
 ///
 /// Contracts describe the decoder by a `BitsValue`: all unread bits, the unread bits of the word read last, and the
 /// backend.
@@ -32,7 +32,7 @@ pub struct QueueDecoder<Word: BitArray, B: Holds<Word, Queue>> {
     pub(crate) last: WordBits<Word>,
 }
 
-/// A decoder for the bits of a backend's 32-bit words.
+/// A [`QueueDecoder`] with 32-bit words.
 pub type DefaultQueueDecoder<B = Cursor<u32, Vec<u32>>> = QueueDecoder<u32, B>;
 
 impl<Word: BitArray, B: Holds<Word, Queue>> Model for QueueDecoder<Word, B> {
@@ -50,7 +50,8 @@ impl<Word: BitArray, B: Holds<Word, Queue>> Model for QueueDecoder<Word, B> {
 impl<Word: BitArray, B: ReadWords<Word, Queue>> QueueDecoder<Word, B> {
     /// Creates a decoder for all bits of a backend's words.
     ///
-    /// The decoder also returns the zeros that complete the last word of an export.
+    /// The words don't mark the end of the bits. So the decoder also returns the zeros that complete the last word of
+    /// an export.
     ///
     /// # Examples
     ///
@@ -75,8 +76,8 @@ impl<Word: BitArray, B: ReadWords<Word, Queue>> QueueDecoder<Word, B> {
     ///
     /// # Errors
     ///
-    /// Returns the backend's error if that read fails. If the backend's `is_list` holds, the unread bits are then
-    /// unchanged.
+    /// Returns the backend's error if that read fails. If the backend's reads follow its list of words (`is_list`),
+    /// the unread bits are then unchanged.
     #[inline]
     pub fn read_bit(&mut self) -> Result<Option<bool>, B::ReadError>
         ensures { TakesBit Word.BITS Word.number B.is_list B.reads self.old (item_of_answer result) self.new }
@@ -84,7 +85,7 @@ impl<Word: BitArray, B: ReadWords<Word, Queue>> QueueDecoder<Word, B> {
         take_first(&mut self.backend, &mut self.last)
     }
 
-    /// Returns whether the unread bits may all be padding.
+    /// Returns whether the unread bits may all be padding (zeros that complete the last word).
     ///
     /// Returns `true` if and only if the unread bits of the word read last are all 0, and the backend's
     /// `maybe_exhausted` returns `true`.

@@ -1,4 +1,7 @@
-//! Streams of bits for decoding symbols.
+//! `ReadBitStream`: streams of bits that decode symbols.
+//!
+//! [`StackCoder`] and [`QueueDecoder`] implement the trait. Its calls read a bit, decode a symbol, or return an
+//! iterator over decoded symbols.
 
 ghost use Rattle.constriction_symbol.specs.Bits.{GivesBit, PopsBit, TakesBit};
 ghost use Rattle.constriction_symbol.specs.Codewords.{ReadsSymbol};
@@ -17,27 +20,29 @@ use std::marker::PhantomData;
 /// A stream of bits that decodes symbols.
 ///
 /// An implementor defines the list of unread bits (`unread`), what a read may return (`gives`), and whether reads
-/// return the bits of the list (`is_list`). The implementor proves that each call follows these definitions. If
-/// `is_list` holds, the implementor also proves that each read returns the first unread bit, `None` if no bit is
-/// unread, or an error.
+/// follow the list (`is_list`). The implementor proves that each call obeys these definitions. If reads follow the
+/// list, each read returns the first unread bit, `None` if no bit is unread, or an error. The implementor also proves
+/// this.
 pub trait ReadBitStream<S: Semantics> {
     type ReadError;
 
-    /// The bits that the next reads return, in order. The list has no meaning if `is_list` doesn't hold.
+    /// The bits that the next reads return, in order.
+    ///
+    /// If reads don't follow this list (`is_list`), the list has no meaning.
     ghost unread: { Self → List Bool };
 
-    /// Holds if `unread` is the list of bits that the next reads return.
+    /// Holds if reads follow the list of unread bits: the next reads return the bits of `unread`, in order.
     ghost is_list: { Type 0 };
 
-    /// Relates the stream before a read, what the read returns, and the stream after it.
+    /// Relates the stream before a read, the read's result, and the stream after the read.
     ghost gives: { Self → Option (Result Bool Self.ReadError) → Self → Type 0 };
 
     /// Reads the next bit, or returns `None` if no bit is left.
     ///
     /// # Errors
     ///
-    /// Returns the stream's error if the read from the source of the bits fails. If `is_list` holds, the unread bits
-    /// are then unchanged.
+    /// Returns the error of the bits' source (for example a backend) if a read from the source fails. If reads follow
+    /// the list of unread bits (`is_list`), the list is then unchanged.
     fn read_bit(&mut self) -> Result<Option<bool>, Self::ReadError>
         ensures { gives self.old (item_of_answer result) self.new };
 
@@ -57,7 +62,9 @@ pub trait ReadBitStream<S: Semantics> {
         ensures { ReadsSymbol gives (C.codeword codebook) (C.reads_on codebook) (C.is_invalid codebook)
             self.old result self.new };
 
-    /// Returns a lazy iterator that decodes one symbol for each codebook. The iterator continues after an error.
+    /// Returns a lazy iterator that decodes one symbol with each codebook of `codebooks`, in order.
+    ///
+    /// After an error, the iterator continues with the next codebook. See [`DecodeSymbols`] for an example.
     final fn decode_symbols<I>(&mut self, codebooks: I) -> DecodeSymbols<'_, Self, I::IntoIter, S>
     where
         Self: Sized,
@@ -73,9 +80,9 @@ pub trait ReadBitStream<S: Semantics> {
         }
     }
 
-    /// Returns a lazy iterator that decodes `amt` symbols with one codebook. The iterator continues after an error.
+    /// Returns a lazy iterator that decodes `amt` symbols, all with `codebook`.
     ///
-    /// See [`DecodeSymbols`] for an example.
+    /// An error takes the place of one symbol, and the iterator continues. See [`DecodeSymbols`] for an example.
     final fn decode_iid_symbols<'a, C>(
         &'a mut self,
         amt: usize,

@@ -1,11 +1,11 @@
-//! Emits codewords in prefix form, given a codebook that finds them from the last bit to the first.
+//! Emits codewords first bit first (the prefix form), for codebooks that find the last bit first.
 //!
 //! A codebook that climbs from a leaf to the root of a tree finds the bits in this order. [`reversed_codeword`] emits
-//! the prefix form of such a codebook's codewords.
+//! the codewords of such a codebook first bit first.
 //!
-//! A [`SmallBitStack`] reverses the bits. This stack holds two words of bits without allocating: the first word is
-//! inline in the small vector, and the second word is outside the backend. The stack's constructor is in the trait
-//! [`NewSmallStack`], because a second `StackCoder::new` would be ambiguous.
+//! [`reversed_codeword`] reverses the bits with a [`SmallBitStack`]. This stack holds two words of bits without
+//! allocating: the first word is inline in the small vector, and the second word is outside the backend. The stack's
+//! constructor is in the trait [`NewSmallStack`], because a second `StackCoder::new` would be ambiguous.
 
 ghost use Rattle.constriction_symbol.specs.Bits.{PutsBit};
 ghost use Rattle.constriction_symbol.specs.Codewords.{Emits, EmitsCodeword, formed};
@@ -22,7 +22,7 @@ use std::alloc::{AllocError, Global};
 
 /// A codebook that emits codewords from the last bit to the first, without allocating memory.
 ///
-/// An implementor proves that the emitted bits are the codeword of [`Codebook`], reversed.
+/// An implementor proves that the emitted bits are the bits of the symbol's codeword in reverse order.
 pub trait SuffixCodebook: Codebook {
     /// Passes the bits of the symbol's codeword to `emit`, from the last to the first (the suffix form).
     ///
@@ -58,7 +58,7 @@ fn put<Word: BitArray, B: WriteWords<Word>>(
     put_last(&mut stack.backend, &mut stack.last, bit)
 }
 
-/// Pushes `bit` onto a small stack.
+/// Pushes `bit` onto a small stack, whose first `2 * usize::BITS` bits need no memory.
 ///
 /// # Errors
 ///
@@ -71,7 +71,7 @@ fn put_small(stack: &mut SmallBitStack, bit: bool) -> Result<(), AllocError>
     put(stack, bit)
 }
 
-/// Pops the last bit of a small stack, or returns `None` if the stack is empty.
+/// Pops the last bit of a small stack and returns it, or returns `None` if the stack is empty.
 #[inline]
 fn take_small(stack: &mut SmallBitStack) -> Option<bool>
     ensures { MatchOption result (stack.old.bits ≡ []) (λ bit. stack.old.bits ≡ stack.new.bits ++ bit ∷ []) }
@@ -82,7 +82,10 @@ fn take_small(stack: &mut SmallBitStack) -> Option<bool>
     }
 }
 
-/// Pushes the suffix form of a codeword onto an empty stack.
+/// Pushes a codeword onto an empty stack, from the last bit to the first (the suffix form).
+///
+/// Returns `Frontend(ImpossibleSymbol)` if the symbol has no codeword. Returns `Backend(AllocError)` if there is no
+/// memory for a codeword of more than `2 * usize::BITS` bits.
 fn put_suffix<C: SuffixCodebook>(
     codebook: &C,
     symbol: &C::Symbol,
@@ -95,7 +98,9 @@ fn put_suffix<C: SuffixCodebook>(
     codebook.emit_suffix(symbol, &mut push)
 }
 
-/// Pops the bits of a stack and emits them, last bit first.
+/// Pops the bits of a stack and passes them to `emit`, last bit first.
+///
+/// The call stops at the first error of `emit`, and returns `Backend(error)`.
 fn emit_taken<E, F: FnMut(bool) -> Result<(), E>>(
     stack: &mut SmallBitStack,
     emit: &mut F,
@@ -112,7 +117,7 @@ fn emit_taken<E, F: FnMut(bool) -> Result<(), E>>(
     Ok(())
 }
 
-/// Emits the prefix form of a symbol's codeword, given a codebook that emits suffix forms.
+/// Emits a symbol's codeword first bit first, given a codebook that emits codewords last bit first.
 ///
 /// # Errors
 ///

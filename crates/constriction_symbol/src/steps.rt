@@ -1,4 +1,6 @@
-//! Adds bits to a coder and removes them. The bits are in the backend's words and in the word outside the backend.
+//! Appends bits to a coder, and removes bits from it.
+//!
+//! A coder holds its bits in the words of its backend, and in one more word, `last`, outside the backend.
 
 ghost use Rattle.constriction_base.specs.Backends.{IsWrite};
 ghost use Rattle.constriction_base.specs.Iterators.{item_of_answer};
@@ -36,7 +38,7 @@ pub fn put_last<Word: BitArray, B: WriteWords<Word>>(
     Ok(())
 }
 
-/// Appends the lowest `count` bits of `bits` to `last`, lowest first.
+/// Appends the lowest `count` bits of `bits` to `last`, the word outside the backend, lowest first.
 ///
 /// If `last` has no room for all of them, the first bits fill `last`. The call then writes the full word to the
 /// backend, and the remaining bits begin the next word. If the backend refuses the word, the call returns the backend's
@@ -62,7 +64,12 @@ pub fn put_bits<Word: BitArray, B: WriteWords<Word>>(
     put_across(backend, last, bits, count)
 }
 
-/// Appends the lowest `count` bits of `bits` to `last`, which has no room for all of them.
+/// Appends the lowest `count` bits of `bits`, lowest first, to the word `last` and the next word.
+///
+/// The call fills `last` and writes the full word to the backend. The remaining bits begin the next word. If the
+/// backend refuses the word, the call returns the backend's error, and `last` stays full. The caller proves that the
+/// bits don't all fit in `last`, and that `count` is below `Word::BITS`. The caller also proves that all higher bits
+/// of `bits` are 0.
 #[inline]
 fn put_across<Word: BitArray, B: WriteWords<Word>>(
     backend: &mut B,
@@ -87,9 +94,10 @@ fn put_across<Word: BitArray, B: WriteWords<Word>>(
     Ok(())
 }
 
-/// Removes the last bit of `last` and returns it, or returns `None` if no bit is left.
+/// Removes the last bit of a stack and returns it, or returns `None` if no bit is left.
 ///
-/// If `last` is empty, the call first reads the next word from the backend.
+/// The bit comes from `last`, the word outside the backend. If `last` is empty, the call first reads the next word
+/// from the backend into `last`. If that read fails, the call returns the backend's error.
 #[inline]
 pub fn take_last<Word: BitArray, B: ReadWords<Word, Stack>>(
     backend: &mut B,
@@ -113,9 +121,10 @@ pub fn take_last<Word: BitArray, B: ReadWords<Word, Stack>>(
     Ok(Some(last.pop()))
 }
 
-/// Removes the first bit of `last` and returns it, or returns `None` if no bit is left.
+/// Removes the first bit of a queue and returns it, or returns `None` if no bit is left.
 ///
-/// If `last` is empty, the call first reads the next word from the backend.
+/// The bit comes from `last`, the word outside the backend. If `last` is empty, the call first reads the next word
+/// from the backend into `last`. If that read fails, the call returns the backend's error.
 #[inline]
 pub fn take_first<Word: BitArray, B: ReadWords<Word, Queue>>(
     backend: &mut B,

@@ -1,4 +1,4 @@
-//! Reads bits from an iterator of `Result`s of bits.
+//! Functions that read bits from an iterator of `Result`s of bits, for the decodes of codebooks.
 
 ghost use Rattle.constriction_symbol.specs.Codewords.{GivesBits, StopsWithin};
 ghost use Rattle.constriction_symbol.specs.Taking.{CountsZeros, GivesNumber};
@@ -14,7 +14,7 @@ use constriction_words::BitArray;
 /// The error of a decode: the codebook's own error, or the error of the source of the bits.
 pub type Refusal<V, E> = CoderError<SymbolCodeError<V>, E>;
 
-/// Reads the next bit.
+/// Reads the next bit of `source`.
 ///
 /// # Errors
 ///
@@ -37,7 +37,7 @@ pub fn next_bit<V, E, I: Iterator<Item = Result<bool, E>>>(
     }
 }
 
-/// Reads zeros up to and including the first 1, and returns the number of zeros.
+/// Reads bits up to and including the first 1, and returns the number of zeros before the 1.
 ///
 /// If more than `most` zeros come first, the call reads `most + 1` zeros and returns `None`. The caller proves that
 /// `most` is below 1000.

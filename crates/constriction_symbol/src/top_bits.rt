@@ -1,4 +1,6 @@
-//! `TopBits`: a list of bits in the highest bits of a word. Appending or removing a bit shifts the word by one bit.
+//! `TopBits`: the bits that a coder holds outside its backend, in the highest bits of one word.
+//!
+//! Appending or removing a bit shifts the word by one bit.
 
 ghost use Rattle.constriction_symbol.specs.Bits.{TopWord, bits_of};
 ghost use Rattle.std.specs.Prelude.{IsTrue, List, MatchOption, [], if◌then◌else◌, length, take};
@@ -7,10 +9,10 @@ ghost use Rattle.std.specs.Prelude.{◌+◌, ◌++◌, ◌-◌, ◌/◌, ◌<◌
 use constriction_words::BitArray;
 use std::marker::Model;
 
-/// A list of at most `Word::BITS` bits.
+/// A list of at most `Word::BITS` bits, which grows and shrinks at its end.
 ///
 /// The list is in the highest bits of `word`. The last bit of the list is the highest bit of `word`. The lowest `room`
-/// bits of `word` are unspecified. Contracts describe a `TopBits` by this list.
+/// bits of `word` are unspecified. Contracts describe a `TopBits` by the list.
 #[derive(Debug, Drop)]
 pub struct TopBits<Word: BitArray> {
     word: Word,
@@ -73,7 +75,7 @@ impl<Word: BitArray> TopBits<Word> {
         }
     }
 
-    /// Returns the number of bits.
+    /// Returns the number of bits in the list.
     #[inline]
     pub fn count(&self) -> u32
         ensures value { result ≡ length self.now }
@@ -90,7 +92,7 @@ impl<Word: BitArray> TopBits<Word> {
         self.room == Word::BITS as usize
     }
 
-    /// Returns whether the list is full, with `Word::BITS` bits.
+    /// Returns whether the list has `Word::BITS` bits, so that no further bit fits.
     #[inline]
     pub fn is_full(&self) -> bool
         ensures full { IsTrue result ↔ (length self.now ≡ Word.BITS) }
@@ -127,7 +129,7 @@ impl<Word: BitArray> TopBits<Word> {
         self.word
     }
 
-    /// Appends a bit. The caller proves that there is room for it.
+    /// Appends a bit. The caller proves that the list isn't full.
     #[inline]
     pub fn push(&mut self, bit: bool)
         requires { length self.old < Word.BITS }
@@ -137,7 +139,7 @@ impl<Word: BitArray> TopBits<Word> {
         self.room -= 1;
     }
 
-    /// Removes the last bit and returns it. The caller proves that the list isn't empty.
+    /// Removes the last bit of the list and returns it. The caller proves that the list isn't empty.
     #[inline]
     pub fn pop(&mut self) -> bool
         requires { 0 < length self.old }
@@ -150,7 +152,7 @@ impl<Word: BitArray> TopBits<Word> {
         bit
     }
 
-    /// Returns the number of bits that the list has room for.
+    /// Returns the number of further bits that fit in the list.
     #[inline]
     pub fn room(&self) -> u32
         ensures { result + length self.now ≡ Word.BITS }
@@ -160,8 +162,8 @@ impl<Word: BitArray> TopBits<Word> {
 
     /// Appends the lowest `count` bits of `bits`, lowest first.
     ///
-    /// The caller proves that the list has room for `count` bits, that all higher bits of `bits` are 0, and that
-    /// `0 < count < Word::BITS`.
+    /// The caller proves that the list has room for `count` bits, and that `0 < count < Word::BITS`. The caller also
+    /// proves that all higher bits of `bits` are 0.
     #[inline]
     pub fn push_all(&mut self, bits: Word, count: u32)
         requires some { 0 < count }
@@ -189,7 +191,7 @@ impl<Word: BitArray> TopBits<Word> {
         }
     }
 
-    /// Removes the last `count` bits. The caller proves that `count` is at least 1 and below the number of bits.
+    /// Removes the last `count` bits. The caller proves that `count` is at least 1 and below the list's length.
     #[inline]
     pub fn drop_last(&mut self, count: u32)
         requires some { 0 < count }
@@ -201,7 +203,9 @@ impl<Word: BitArray> TopBits<Word> {
     }
 }
 
-/// Returns a word with `word` in its highest `count` bits. The caller proves that `word` is below `2^count`.
+/// Returns a word with `word` in its highest `count` bits.
+///
+/// The caller proves that `count` is below `Word::BITS`, and that `word` is below `2^count`.
 fn at_top<Word: BitArray>(word: Word, count: u32) -> Word
     requires within { count < Word.BITS }
     requires small { Word.number word < 2 ^ count }

@@ -36,9 +36,10 @@ pub fn first_lowest<Word: BitArray>(bits: Word, count: u32) -> Word
     turned(bits).shifted_right(Word::BITS - count)
 }
 
-/// Returns the lowest `to` bits of `word` in reverse order.
+/// Returns the lowest `to` bits of `word` in reverse order, given the result `done` for the lowest `from` bits.
 ///
-/// The caller proves that `done` is the lowest `from` bits of `word` in reverse order, and that `from <= to`.
+/// The caller proves that `done` is the lowest `from` bits of `word` in reverse order. The caller also proves that
+/// `from` is at most `to`, and `to` at most `Word::BITS`.
 #[inline]
 fn turned_to<Word: BitArray>(word: Word, done: Word, from: u32, to: u32) -> Word
     requires order { from ≤ to }
@@ -73,7 +74,10 @@ pub fn same_number<From: BitArray, To: BitArray>(number: From) -> To
     same_down_to(number, most, quarter, 0)
 }
 
-/// Returns `number / 2^to`, rounded down. The caller proves that `done` is `number / 2^from`, rounded down.
+/// Returns `number / 2^to`, rounded down, in the type `To`.
+///
+/// The caller proves that `done` is `number / 2^from`, rounded down, and that `number` fits the type `To`. The caller
+/// also proves that `to` is at most `from`, and `from` at most `From::BITS`.
 #[inline]
 fn same_down_to<From: BitArray, To: BitArray>(number: From, done: To, from: u32, to: u32) -> To
     requires order { to ≤ from }

@@ -1,4 +1,4 @@
-//! `WordBits`: a list of bits of a word. Calls remove the bits from the lowest to the highest.
+//! `WordBits`: the bits of one word that a decoder of a queue hasn't read yet.
 
 ghost use Rattle.constriction_symbol.specs.Bits.{AreZeros, bits_of, top_bits};
 ghost use Rattle.std.specs.Prelude.{IsTrue, List, [], drop, length, reverse, ◌<◌, ◌≤◌, ◌∷◌, ◌^◌, ◌↔◌, ◌≡◌};
@@ -8,10 +8,10 @@ use crate::turning::turned;
 use constriction_words::BitArray;
 use std::marker::Model;
 
-/// A list of at most `Word::BITS` bits. Calls remove the bits from the first to the last.
+/// A list of at most `Word::BITS` bits. Calls remove bits from its front.
 ///
-/// The bits are stored in reverse order, so that the first bit is the highest of the stored word. Contracts describe
-/// a `WordBits` by this list.
+/// The list is stored in reverse order: its first bit is the highest bit of the stored word. Contracts describe a
+/// `WordBits` by the list.
 #[derive(Debug, Drop)]
 pub struct WordBits<Word: BitArray> {
     turned: TopBits<Word>,
@@ -56,7 +56,7 @@ impl<Word: BitArray> WordBits<Word> {
         }
     }
 
-    /// Returns the number of bits.
+    /// Returns the number of bits in the list.
     #[inline]
     pub fn count(&self) -> u32
         ensures value { result ≡ length self.now }
@@ -96,7 +96,7 @@ impl<Word: BitArray> WordBits<Word> {
         self.turned.top_word()
     }
 
-    /// Removes the first bit and returns it. The caller proves that the list isn't empty.
+    /// Removes the first bit of the list and returns it. The caller proves that the list isn't empty.
     #[inline]
     pub fn take_first(&mut self) -> bool
         requires { 0 < length self.old }
@@ -105,7 +105,7 @@ impl<Word: BitArray> WordBits<Word> {
         self.turned.pop()
     }
 
-    /// Removes the first `count` bits. The caller proves that `count` is at least 1 and below the number of bits.
+    /// Removes the first `count` bits. The caller proves that `count` is at least 1 and below the list's length.
     #[inline]
     pub fn drop_first(&mut self, count: u32)
         requires some { 0 < count }
@@ -115,7 +115,7 @@ impl<Word: BitArray> WordBits<Word> {
         self.turned.drop_last(count);
     }
 
-    /// Returns whether all bits are 0.
+    /// Returns whether all bits of the list are 0. Returns `true` for an empty list.
     #[inline]
     pub fn is_zeros(&self) -> bool
         ensures { IsTrue result ↔ AreZeros self.now }

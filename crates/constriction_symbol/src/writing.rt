@@ -1,8 +1,11 @@
-//! Streams of bits for encoding symbols.
+//! `WriteBitStream`: streams of bits that encode symbols by appending codewords.
 //!
-//! In contracts, `PutsLast`, `PutsBits`, `ClosesStack` and `ClosesQueue` of `specs/Bits.antt` say which word each write
-//! passes to the backend. Their argument `write` is `IsWrite`, which relates the backend before a write, the word, the
-//! write's result, and the backend after the write.
+//! [`SymbolCoder`] implements the trait for stacks and queues of bits. A stack can also encode a list from its last
+//! symbol to its first, so that decoding returns the first symbol first.
+//!
+//! In contracts, `PutsLast`, `PutsBits`, `ClosesStack` and `ClosesQueue` of `specs/Bits.antt` state which word each
+//! write passes to the backend. Their argument `write` is `IsWrite`. `IsWrite` relates the backend before a write, the
+//! word, the write's result, and the backend after the write.
 
 ghost use Rattle.constriction_base.specs.Backends.{IsWrite};
 ghost use Rattle.constriction_symbol.specs.Bits.{PutsBit, PutsOnto};
@@ -26,15 +29,15 @@ use std::alloc::AllocError;
 /// A queue stores codewords in prefix form (first bit first). A stack stores codewords in suffix form (last bit first).
 /// Writing a codeword has the effect of writing its bits one by one.
 ///
-/// An implementor defines the list of bits (`bits`) and what a write may return (`puts`). It proves that each call
-/// follows these definitions.
+/// An implementor defines the list of bits (`bits`) and what a write may return (`puts`). The implementor proves that
+/// each call obeys these definitions.
 pub trait WriteBitStream<S: BitOrder> {
     type WriteError: From<AllocError>;
 
-    /// The bits, in writing order.
+    /// The bits that the stream holds, in writing order.
     ghost bits: { Self → List Bool };
 
-    /// Relates the stream before the write of a bit, the bit, what the write returns, and the stream after it.
+    /// Relates the stream before a write, the bit written, the write's result, and the stream after the write.
     ghost puts: { Self → Bool → Result (Unit {0}) Self.WriteError → Self → Type 0 };
 
     /// Appends a bit.
@@ -74,9 +77,9 @@ pub trait WriteBitStream<S: BitOrder> {
     ///
     /// # Errors
     ///
-    /// Returns the error of the first symbol that fails. The call wrote exactly the codewords of the symbols before the
-    /// failing symbol, and the part of the failing symbol's codeword that [`WriteBitStream::encode_symbol`] wrote. The
-    /// call takes no further item from the iterator.
+    /// Returns the error of the first symbol that fails (see [`WriteBitStream::encode_symbol`]). The call has then
+    /// written exactly the earlier codewords, and the failing codeword's bits before the failing write. The call takes
+    /// no further item from the iterator.
     ///
     /// # Examples
     ///
@@ -111,7 +114,7 @@ pub trait WriteBitStream<S: BitOrder> {
     ///
     /// # Errors
     ///
-    /// Returns the errors of [`WriteBitStream::encode_symbols`].
+    /// Returns the error of the first symbol that fails, as [`WriteBitStream::encode_symbols`] does.
     final fn encode_iid_symbols<L, C, I>(
         &mut self,
         symbols: I,
@@ -139,14 +142,14 @@ pub trait WriteBitStream<S: BitOrder> {
     }
 }
 
-/// A receiver that accepts bits one by one.
+/// A receiver of bits, which accepts them one by one.
 trait BitSink {
     type Refusal: From<AllocError>;
 
-    /// The bits, in writing order.
+    /// The bits that the receiver holds, in writing order.
     ghost bits: { Self → List Bool };
 
-    /// Relates the receiver before the write of a bit, the bit, what the write returns, and the receiver after it.
+    /// Relates the receiver before a write, the bit written, the write's result, and the receiver after the write.
     ghost puts: { Self → Bool → Result (Unit {0}) Self.Refusal → Self → Type 0 };
 
     /// Appends a bit.
@@ -175,7 +178,7 @@ where
     }
 }
 
-/// Writes the codeword of a symbol bit by bit.
+/// Writes the codeword of a symbol bit by bit. Returns the errors of [`WriteBitStream::encode_symbol`].
 #[inline]
 fn write_emitted<S: BitOrder, W: BitSink, C: EncoderCodebook>(
     stream: &mut W,
@@ -238,9 +241,10 @@ where
     ///
     /// # Errors
     ///
-    /// Returns the error of the first symbol that fails, counted from the end of the list. The call wrote exactly the
-    /// codewords of the symbols after the failing symbol in the list, and the part of the failing symbol's codeword
-    /// that [`WriteBitStream::encode_symbol`] wrote. The call takes no further item from `symbols_and_codebooks`.
+    /// Returns the error of the first symbol that fails, counted from the end of the list (see
+    /// [`WriteBitStream::encode_symbol`]). The call has then written exactly the codewords of all later symbols in the
+    /// list, and the failing codeword's bits before the failing write. The call takes no further item from
+    /// `symbols_and_codebooks`.
     pub fn encode_symbols_reverse<L, C, I>(
         &mut self,
         symbols_and_codebooks: I,
@@ -271,7 +275,7 @@ where
     ///
     /// # Errors
     ///
-    /// Returns the errors of [`StackCoder::encode_symbols_reverse`].
+    /// Returns the error of the first symbol that fails, as [`StackCoder::encode_symbols_reverse`] does.
     pub fn encode_iid_symbols_reverse<L, C, I>(
         &mut self,
         symbols: I,

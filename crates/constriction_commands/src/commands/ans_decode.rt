@@ -18,7 +18,9 @@ use constriction_stack::coder::words::CompressedDataEndsWithZeroWord;
 use constriction_stream::decoding::Decode;
 use std::alloc::Global;
 
-/// Decodes `count` symbols with `model`. Returns `OutOfMemory` if there is no memory for the symbols.
+/// Decodes `count` symbols from `coder` with `model`.
+///
+/// Returns `OutOfMemory` if there is no memory for the symbols.
 fn decode<M: DecoderModel<PRECISION, Symbol = usize, Probability = u32>>(
     alloc: Global,
     model: &M,
@@ -44,6 +46,11 @@ fn decode<M: DecoderModel<PRECISION, Symbol = usize, Probability = u32>>(
 /// Decodes the words in the input `text`, and returns the symbols as a line of numbers.
 ///
 /// Line 1 of the input has the weights. Line 2 has the number of symbols, followed by the words.
+///
+/// # Errors
+///
+/// Returns the faults of [`table_and_words`], `ZeroWord` if the last word is 0, or `OutOfMemory` if there is no
+/// memory.
 pub fn answer(alloc: Global, text: &[u8]) -> Result<Vec<u8>, Fault>
     ensures ok { IfOk result (λ answer. IsAnsDecoded text.now answer.items) }
     ensures err { IfErr result (AnsDecodeFails text.now) }

@@ -19,7 +19,7 @@ use std::alloc::Global;
 
 /// Encodes `symbols` with `model`, and returns the words. A decoder returns the first symbol first.
 ///
-/// Returns a fault if a symbol is impossible, or if there is no memory.
+/// Returns `Encoder` if a symbol is impossible, or `OutOfMemory` if there is no memory.
 fn encode<M: EncoderModel<PRECISION, Symbol = usize, Probability = u32>>(
     alloc: Global,
     model: &M,
@@ -46,6 +46,11 @@ fn encode<M: EncoderModel<PRECISION, Symbol = usize, Probability = u32>>(
 /// Encodes the symbols in the input `text`, and returns the words as a line of numbers.
 ///
 /// Line 1 of the input has the weights, and line 2 has the symbols.
+///
+/// # Errors
+///
+/// Returns the faults of [`table_and_symbols`], `Encoder` if a symbol is impossible, or `OutOfMemory` if there is no
+/// memory.
 pub fn answer(alloc: Global, text: &[u8]) -> Result<Vec<u8>, Fault>
     ensures ok { IfOk result (λ answer. IsAnsEncoded text.now answer.items) }
     ensures err { IfErr result (EncodeFails text.now) }

@@ -32,7 +32,7 @@ fn coder_of(alloc: Global, words: Vec<u32>) -> Result<DefaultChainCoder, Fault>
     }
 }
 
-/// Decodes `count` symbols with `model`.
+/// Decodes `count` symbols from `coder` with `model`.
 ///
 /// Returns `OutOfData` if a decode needs a word and none is left, or `OutOfMemory` if there is no memory.
 fn decode<M: DecoderModel<PRECISION, Symbol = usize, Probability = u32>>(
@@ -58,7 +58,7 @@ fn decode<M: DecoderModel<PRECISION, Symbol = usize, Probability = u32>>(
     Ok(symbols)
 }
 
-/// Returns three lines of numbers, with `symbols`, `prefix` and `suffix`.
+/// Returns three lines of numbers: the symbols, the words `prefix` and the words `suffix`.
 fn three_lines(
     alloc: Global,
     symbols: &[usize],
@@ -79,6 +79,14 @@ fn three_lines(
 ///
 /// Line 1 of the input has the weights. Line 2 has the number of symbols, followed by the words. The lines returned
 /// have the symbols, the words that no decode used, and the words of the remainders, in this order.
+///
+/// # Errors
+///
+/// Returns the faults of [`table_and_words`], and these faults:
+///
+/// - `NoChain` if there is no word, if the only word is below `2^8`, or if the last word is 0.
+/// - `OutOfData` if a decode needs a word and none is left.
+/// - `OutOfMemory` if there is no memory.
 pub fn answer(alloc: Global, text: &[u8]) -> Result<Vec<u8>, Fault>
     ensures ok { IfOk result (λ answer. IsChainSplit text.now answer.items) }
     ensures err { IfErr result (ChainSplitFails text.now) }

@@ -1,6 +1,6 @@
 //! The command `golomb`, which encodes numbers with Exp-Golomb codewords.
 //!
-//! The command writes the codewords as binary digits, and the words of a queue of bits that holds the codewords.
+//! The command outputs the codewords as binary digits, and the words of a queue of bits that holds the codewords.
 
 ghost use Rattle.std.specs.Prelude.{◌≡◌, ◌%◌, ◌^◌, ◌++◌, map, flat_map, IfOk, IfErr, OnOk};
 ghost use Rattle.constriction_symbol.specs.Bits.{IsQueueWords};
@@ -17,7 +17,7 @@ use constriction_symbol::exp_golomb::ExpGolomb;
 use constriction_symbol::writing::WriteBitStream;
 use std::alloc::{AllocError, Global};
 
-/// Appends the codeword of `number` to `line`, as binary digits.
+/// Appends the Exp-Golomb codeword of `number` to `line`, as binary digits.
 fn push_codeword(alloc: Global, line: &mut Vec<u8>, number: u32) -> Result<(), AllocError>
     ensures { OnOk result (line.new.items ≡ line.old.items ++ digits (golomb number)) }
 {
@@ -25,7 +25,7 @@ fn push_codeword(alloc: Global, line: &mut Vec<u8>, number: u32) -> Result<(), A
     push_digits(line, bits.as_slice())
 }
 
-/// Returns a line of the codewords of `numbers`, separated by spaces.
+/// Returns a line of the codewords of `numbers` as binary digits, separated by spaces.
 fn line_of_codewords(alloc: Global, numbers: &[u32]) -> Result<Vec<u8>, AllocError>
     ensures { IfOk result (λ line. line.items ≡ golomb_line numbers.now) }
 {
@@ -40,7 +40,7 @@ fn line_of_codewords(alloc: Global, numbers: &[u32]) -> Result<Vec<u8>, AllocErr
     Ok(line)
 }
 
-/// Encodes `numbers` into a queue of bits, and returns the queue's words.
+/// Encodes `numbers` with Exp-Golomb codewords into a queue of bits, and returns the queue's words.
 fn queue_of(alloc: Global, numbers: &[u32]) -> Result<Vec<u32>, AllocError>
     ensures { IfOk result
         (λ words. IsQueueWords 32 (flat_map golomb numbers.now) (map (λ word. word % 2 ^ 32) words.items)) }
@@ -60,6 +60,10 @@ fn queue_of(alloc: Global, numbers: &[u32]) -> Result<Vec<u32>, AllocError>
 ///
 /// The first line has the codewords as binary digits. The second line has the words of the queue that holds the
 /// codewords' bits.
+///
+/// # Errors
+///
+/// Returns `BadNumber` if line 1 isn't a list of 32-bit numbers, or `OutOfMemory` if there is no memory.
 pub fn answer(alloc: Global, text: &[u8]) -> Result<Vec<u8>, Fault>
     ensures ok { IfOk result (λ answer. IsGolomb text.now answer.items) }
     ensures err { IfErr result (GolombFails text.now) }

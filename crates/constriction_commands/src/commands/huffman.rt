@@ -1,4 +1,4 @@
-//! The command `huffman`, which writes the codewords of a Huffman tree as binary digits.
+//! The command `huffman`, which builds a Huffman tree from weights and outputs its codewords as binary digits.
 
 ghost use Rattle.std.specs.Prelude.{IfErr, IfOk, OnOk, length, ◌++◌, ◌≡◌};
 ghost use Rattle.constriction_symbol.specs.Huffman.{IsHuffman, book_of, leaves, path};
@@ -13,8 +13,12 @@ use std::alloc::{AllocError, Global};
 
 /// Builds the Huffman tree of the symbols 0, 1, .. with the weights `weights`.
 ///
-/// Returns a fault if there are no weights or more than `2^62 - 1`, if the sum of the weights has more than 64 bits, or
-/// if there is no memory.
+/// # Errors
+///
+/// - `NoWeights` if there is no weight.
+/// - `TooManySymbols` if there are more than `2^62 - 1` weights.
+/// - `WeightOverflow` if the sum of the weights has more than 64 bits.
+/// - `OutOfMemory` if there is no memory for the tree.
 fn make_tree(alloc: Global, weights: &[usize]) -> Result<EncoderHuffmanTree, Fault>
     ensures ok { IfOk result (λ tree. IsHuffman weights.now (book_of tree)) }
     ensures err { IfErr result (TreeFails weights.now) }
@@ -29,7 +33,7 @@ fn make_tree(alloc: Global, weights: &[usize]) -> Result<EncoderHuffmanTree, Fau
     }
 }
 
-/// Appends the codeword of `symbol` to `line`, as binary digits, or a hyphen for the empty codeword.
+/// Appends the codeword of `symbol` in `tree` to `line`, as binary digits, or a hyphen for the empty codeword.
 fn push_codeword(
     alloc: Global,
     line: &mut Vec<u8>,
@@ -46,7 +50,7 @@ fn push_codeword(
     push_digits(line, bits.as_slice())
 }
 
-/// Returns a line of the codewords of `tree`, separated by spaces.
+/// Returns a line of the codewords of `tree` as binary digits, in the order of the symbols, separated by spaces.
 fn line_of_codewords(alloc: Global, tree: &EncoderHuffmanTree) -> Result<Vec<u8>, AllocError>
     ensures { IfOk result (λ line. line.items ≡ codewords_line (length (leaves tree.now)) (path tree.now)) }
 {
@@ -65,6 +69,11 @@ fn line_of_codewords(alloc: Global, tree: &EncoderHuffmanTree) -> Result<Vec<u8>
 ///
 /// Line 1 of the input has the weights of the symbols 0, 1, .. in order. The line returned has the codewords in the
 /// same order, as binary digits. A hyphen stands for the empty codeword.
+///
+/// # Errors
+///
+/// Returns `BadNumber` if line 1 isn't a list of 64-bit numbers, `OutOfMemory` if there is no memory, or a fault of
+/// [`make_tree`].
 pub fn answer(alloc: Global, text: &[u8]) -> Result<Vec<u8>, Fault>
     ensures ok { IfOk result (λ answer. IsHuffmanLine text.now answer.items) }
     ensures err { IfErr result (HuffmanFails text.now) }

@@ -1,6 +1,6 @@
 //! The command `store`, which builds a store of chunks and looks up some of them.
 //!
-//! The command writes the words of the store, and the symbols of each chunk that it looks up.
+//! The command outputs the words of the store, and the symbols of each chunk that it looks up.
 
 ghost use Rattle.std.specs.Prelude.{◌≡◌, ◌++◌, List, ℕ, length, IfOk, IfErr, OnOk};
 ghost use Rattle.constriction_base.specs.WeightTables.{entries, model_of};
@@ -18,13 +18,16 @@ use constriction_base::model::{DecoderModel, EncoderModel, EntropyModel};
 use constriction_store::{BuildError, ChunkError, Store};
 use std::alloc::Global;
 
-/// A store of 32-bit words.
+/// A store of 32-bit words, whose chunks are encoded with a [`Table`].
 type Chunks = Store<u32, u64, Table, PRECISION>;
 
 /// Builds the store of `chunks` with the model `table`.
 ///
-/// Returns a fault if the chunks have more than `2^20` symbols in total, if a symbol is impossible, or if there is no
-/// memory.
+/// # Errors
+///
+/// - `TooManySymbols` if the chunks have more than `2^20` symbols in total.
+/// - `Encoder` if a symbol is impossible.
+/// - `OutOfMemory` if there is no memory for the store.
 fn store_of(alloc: Global, chunks: &[Vec<usize>], table: Table) -> Result<Chunks, Fault>
     ensures words { IfOk result (λ store. AreWordsOf (entries table) (lists_of chunks.now) store.words) }
     ensures held { IfOk result (λ store. HoldsChunks 32 64 (model_of store.model) store.words store.index
@@ -43,7 +46,7 @@ fn store_of(alloc: Global, chunks: &[Vec<usize>], table: Table) -> Result<Chunks
 
 /// Looks up the chunks with the indices `places`, and appends a line of symbols for each chunk to `lines`.
 ///
-/// Returns `NoSuchChunk` if an index is past the last chunk, or `OutOfMemory` if there is no memory.
+/// Returns `NoSuchChunk` if an index is at least the number of chunks, or `OutOfMemory` if there is no memory.
 fn push_chunks(
     alloc: Global,
     lines: &mut Vec<u8>,
@@ -74,6 +77,10 @@ fn push_chunks(
 /// Line 1 of the input has the weights. Line 2 has the indices of the chunks to look up. The index of the first chunk
 /// is 0. Each further line has the symbols of one chunk. The first line returned has the words of the store. Each
 /// further line returned has the symbols of one chunk that the call looked up, in the order of line 2.
+///
+/// # Errors
+///
+/// Returns the faults of [`table_and_chunks`], of [`store_of`] and of [`push_chunks`].
 pub fn answer(alloc: Global, text: &[u8]) -> Result<Vec<u8>, Fault>
     ensures ok { IfOk result (λ answer. IsStored text.now answer.items) }
     ensures err { IfErr result (StoreFails text.now) }

@@ -1,4 +1,4 @@
-//! Parses weights, indices of chunks to look up, and chunks.
+//! Parses the input of the command `store`: weights, the indices of chunks to look up, and chunks.
 
 ghost use Rattle.std.specs.Prelude.{IfOk, IfErr};
 ghost use Rattle.constriction_store.specs.Chunks.{lists_of};
@@ -15,11 +15,13 @@ pub type Given = (Table, Vec<usize>, Vec<Vec<usize>>);
 
 /// Parses line 1 as weights, line 2 as the indices of the chunks to look up, and each further line as a chunk.
 ///
-/// Returns a fault in each of these cases:
+/// # Errors
 ///
-/// - A line isn't a list of numbers that fit their type.
-/// - There are no weights, or the weights don't add up to `2^24`.
-/// - There is no memory.
+/// Returns `OutOfMemory` if there is no memory. The call checks for the other errors in this order:
+///
+/// - `BadNumber` if a line isn't a list of numbers that fit their type (32 bits for weights, 64 bits for the others).
+/// - `NoWeights` if there is no weight.
+/// - `WrongTotal` if the weights don't add up to `2^24`.
 pub fn table_and_chunks(alloc: Global, text: &[u8]) -> Result<Given, Fault>
     ensures ok { IfOk result (λ given. GivesChunks text.now (⟦<Table as EntropyModel<PRECISION>>⟧.table given.0)
         given.1.items (lists_of given.2.items)) }

@@ -1,4 +1,4 @@
-//! Parses weights and symbols.
+//! Parses the input of the commands that encode symbols: weights, and symbols.
 
 ghost use Rattle.std.specs.Prelude.{IfOk, IfErr};
 ghost use Rattle.constriction_commands.specs.Inputs.{GivesSymbols, NoSymbols};
@@ -12,11 +12,13 @@ use std::alloc::Global;
 
 /// Parses line 1 as the weights of a table, and line 2 as symbols.
 ///
-/// Returns a fault in each of these cases:
+/// # Errors
 ///
-/// - A line isn't a list of numbers that fit their type.
-/// - There are no weights, or the weights don't add up to `2^24`.
-/// - There is no memory.
+/// Returns `OutOfMemory` if there is no memory. The call checks for the other errors in this order:
+///
+/// - `BadNumber` if a line isn't a list of numbers that fit their type (32 bits for weights, 64 bits for symbols).
+/// - `NoWeights` if there is no weight.
+/// - `WrongTotal` if the weights don't add up to `2^24`.
 pub fn table_and_symbols(alloc: Global, text: &[u8]) -> Result<(Table, Vec<usize>), Fault>
     ensures ok { IfOk result
         (λ given. GivesSymbols text.now (⟦<Table as EntropyModel<PRECISION>>⟧.table given.0) given.1.items) }

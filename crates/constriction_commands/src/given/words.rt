@@ -1,4 +1,4 @@
-//! Parses weights, a count of symbols, and words.
+//! Parses the input of the commands that decode words: weights, the number of symbols, and the words.
 
 ghost use Rattle.std.specs.Prelude.{◌≡◌, ◌⊎◌, ◌<◌, ◌≤◌, ℕ, List, ◌∷◌, [], IfOk, IfErr};
 ghost use Rattle.constriction_commands.specs.Inputs.{GivesWords, NoWords, most};
@@ -11,17 +11,17 @@ use crate::weights::{PRECISION, Table, make_table};
 use constriction_base::model::EntropyModel;
 use std::alloc::Global;
 
-/// The greatest count of symbols.
+/// The greatest number of symbols that an input can ask a command to decode: `2^24`.
 ///
-/// [`table_and_words`] parses the count as a 32-bit number, like the words. A count above `MOST` is a `bad number`.
+/// A greater number gives the fault `BadNumber`, even if it fits 32 bits.
 const MOST: u32 = 16_777_216;
 
-/// Removes the first number from `numbers`, and returns it as the count of symbols.
+/// Removes the first number from `numbers`, and returns it as the number of symbols to decode.
 ///
 /// # Errors
 ///
 /// - `NoCount` if `numbers` is empty.
-/// - `BadNumber` if the count is above `MOST`.
+/// - `BadNumber` if the first number is above [`MOST`].
 fn take_count(numbers: &mut Vec<u32>) -> Result<u32, Fault>
     ensures ok { IfOk result (λ count. (numbers.old.items ≡ count ∷ numbers.new.items) × (count ≤ most)) }
     ensures err { IfErr result (λ fault. ((fault ≡ NoCount) × (numbers.old.items ≡ []))
@@ -38,14 +38,17 @@ fn take_count(numbers: &mut Vec<u32>) -> Result<u32, Fault>
     Ok(count)
 }
 
-/// Parses line 1 as the weights of a table, and line 2 as a count of symbols followed by words.
+/// Parses line 1 as the weights of a table, and line 2 as the number of symbols followed by the words.
 ///
-/// Returns a fault in each of these cases:
+/// # Errors
 ///
-/// - A line isn't a list of numbers that fit their type.
-/// - The count is missing or above `MOST`.
-/// - There are no weights, or the weights don't add up to `2^24`.
-/// - There is no memory.
+/// Returns `OutOfMemory` if there is no memory. The call checks for the other errors in this order:
+///
+/// - `BadNumber` if a line isn't a list of 32-bit numbers.
+/// - `NoCount` if line 2 has no numbers.
+/// - `BadNumber` if the number of symbols is above [`MOST`].
+/// - `NoWeights` if there is no weight.
+/// - `WrongTotal` if the weights don't add up to `2^24`.
 pub fn table_and_words(alloc: Global, text: &[u8]) -> Result<(Table, u32, Vec<u32>), Fault>
     ensures ok { IfOk result
         (λ given. GivesWords text.now (⟦<Table as EntropyModel<PRECISION>>⟧.table given.0) given.1 given.2.items) }

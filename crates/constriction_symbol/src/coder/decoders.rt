@@ -1,4 +1,6 @@
-//! Conversion of bit coders to readers of the same bits.
+//! Turns bit coders into decoders and iterators of the same bits.
+//!
+//! A decoder of a queue also returns the zeros that complete the last word.
 
 ghost use Rattle.constriction_symbol.specs.Bits.{PadsTo, ReadsWritten, bits_of_words};
 ghost use Rattle.std.specs.Prelude.{IfErr, IfOk, [], map, ◌≡◌};
@@ -65,7 +67,7 @@ impl<
 }
 
 impl<Word: BitArray, B: IntoReadWords<Word, Stack>> StackCoder<Word, B> {
-    /// Turns the stack into a decoder with the same bits, over a backend for reading.
+    /// Turns the stack into a decoder with the same bits, whose backend is the stack's backend turned into a reader.
     pub fn into_decoder(self) -> StackCoder<Word, B::IntoReadWords>
         ensures bits { result.bits ≡ self.bits }
         ensures last { result.last ≡ self.last }

@@ -1,6 +1,6 @@
 //! Guards that lend a coder's compressed words.
 //!
-//! A guard appends to the coder's vector the words that an export would add. Its drop removes these words.
+//! A guard appends to the coder's vector the words that an export would add. Dropping the guard removes these words.
 
 ghost use Rattle.constriction_symbol.specs.Bits.{IsQueueWords, IsStackWords};
 ghost use Rattle.constriction_symbol.specs.Guards.{LacksEnd, LacksRest, SameBits, bits_without};
@@ -17,17 +17,17 @@ use std::fmt;
 
 /// A guard that lends all compressed words of a coder until the guard is dropped.
 ///
-/// The guard appends to the coder's vector the words that an export would add. The drop removes these words, and
-/// allocates nothing. A guard that is never dropped leaves these words in the vector.
+/// The guard appends to the coder's vector the words that an export would add. Dropping the guard removes these words,
+/// and allocates nothing. A guard that is never dropped leaves these words in the vector.
 pub struct CoderGuard<'a, Word: BitArray, S: Semantics, A: Allocator = Global> {
     inner: &'a mut SymbolCoder<Word, S, Vec<Word, A>>,
     count: usize,
 }
 
-/// The guard of a stack of bits. See [`StackCoder::get_compressed`] for an example.
+/// A guard that lends the words of a stack of bits. See [`StackCoder::get_compressed`] for an example.
 pub type StackCoderGuard<'a, Word, A = Global> = CoderGuard<'a, Word, Stack, A>;
 
-/// The guard of a queue of bits, which [`QueueEncoder::get_compressed`] returns.
+/// A guard that lends the words of a queue of bits. [`QueueEncoder::get_compressed`] returns this guard.
 pub type QueueEncoderGuard<'a, Word, A = Global> = CoderGuard<'a, Word, Queue, A>;
 
 impl<'a, Word: BitArray, S: Semantics, A: Allocator> CoderGuard<'a, Word, S, A> {
@@ -65,10 +65,11 @@ impl<Word: BitArray + fmt::Debug, S: Semantics, A: Allocator> fmt::Debug
 }
 
 impl<Word: BitArray, A: Allocator> StackCoder<Word, Vec<Word, A>> {
-    /// Writes the words that end the bits, and returns the number of words written.
+    /// Appends the words that complete an export to the vector, and returns the number of words appended.
     ///
-    /// The call writes two words if the word outside the vector is full, else one. It leaves the bits outside the
-    /// vector unchanged. If there is no memory, the call returns `AllocError`, and the coder's bits are unchanged.
+    /// The words have the bits outside the vector, a 1 that ends the bits, and zeros. The call appends two words if
+    /// the word outside the vector is full, else one. The call leaves the bits outside the vector as they are. If
+    /// there is no memory, the call returns `AllocError`, and the coder's bits are unchanged.
     fn put_end(&mut self) -> Result<usize, AllocError>
         ensures shows { OnOk result (IsStackWords Word.BITS self.old.bits (map Word.number self.new.backend.items)) }
         ensures back { IfOk result (λ count. bits_without Word.BITS Word.number count self.new ≡ self.old.bits) }
@@ -104,10 +105,11 @@ impl<Word: BitArray, A: Allocator> StackCoder<Word, Vec<Word, A>> {
 }
 
 impl<Word: BitArray, A: Allocator> QueueEncoder<Word, Vec<Word, A>> {
-    /// Writes the bits outside the vector as one word, and returns the number of words written.
+    /// Appends the bits outside the vector as one word, and returns the number of words appended (0 or 1).
     ///
-    /// If there are no bits outside the vector, the call writes nothing. The call leaves the bits outside the vector
-    /// unchanged. If there is no memory, the call returns `AllocError`, and the coder's bits are unchanged.
+    /// Zeros complete the word. If there are no bits outside the vector, the call appends nothing. The call leaves the
+    /// bits outside the vector as they are. If there is no memory, the call returns `AllocError`, and the coder's bits
+    /// are unchanged.
     fn put_rest(&mut self) -> Result<usize, AllocError>
         ensures shows { OnOk result (IsQueueWords Word.BITS self.old.bits (map Word.number self.new.backend.items)) }
         ensures back { IfOk result (λ count. bits_without Word.BITS Word.number count self.new ≡ self.old.bits) }

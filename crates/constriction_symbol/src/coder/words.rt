@@ -1,4 +1,6 @@
 //! Import and export of the words of bit coders.
+//!
+//! The words of a stack mark the end of the bits with a 1. The words of a queue don't mark the end.
 
 ghost use Rattle.constriction_base.specs.Backends.{IsWrite};
 ghost use Rattle.constriction_base.specs.declared.errors.CoderError.TheVariants as coder_error;
@@ -97,9 +99,9 @@ impl<Word: BitArray, B: ReadWords<Word, Stack>> StackCoder<Word, B> {
 }
 
 impl<Word: BitArray, B: WriteWords<Word>> QueueEncoder<Word, B> {
-    /// Returns the words of the queue.
+    /// Returns the words of the queue: its bits, and zeros up to a whole word.
     ///
-    /// If the bits don't fill the last word, zeros complete that word. An empty queue has no words.
+    /// An empty queue has no words.
     ///
     /// # Errors
     ///

@@ -12,7 +12,9 @@ use crate::turning::same_number;
 use constriction_words::BitArray;
 use std::alloc::{AllocError, Global};
 
-/// Returns `above` with `bit` (0 or 1) appended, or 0 if `above` is 0 or the result doesn't fit a `usize`.
+/// Returns the number that stores a child's codeword: its parent's number `above`, with `bit` (0 or 1) appended.
+///
+/// Returns 0 if `above` is 0, or if the result doesn't fit a `usize`.
 fn codeword_below(above: usize, bit: usize) -> usize
     requires { bit < 2 }
     ensures { OneBitMore above bit result }
@@ -23,10 +25,10 @@ fn codeword_below(above: usize, bit: usize) -> usize
     2 * above + bit
 }
 
-/// Returns each node's codeword, stored as one number, given the list that `parents_of` returns.
+/// Returns each node's codeword, stored as one number. `nodes` is the list that `parents_of` returns.
 ///
 /// The number is a leading 1 followed by the codeword from its first bit to its last. The number is 0 if the codeword
-/// has `usize::BITS` bits or more.
+/// has `usize::BITS` bits or more. If there is no memory for the list, the call returns `AllocError`.
 pub fn codewords_of(alloc: Global, nodes: &[usize]) -> Result<Vec<usize>, AllocError>
     requires rising { GoesUp (length nodes.now) nodes.now }
     ensures { IfOk result (λ codewords. HasCodewords nodes.now codewords.items) }

@@ -1,4 +1,4 @@
-//! Collects weights from iterators.
+//! Collects the weights for a Huffman tree from iterators.
 
 ghost use Rattle.constriction_symbol.specs.Merging.{GivesWeights, LendsWeights, StopsGiving, StopsLending};
 ghost use Rattle.std.specs.Iterator.{IsFiniteIterable};
@@ -9,7 +9,7 @@ use constriction_stream::encoding::Lent;
 use constriction_words::BitArray;
 use std::alloc::{AllocError, Global};
 
-/// Collects the weights of an iterator of `Result`s, up to the first error.
+/// Collects the weights of an iterator of `Result`s, in order. Stops at the first error.
 ///
 /// # Errors
 ///
@@ -41,7 +41,7 @@ where
     Ok(weights)
 }
 
-/// Collects the weights that the items of `probabilities` lend.
+/// Collects the weights that the items of `probabilities` lend ([`Lent`]), in order.
 ///
 /// # Errors
 ///

@@ -1,4 +1,4 @@
-//! Huffman trees for decoding, which lead from the root to the symbols.
+//! `DecoderHuffmanTree`: a Huffman tree that decodes a symbol by walking from the root to the symbol's leaf.
 
 ghost use Rattle.constriction_symbol.specs.Codewords.{BeginsTopBits, GivesBits, StopsWithin};
 ghost use Rattle.constriction_symbol.specs.Bits.{top_bits};
@@ -23,7 +23,7 @@ use std::alloc::{AllocError, Global};
 use std::convert::Infallible;
 use std::marker::Model;
 
-/// A Huffman tree for decoding, with a codeword for each of the symbols `0`, `1`, ..
+/// A Huffman tree for decoding, with a codeword for each symbol from 0 to `num_symbols() - 1`.
 ///
 /// No prefix-free codebook has a lower sum of weight times codeword length for the same weights. Contracts describe a
 /// `DecoderHuffmanTree` by a tree whose leaves are the symbols. The codeword of a symbol is the path from the root to
@@ -44,7 +44,7 @@ pub struct DecoderHuffmanTree {
     nodes: Vec<[usize; 2]>,
     /// The decoding table: entry `1xyz` (binary) is the [`Place`] that the bits `x`, `y`, `z` lead to.
     places: Vec<Place>,
-    /// The number of bits that the table looks up.
+    /// The number of bits that one look-up in `places` reads.
     most: u32,
 }
 
@@ -89,7 +89,10 @@ impl Clone for DecoderHuffmanTree {
     }
 }
 
-/// Builds the Huffman tree of `weights`.
+/// Builds the Huffman tree of `weights`. The symbols are the indices of the weights.
+///
+/// Returns the errors of [`merged_pairs`], whose `most` is `usize::MAX / 2`. Also returns `Memory` if there is no
+/// memory for the tree.
 fn tree_of<P: BitArray, E>(
     alloc: Global,
     weights: &[P],
@@ -157,12 +160,13 @@ impl DecoderHuffmanTree {
     ///
     /// # Errors
     ///
-    /// The call first collects the weights. It stops at the first item that fails:
+    /// The call first collects the weights. It stops at the first item that it can't collect:
     ///
     /// - `Iterator(error)` if the item is `Err(error)`.
     /// - `Memory` if there is no memory for the item's weight.
     ///
-    /// If no item fails, the call returns the same errors as [`DecoderHuffmanTree::from_probabilities`].
+    /// If the call collects all weights, it returns the errors of [`DecoderHuffmanTree::from_probabilities`] for these
+    /// weights.
     ///
     /// # Examples
     ///
@@ -254,7 +258,10 @@ impl DecoderCodebook for DecoderHuffmanTree {
     }
 }
 
-/// Walks from the root of a tree to a symbol, and returns the symbol. The walk reads one bit at each inner node.
+/// Walks from the root of a tree to a symbol, and returns the symbol.
+///
+/// The walk reads one bit from `source` at each inner node. If a read fails, the call returns the error of
+/// [`next_bit`].
 #[inline]
 fn walk<V, E, I: Iterator<Item = Result<bool, E>>>(
     nodes: &[[usize; 2]],

@@ -1,4 +1,4 @@
-//! Huffman trees for encoding, which lead from the symbols to the root.
+//! `EncoderHuffmanTree`: a Huffman tree that encodes a symbol by climbing from the symbol's leaf to the root.
 
 ghost use Rattle.constriction_symbol.specs.Huffman.{leaves, path};
 ghost use Rattle.constriction_symbol.specs.HuffmanLaws.{path_prefix_free, same_path};
@@ -22,7 +22,7 @@ use std::alloc::{AllocError, Global};
 use std::convert::Infallible;
 use std::marker::Model;
 
-/// A Huffman tree for encoding, with a codeword for each of the symbols `0`, `1`, ..
+/// A Huffman tree for encoding, with a codeword for each symbol from 0 to `num_symbols() - 1`.
 ///
 /// No prefix-free codebook has a lower sum of weight times codeword length for the same weights. Contracts describe an
 /// `EncoderHuffmanTree` by a tree whose leaves are the symbols. The codeword of a symbol is the path from the root to
@@ -64,7 +64,10 @@ impl Model for EncoderHuffmanTree {
         × HasCodewords t.nodes.items t.codewords.items };
 }
 
-/// Builds the Huffman tree of `weights`.
+/// Builds the Huffman tree of `weights`. The symbols are the indices of the weights.
+///
+/// Returns the errors of [`merged_pairs`], whose `most` is `usize::MAX / 4`. Also returns `Memory` if there is no
+/// memory for the tree.
 fn tree_of<P: BitArray, E>(
     alloc: Global,
     weights: &[P],
@@ -141,12 +144,13 @@ impl EncoderHuffmanTree {
     ///
     /// # Errors
     ///
-    /// The call first collects the weights. It stops at the first item that fails:
+    /// The call first collects the weights. It stops at the first item that it can't collect:
     ///
     /// - `Iterator(error)` if the item is `Err(error)`.
     /// - `Memory` if there is no memory for the item's weight.
     ///
-    /// If no item fails, the call returns the same errors as [`EncoderHuffmanTree::from_probabilities`].
+    /// If the call collects all weights, it returns the errors of [`EncoderHuffmanTree::from_probabilities`] for these
+    /// weights.
     ///
     /// # Examples
     ///

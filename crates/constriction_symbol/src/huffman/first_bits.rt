@@ -1,8 +1,10 @@
-//! The table of first bits of a decoding tree: the nodes that the first bits of codewords lead to from the root.
+//! The decoding table of a Huffman tree: for each value of the next bits, the node that they lead to from the root.
 //!
-//! The index of an entry is a leading 1 followed by the bits. Entry `n` follows from entry `n / 2` and one more bit, so
-//! one loop fills the table. The table looks up one bit more than the longest codeword would have if all weights were
-//! equal, and at most 9 bits. So a small tree has a small table.
+//! With the table, a decode looks up several bits at once instead of following them node by node.
+//!
+//! The index of an entry is a leading 1 followed by the bits, as a binary number. Entry `n` follows from entry `n / 2`
+//! and one more bit, so one loop fills the table. The table looks up one bit more than the longest codeword would have
+//! if all weights were equal, and at most 9 bits. So a small tree has a small table.
 
 ghost use Rattle.constriction_symbol.specs.DecoderTree.{HasPlaces, HoldsTree, IsPlace, IsTopPlace, tree_of_pairs};
 ghost use Rattle.std.specs.Prelude.{Bool, IfOk, List, [], length, ◌+◌, ◌++◌, ◌<◌, ◌==◌, ◌^◌, ◌∷◌, ◌≡◌, ◌≤◌, ℕ};
@@ -10,7 +12,7 @@ ghost use Rattle.std.specs.Prelude.{Bool, IfOk, List, [], length, ◌+◌, ◌++
 use constriction_words::BitArray;
 use std::alloc::{AllocError, Global};
 
-/// The largest number of bits that the table looks up. A table of 9 bits takes 16 KiB.
+/// The largest number of bits that one look-up in the decoding table reads. A table for 9 bits takes 16 KiB.
 const MOST: u32 = 9;
 
 /// The node that a list of bits leads to from the root.
@@ -23,7 +25,7 @@ pub struct Place {
     pub taken: u32,
 }
 
-/// Returns the number of bits that the table of a tree with `nodes` inner nodes looks up.
+/// Returns the number of bits that one look-up reads in the decoding table of a tree with `nodes` inner nodes.
 ///
 /// The number is one more than the longest codeword would have if all weights were equal, and at most `MOST`.
 fn most_of(nodes: usize) -> u32
@@ -34,7 +36,9 @@ fn most_of(nodes: usize) -> u32
     if count < MOST { count } else { MOST }
 }
 
-/// Returns the place that `bit` (0 or 1) leads to from `place`, or `place` itself if `place` is a symbol.
+/// Returns the place that `bit` (0 or 1) leads to from `place`, or `place` itself if it holds a symbol.
+///
+/// `nodes` lists the two children of each inner node.
 fn place_below(nodes: &[[usize; 2]], place: Place, bit: usize) -> Place
     requires tree { HoldsTree nodes.now (tree_of_pairs nodes.now) }
     requires place { (bits : List Bool) × (length bits < 32) × IsPlace nodes.now bits place }
@@ -52,10 +56,10 @@ fn place_below(nodes: &[[usize; 2]], place: Place, bit: usize) -> Place
     }
 }
 
-/// Returns the decoding table, and the number of bits that the table looks up.
+/// Returns the decoding table of a tree, and the number of bits that one look-up reads.
 ///
 /// `nodes` lists the two children of each inner node. The root comes last. Entry `1xyz` (binary) of the table is the
-/// [`Place`] that the bits `x`, `y`, `z` lead to.
+/// [`Place`] that the bits `x`, `y`, `z` lead to. If there is no memory for the table, the call returns `AllocError`.
 pub fn places_of(alloc: Global, nodes: &[[usize; 2]]) -> Result<(Vec<Place>, u32), AllocError>
     requires tree { HoldsTree nodes.now (tree_of_pairs nodes.now) }
     ensures some { IfOk result (λ table. 0 < table.1) }
@@ -90,8 +94,8 @@ fn lesser(most: u32, all: u32) -> u32
 
 /// Looks up the node of the decoder's tree that the highest bits of `bits` lead to.
 ///
-/// `places` is the table of first bits, with `2^(most + 1)` entries. The result holds the node or the symbol, and the
-/// number of bits taken, at most `Word::BITS`.
+/// `places` is the decoding table, with `2^(most + 1)` entries for up to `most` bits. The result holds the node or the
+/// symbol, and the number of bits taken, at most `Word::BITS`.
 #[inline]
 pub fn place_of<Word: BitArray>(places: &[Place], most: u32, bits: Word) -> Place
     requires some { 0 < most }

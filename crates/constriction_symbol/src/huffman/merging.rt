@@ -4,8 +4,8 @@
 //! weighs less than an earlier union. So the least tree is the first leaf or the first union that is left. If both have
 //! the same weight, the leaf is the lesser, because leaves have lower indices than unions.
 //!
-//! The constructors collect the weights before the merge, because the merge requires that the sum of the weights fits
-//! their type. Collecting lent weights may fail with `Memory` at each weight.
+//! The constructors of Huffman trees collect all weights before the merge, because the merge requires that the sum of
+//! the weights fits their type. Collecting may fail with `Memory` at each weight.
 
 ghost use Rattle.constriction_symbol.specs.Huffman.{IsPairLe, keys_from};
 ghost use Rattle.constriction_symbol.specs.Merging.{ArePairs, FitTree, MakeNoTree, all_keys, key_of, keys_of};
@@ -34,7 +34,7 @@ pub fn total_fits<P: BitArray>(weights: &[P]) -> bool
     true
 }
 
-/// Returns the weights with their indices, sorted by weight and then by index.
+/// Returns a queue of the weights with their indices, sorted by weight and then by index.
 fn sorted_leaves<P: BitArray>(
     alloc: Global,
     weights: &[P],
@@ -54,9 +54,10 @@ fn sorted_leaves<P: BitArray>(
     Ok(VecDeque::from_vec(leaves))
 }
 
-/// Removes the least tree of both queues and returns it, or returns `None` if both queues are empty.
+/// Removes the least tree in the two queues and returns it, or returns `None` if both queues are empty.
 ///
-/// If a leaf and a union have the same weight, the leaf is the lesser.
+/// `leaves` holds the trees of symbols, and `unions` holds the trees that merges created. If a leaf and a union have
+/// the same weight, the leaf is the lesser.
 fn take_least<P: BitArray>(
     leaves: &mut VecDeque<Weighed<P>>,
     unions: &mut VecDeque<Weighed<P>>,
@@ -85,7 +86,7 @@ fn take_least<P: BitArray>(
     }
 }
 
-/// Merges the two trees of least weight until one tree is left. At first, each weight is a tree.
+/// Merges the two trees of least weight until one tree is left. At first, each weight has a tree of its own.
 ///
 /// Returns the indices of the two trees of each merge, in the order of the merges. The tree of `weights[i]` has index
 /// `i`. The trees that merges create have the next indices, starting at `weights.len()`.
@@ -113,7 +114,9 @@ fn merge_all<P: BitArray>(alloc: Global, weights: &[P]) -> Result<Vec<[usize; 2]
     Ok(pairs)
 }
 
-/// Returns the indices of the two trees that each merge joins, in order of the merges, for at most `most` weights.
+/// Merges the trees of at most `most` weights, and returns the indices of the two trees of each merge, in order.
+///
+/// The indices are those that [`merge_all`] returns. The caller proves that `2 * most` fits a `usize`.
 ///
 /// # Errors
 ///

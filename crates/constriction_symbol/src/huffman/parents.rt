@@ -1,4 +1,4 @@
-//! The parent of each node of a tree, and the climb from a symbol to the root.
+//! The parent of each node of a Huffman tree, and the climb from a symbol to the root, which finds a codeword.
 
 ghost use Rattle.constriction_symbol.specs.Codewords.{Emits};
 ghost use Rattle.constriction_symbol.specs.Huffman.{AreUnions, GoesUp, IsParents, climbed};
@@ -10,7 +10,8 @@ use std::alloc::{AllocError, Global};
 
 /// Returns a number for each node: twice its parent's index, plus 1 for a second child, or 0 for the root.
 ///
-/// `pairs` lists the two children of each inner node. The root comes last in `pairs` and in the result.
+/// `pairs` lists the two children of each inner node. The root comes last in `pairs` and in the result. If there is no
+/// memory for the result, the call returns `AllocError`.
 pub fn parents_of(alloc: Global, pairs: &[[usize; 2]]) -> Result<Vec<usize>, AllocError>
     requires unions { AreUnions (length pairs.now + 1) (map as_pair pairs.now) }
     requires fits { 4 * length pairs.now + 4 < 2 ^ 64 }
@@ -29,7 +30,8 @@ pub fn parents_of(alloc: Global, pairs: &[[usize; 2]]) -> Result<Vec<usize>, All
 
 /// Emits the codeword of a symbol from the last bit to the first, climbing from the symbol's leaf to the root.
 ///
-/// `nodes` is the list that [`parents_of`] returns.
+/// `nodes` is the list that [`parents_of`] returns. The call stops at the first error of `emit`, and returns
+/// `Backend(error)`.
 #[inline]
 pub fn climb<E, F: FnMut(bool) -> Result<(), E>>(
     nodes: &[usize],
