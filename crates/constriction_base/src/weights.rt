@@ -192,7 +192,7 @@ impl<Probability: BitArray, const PRECISION: usize> WeightTable<Probability, PRE
         })
     }
 
-    /// Adds the reciprocal of each weight if the precision is at most 63 bits. The entries stay the same.
+    /// Adds the reciprocal of each weight to the table if the precision is at most 63 bits. The entries stay the same.
     fn with_reciprocals(mut self, alloc: Global) -> Result<Self, AllocError>
         ensures kept { IfOk result (λ t. entries t ≡ entries self) }
         ensures reciprocals { IfOk result (λ t. PRECISION ≤ 63 → KeepsReciprocals t) }

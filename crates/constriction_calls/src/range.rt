@@ -11,16 +11,15 @@
 //!
 //! # Errors
 //!
-//! A call that fails changes nothing. Each call first checks for these errors, in this order:
+//! A call that fails changes nothing. Each call first returns the first of these errors whose case holds:
 //!
-//! - `WrongLength` if and only if `len` or the decoder's position is past the buffer's end, or an index of the weights
-//!   doesn't fit the type of the decoded symbols.
-//! - `WrongLength`, `WrongInterval` or `WrongWeights` if and only if the call takes models, and
-//!   [`constriction_inputs::models::Models::check`] returns the error.
-//! - `InvalidData` if and only if the caller's numbers aren't those of any encoder or decoder, or the number of pending
-//!   words plus the number of symbols to encode is above `2^64 - 18`.
+//! - `WrongLength`: `len` or the decoder's position is past the buffer's end, or an index of the weights doesn't fit the
+//!   type of the decoded symbols.
+//! - The error of [`constriction_inputs::models::Models::check`], if the call takes models and the check fails.
+//! - `InvalidData`: no encoder or decoder has the numbers that the caller passed, or the number of pending words plus
+//!   the number of symbols to encode is above `2^64 - 18`.
 //!
-//! Only then does the call check for the errors that its own documentation lists.
+//! If none of these cases holds, the call checks for the errors that its own documentation lists.
 
 pub mod decoding;
 pub mod encoding;

@@ -92,9 +92,9 @@ fn divided<State: BitArray>(
 
 /// Encodes the symbol of the interval `[left, left + p)`, and returns the new compressed head and remainders head.
 ///
-/// If the remainders head is too low to be divided by `p`, the call first reads a word of the remainders into the head.
-/// It divides the head by `p`. The remainder plus `left` is the quantile, and the call puts it back onto the compressed
-/// side. The quotient becomes the new remainders head.
+/// If the remainders head is below `p * 2^(State::BITS - Word::BITS - precision)`, the call first reads a word of the
+/// remainders into it. Then the call divides the head by `p`. The remainder plus `left` is the quantile, which the call
+/// puts back onto the compressed side. The quotient becomes the new remainders head.
 #[inline(always)]
 fn give_at<Word: WordOf<State>, State: BitArray, C: WriteWords<Word>, R: ReadWords<Word, Stack>>(
     compressed: &mut C,

@@ -50,7 +50,10 @@ pub fn located(values: &[u64], wide: u64, rate: u64, middle: i64, place: i64) ->
     value_at(values, far as u64 * rate / 68719476736)
 }
 
-/// Estimates where a table reaches `below` (in units of `2^-32`). The result is in 65536ths of the table's spacing.
+/// Estimates where a table of a distribution function reaches `below` (in units of `2^-32`), by interpolating `places`.
+///
+/// `places` is as for [`guessed`]. The result is the distance from the table's start, in 65536ths of the table's spacing.
+/// If two neighboring entries of `places` are out of order or too large, the result is 0.
 #[inline(always)]
 fn place_of(places: &[u32], below: u64) -> u64
     requires { length places.now ≡ 1025 }
@@ -67,8 +70,8 @@ fn place_of(places: &[u32], below: u64) -> u64
 
 /// Estimates the place at which a distribution reaches `below` (in units of `2^-32`).
 ///
-/// `places` lists where the tabulated function reaches 0, 1/1024, 2/1024, .., 1. Each of these numbers is the distance
-/// from the table's start, in 65536ths of the table's spacing. The table spans the width `wide` around `middle`.
+/// `places[k]` is an estimate of where the table of the distribution function reaches `k / 1024`: the distance from the
+/// table's start, in 65536ths of the table's spacing. The table spans the width `wide` around `middle`.
 /// `wide`, `middle` and the result are in units of `2^-16`. The result is limited to the range from `-2^51` to `2^51`.
 #[inline(always)]
 pub fn guessed(places: &[u32], wide: u64, middle: i64, below: u64) -> i64

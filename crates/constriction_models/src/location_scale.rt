@@ -38,14 +38,14 @@ pub trait StandardDistribution: Copy {
     // The table is at least 1 and at most 64 scales wide.
     ghost width_law: { (1 ≤ WIDTH) × (WIDTH ≤ 64) };
 
-    /// Returns the 2049 values, in units of `2^-32`.
+    /// Returns the 2049 values of the distribution function, in units of `2^-32`.
     fn table() -> &'static [u64]
         ensures { result.now ≡ values };
 
-    /// Returns estimates of the places at which the distribution function reaches 0, 1/1024, 2/1024, .., 1.
+    /// Returns 1025 estimates of where the distribution function reaches 0, 1/1024, 2/1024, .., 1.
     ///
-    /// Each number is the distance from the first of the 2049 places, in 65536ths of the table's spacing. Every list of
-    /// 1025 numbers is allowed. Accurate numbers make decoding fast.
+    /// An estimate is the distance from the table's start, in 65536ths of the table's spacing. Every list of 1025 numbers
+    /// is allowed. Accurate estimates make decoding fast.
     fn guesses() -> &'static [u32]
         ensures { length result.now ≡ 1025 };
 }

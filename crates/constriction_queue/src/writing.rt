@@ -1,7 +1,7 @@
 //! Writing words to a backend.
 //!
-//! Only the single word of a common step is written in line (`write_step`); the code for several words is out of line.
-//! Therefore the common path of an encode makes no call, except when a vector grows.
+//! Most steps write at most one word. [`write_step`] has the code for that word in line, and calls a function that isn't
+//! inlined for several words. Therefore an encode usually makes no call, except when a vector grows.
 
 ghost use Rattle.std.specs.Prelude.{◌≡◌, ◌+◌, ◌<◌, ◌≤◌, ◌^◌, ◌++◌, ◌∷◌, ◌⊎◌, [], None, Some, length, IfErr};
 ghost use Rattle.constriction_base.specs.Writing.{Appends, WritesAll};

@@ -91,7 +91,7 @@ where
 pub struct RepeatCodebook<'a, C> {
     /// The codebook that the iterator returns.
     pub codebook: &'a C,
-    /// The number of times that the iterator still returns the codebook.
+    /// The number of times that the iterator will still return the codebook.
     pub amt: usize,
 }
 

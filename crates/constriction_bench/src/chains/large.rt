@@ -148,8 +148,9 @@ pub extern "C" fn constriction_bench_chain_decode_u32u64p24_flat(
     decode_out(coder_of(alloc, words), symbols, &flat, out)
 }
 
-/// Encodes symbols below `2^bits` from the last to the first with a coder of `remainders`, with equal weights.
+/// Encodes `symbols`, from the last to the first, with equal weights for the symbols below `2^bits`.
 ///
+/// The chain coder starts with a copy of `remainders` and without compressed words.
 /// Copies the compressed words, in binary form, to `out`, as many as fit. Returns the total number of compressed
 /// words, or 0 after a failure (see [`crate`]).
 #[unsafe(no_mangle)]
@@ -166,9 +167,9 @@ pub extern "C" fn constriction_bench_chain_encode_u32u64p24_flat(
     encode_out(coder_back(alloc, remainders), symbols, &flat, out)
 }
 
-/// Fills `symbols` with symbols decoded from `words`, with a table that lists a symbol for each part of the quantiles.
+/// Fills `symbols` with symbols decoded from `words`, with the [`BucketTable`] of `weights`.
 ///
-/// The table is the [`BucketTable`] of `weights`. `words` are in binary form. Copies the words of the remainders to
+/// The words are in binary form. Copies the words of the remainders to
 /// `out`, as many as fit. Returns the total number of words of the remainders, or 0 after a failure (see [`crate`]).
 #[unsafe(no_mangle)]
 pub extern "C" fn constriction_bench_chain_decode_u32u64p24_bucket(

@@ -149,8 +149,9 @@ pub extern "C" fn constriction_bench_chain_decode_u16u32p12_flat(
     decode_out(coder_of(alloc, words), symbols, &flat, out)
 }
 
-/// Encodes symbols below `2^bits` from the last to the first with a coder of `remainders`, with equal weights.
+/// Encodes `symbols`, from the last to the first, with equal weights for the symbols below `2^bits`.
 ///
+/// The chain coder starts with a copy of `remainders` and without compressed words.
 /// Copies the compressed words, in binary form, to `out`, as many as fit. Returns the total number of compressed
 /// words, or 0 after a failure (see [`crate`]).
 #[unsafe(no_mangle)]
@@ -167,9 +168,9 @@ pub extern "C" fn constriction_bench_chain_encode_u16u32p12_flat(
     encode_out(coder_back(alloc, remainders), symbols, &flat, out)
 }
 
-/// Fills `symbols` with symbols decoded from `words`, with a table that lists the symbol of each quantile.
+/// Fills `symbols` with symbols decoded from `words`, with the [`LookupTable`] of `weights`.
 ///
-/// The table is the [`LookupTable`] of `weights`. `words` are in binary form. Copies the words of the remainders to
+/// The words are in binary form. Copies the words of the remainders to
 /// `out`, as many as fit. Returns the total number of words of the remainders, or 0 after a failure (see [`crate`]).
 #[unsafe(no_mangle)]
 pub extern "C" fn constriction_bench_chain_decode_u16u32p12_lookup(

@@ -70,9 +70,9 @@ pub extern "C" fn constriction_bench_range_decode_u32u64p24_flat(
     decode_range_in::<u32, u64, _, 24>(alloc, words, symbols, &flat)
 }
 
-/// Fills `symbols` with symbols decoded from `words`, with a table that lists a symbol for each part of the quantiles.
+/// Fills `symbols` with symbols decoded from `words`, with the [`BucketTable`] of `weights`.
 ///
-/// The table is the [`BucketTable`] of `weights`. Returns `false` after a failure (see [`crate`]).
+/// Returns `false` after a failure (see [`crate`]).
 #[unsafe(no_mangle)]
 pub extern "C" fn constriction_bench_range_decode_u32u64p24_bucket(
     alloc: Global,

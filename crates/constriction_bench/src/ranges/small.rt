@@ -71,9 +71,9 @@ pub extern "C" fn constriction_bench_range_decode_u16u32p12_flat(
     decode_range_in::<u16, u32, _, 12>(alloc, words, symbols, &flat)
 }
 
-/// Fills `symbols` with symbols decoded from `words`, with a table that lists the symbol of each quantile.
+/// Fills `symbols` with symbols decoded from `words`, with the [`LookupTable`] of `weights`.
 ///
-/// The table is the [`LookupTable`] of `weights`. Returns `false` after a failure (see [`crate`]).
+/// Returns `false` after a failure (see [`crate`]).
 #[unsafe(no_mangle)]
 pub extern "C" fn constriction_bench_range_decode_u16u32p12_lookup(
     alloc: Global,

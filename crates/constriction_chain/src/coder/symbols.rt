@@ -1,6 +1,6 @@
 //! The two steps of the coder: decoding a symbol from the compressed words, and encoding it back.
 //!
-//! Other methods of the trait `Encode` encode lists of symbols from first to last, and the methods of `EncodeReverse`
+//! The other methods of the trait `Encode` encode lists of symbols from first to last. The methods of `EncodeReverse`
 //! encode lists from last to first.
 //!
 //! A decode may write a word without reading one. It then doesn't ask for room, because the write is its only call of a

@@ -2,7 +2,7 @@
 //!
 //! Each symbol has its own model. The contract of [`compressed_words_of_pairs`] says which words the encoder exports.
 //! The contract of [`pairs_from_words`] says which symbols the call returns for any words. If an encoder exported the
-//! words, these are the encoded symbols. Three fields of the clause `back` say so, each in one case:
+//! words, the call returns the encoded symbols. Three fields of the clause `back` say so, each in one case:
 //!
 //! - `sealed`: the words are sealed words, and no words follow.
 //! - `followed`: the words begin with sealed words, any words may follow, and `State` is two words wide.
