@@ -13,8 +13,8 @@
 //!
 //! A call that fails changes nothing. Each call first returns the first of these errors whose case holds:
 //!
-//! - `WrongLength`: `len` or the decoder's position is past the buffer's end, or an index of the weights doesn't fit the
-//!   type of the decoded symbols.
+//! - `WrongLength`: `len` or the decoder's position is past the buffer's end, or an index of the weights doesn't fit
+//!   the type of the decoded symbols.
 //! - The error of [`constriction_inputs::models::Models::check`], if the call takes models and the check fails.
 //! - `InvalidData`: no encoder or decoder has the numbers that the caller passed, or the number of pending words plus
 //!   the number of symbols to encode is above `2^64 - 18`.

@@ -52,8 +52,8 @@ pub fn located(values: &[u64], wide: u64, rate: u64, middle: i64, place: i64) ->
 
 /// Estimates where a table of a distribution function reaches `below` (in units of `2^-32`), by interpolating `places`.
 ///
-/// `places` is as for [`guessed`]. The result is the distance from the table's start, in 65536ths of the table's spacing.
-/// If two neighboring entries of `places` are out of order or too large, the result is 0.
+/// `places` is as for [`guessed`]. The result is the distance from the table's start, in 65536ths of the table's
+/// spacing. If two neighboring entries of `places` are out of order or too large, the result is 0.
 #[inline(always)]
 fn place_of(places: &[u32], below: u64) -> u64
     requires { length places.now ≡ 1025 }

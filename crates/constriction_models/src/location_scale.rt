@@ -44,8 +44,8 @@ pub trait StandardDistribution: Copy {
 
     /// Returns 1025 estimates of where the distribution function reaches 0, 1/1024, 2/1024, .., 1.
     ///
-    /// An estimate is the distance from the table's start, in 65536ths of the table's spacing. Every list of 1025 numbers
-    /// is allowed. Accurate estimates make decoding fast.
+    /// An estimate is the distance from the table's start, in 65536ths of the table's spacing. Every list of 1025
+    /// numbers is allowed. Accurate estimates make decoding fast.
     fn guesses() -> &'static [u32]
         ensures { length result.now ≡ 1025 };
 }

@@ -1,7 +1,7 @@
 //! Writing words to a backend.
 //!
-//! Most steps write at most one word. [`write_step`] has the code for that word in line, and calls a function that isn't
-//! inlined for several words. Therefore an encode usually makes no call, except when a vector grows.
+//! Most steps write at most one word. [`write_step`] has the code for that word in line, and calls a function that
+//! isn't inlined for several words. Therefore an encode usually makes no call, except when a vector grows.
 
 ghost use Rattle.std.specs.Prelude.{◌≡◌, ◌+◌, ◌<◌, ◌≤◌, ◌^◌, ◌++◌, ◌∷◌, ◌⊎◌, [], None, Some, length, IfErr};
 ghost use Rattle.constriction_base.specs.Writing.{Appends, WritesAll};

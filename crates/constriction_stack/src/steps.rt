@@ -12,8 +12,8 @@ use constriction_words::{BitArray, Reciprocal, WordOf};
 
 /// Returns the head after decoding the symbol of the interval `[left, left + p)`, before renormalization.
 ///
-/// The caller proves that the quantile, which is the low `precision` bits of `head`, is at least `left`. The caller also
-/// proves that `precision` is below `State::BITS`, and that `left + p` is at most `2^precision`.
+/// The caller proves that the quantile, which is the low `precision` bits of `head`, is at least `left`. The caller
+/// also proves that `precision` is below `State::BITS`, and that `left + p` is at most `2^precision`.
 #[inline]
 pub fn popped_head<State: BitArray>(head: State, left: State, p: State, precision: u32) -> State
     requires within { precision < State.BITS }
