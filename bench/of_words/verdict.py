@@ -9,7 +9,7 @@ from library import Refused
 
 #: The differences that docs/DIFFERENCES.md names and a case can meet.
 INTO_BINARY = "`AnsCoder::into_binary` drops zero words at the top"
-CLEAR = "`RangeEncoder::clear` keeps the words held back"
+CLEAR = "`RangeEncoder::clear` keeps the pending words"
 STACK_END = "`StackCoder::from_compressed` takes the lowest set bit of the last word as the end"
 END_OF_BITS = "`ExpGolomb` answers `InvalidCodeword` where the bits end"
 NAMED = (INTO_BINARY, CLEAR, STACK_END, END_OF_BITS)

@@ -91,7 +91,7 @@ def next_word(page, run):
         known = end <= 65536 or begin >= 65536
         judge(known == (symbol != 1) and (begin >= 65536) == (symbol >= 2), "which word it is")
         page.row(symbol, begin, end, f"{held + (begin >= 65536)}{why.get(symbol, '')}" if known else "not known yet")
-    page.has(f"**holds** the word {held}. Its `EncoderSituation` is `Inverted(1, {held})`: one word is held")
+    page.has(f"**holds** the word {held}. Its `EncoderSituation` is `Inverted(1, {held})`: one word is pending")
     page.has(f"and it is {held} unless a **carry** comes")
     return held, lower
 
@@ -142,7 +142,7 @@ def following(page):
     number, words = sealed(low, length, moves, 32)
     room, zeros = low + length - number * 2**24, zero_words(low, length, 32)
     page.has(f"So `c = {number}`, and `A + R` is {low + length}, which is `c * q + {room}`")
-    page.has(f"the interval has {room} numbers. Without zero words it must have `q` there, with one zero word {2**24 // 256}, and with two, {2**24 // 256**2}. So `t` is {zeros}")
+    page.has(f"The interval has {room} numbers at or above `c * q`. The seal needs `q` of them without zero words, {2**24 // 256} with one, and {2**24 // 256**2} with two. So `t` is {zeros}")
     longer = digits(number, moves + 1) + [0] * zeros
     others, within = words + [255, 255], words + [0, 255]
     judge(found(tables, words, 32)[0] == found(tables, within, 32)[0] == symbols, "what may follow the seal")
