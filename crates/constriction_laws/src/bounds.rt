@@ -5,8 +5,8 @@
 //!
 //! The bounds are inequalities between products of whole numbers. `w` and `s` are the widths in bits of a word and of a
 //! head. `k = s - w - P` is the number of spare bits. A head has these bits beyond a word and a precision of `P` bits.
-//! In logarithms, a step of probability `p / 2^P` costs at most `log2(2^P / p) + log2(1 + 2^-k)` bits. The first term is
-//! the step's information content. The second term is due to rounding.
+//! In logarithms, a step of probability `p / 2^P` costs at most `log2(2^P / p) + log2(1 + 2^-k)` bits. The first term
+//! is the step's information content. The second term is due to rounding.
 
 pub mod following;
 pub mod words;
