@@ -168,6 +168,8 @@ impl<
     }
 
     /// Returns the symbol that lies `k` above the first symbol of the range.
+    ///
+    /// The caller proves that `k` is below the number of symbols in the range.
     #[inline(always)]
     fn symbol(&self, k: u64) -> i32
         requires { k < self.now.quantizer.count }
@@ -286,7 +288,9 @@ impl<D: CumulativeDistribution, Probability: WordOf<u32>, const PRECISION: usize
     }
 }
 
-/// Returns `wanted` if it lies strictly between `low` and `high`, and otherwise the mean of both, rounded down.
+/// Returns `wanted` if it lies strictly between `low` and `high`, and otherwise their mean, rounded down.
+///
+/// The caller proves that `low + 1` is below `high`, so the result always lies strictly between `low` and `high`.
 #[inline(always)]
 fn between(low: u64, high: u64, wanted: u64) -> u64
     requires { low + 1 < high }
