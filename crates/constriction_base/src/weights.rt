@@ -153,8 +153,8 @@ impl<Probability: BitArray, const PRECISION: usize> WeightTable<Probability, PRE
     /// Creates a table from `weights` without reciprocals, for decoding.
     ///
     /// The table has the same entries as the table that [`new`](WeightTable::new) creates, but takes less time to build
-    /// and less memory. Encoders that don't divide by weights, such as the range encoder, use this table at full speed.
-    /// Encoders that divide by weights, such as the stack coder, accept the table but run slower.
+    /// and less memory. Encoders that don't divide by weights, such as the range encoder, need no reciprocals. Encoders
+    /// that divide by weights, such as the stack coder, accept the table but run slower.
     ///
     /// The caller proves that `PRECISION` is at least 1 and at most `Probability::BITS`.
     ///

@@ -15,7 +15,7 @@ use crate::backends::semantics::{Semantics, Stack};
 ///
 /// An implementor chooses the relation `becomes` between the value and the new backend. It proves that the new backend
 /// holds the same words as the value, in the order `S`. For vectors and slices, `becomes` states the buffer and the
-/// position of the new cursor.
+/// position of the cursor that the value turns into.
 pub trait IntoReadWords<Word, S: Semantics>: Holds<Word, S> {
     /// The backend that the value turns into.
     type IntoReadWords: ReadWords<Word, S> + Drop;
