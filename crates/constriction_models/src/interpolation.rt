@@ -8,6 +8,8 @@ ghost use Rattle.constriction_models.specs.Interpolation.{AreValues, value_at, l
 ghost use Rattle.constriction_models.specs.laws.Interpolating.{Fits};
 
 /// Returns the interpolated value at `place`, the distance from the first value in 65536ths of the table's spacing.
+///
+/// The caller proves that `place` is below `2^27`, which is the distance from the first value to the last.
 #[inline(always)]
 fn value_at(values: &[u64], place: u64) -> u64
     requires values { AreValues values.now }

@@ -115,6 +115,8 @@ impl<'a, D: CumulativeDistribution> Mixture<'a, D> {
     }
 
     /// Returns `sum` divided by the sum of the weights, rounded down.
+    ///
+    /// The caller proves that `sum` is at most `2^32` times the sum of the weights.
     #[inline(always)]
     fn mean(&self, sum: u128) -> u64
         requires { sum ≤ self.now.total * 4294967296 }
