@@ -74,8 +74,8 @@ pub struct ContiguousLookupDecoderModel<
 
 /// Returns the row of `quantile`, and the symbol and the end of the interval that holds `quantile`.
 ///
-/// The caller proves that `PRECISION` is at most 16 bits, and that `quantile` is below `2 ^ PRECISION`. The call returns
-/// `Err(LookupError::Symbol)` if the symbol is above 65535.
+/// The caller proves that `PRECISION` is at most 16 bits, and that `quantile` is below `2 ^ PRECISION`. The call
+/// returns `Err(LookupError::Symbol)` if the symbol is above 65535.
 fn row_at<M: DecoderModel<PRECISION, Symbol = usize>, const PRECISION: usize>(
     model: &M,
     quantile: u32,

@@ -180,8 +180,8 @@ impl<
 
     /// Estimates how far the symbol whose interval holds `quantile` lies above the first symbol of the range.
     ///
-    /// The caller proves that `quantile` is below `2 ^ PRECISION`. The estimate may be wrong, and may lie above the last
-    /// symbol.
+    /// The caller proves that `quantile` is below `2 ^ PRECISION`. The estimate may be wrong, and may lie above the
+    /// last symbol.
     #[inline(always)]
     fn near(&self, quantile: u64) -> u64
         requires { quantile < 2 ^ PRECISION }
