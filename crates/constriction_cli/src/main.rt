@@ -3,8 +3,8 @@
 //! The program takes one argument, the name of a command ([`constriction_commands::commands`]). The program reads lines
 //! of numbers from standard input, and writes the command's output to standard output.
 //!
-//! The program writes one line to standard error in two cases: the arguments aren't the name of one command, or the
-//! command fails.
+//! The program writes one line to standard error in three cases: there isn't exactly one argument, the argument isn't
+//! the name of a command, or the command fails.
 #![tactic(auto)]
 
 use constriction_commands::cli;

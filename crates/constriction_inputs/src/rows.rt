@@ -1,7 +1,7 @@
 //! Models that borrow their weights from a caller's buffer.
 //!
-//! A row of weights has one weight for each of the symbols `0`, `1`, .. and describes a model if the weights add up to
-//! `2 ^ PRECISION`.
+//! A row of weights has one weight for each of the symbols `0`, `1`, and so on. The row describes a model if its
+//! weights add up to `2^PRECISION`.
 
 pub mod adding;
 mod models;

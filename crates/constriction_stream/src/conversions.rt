@@ -1,7 +1,7 @@
 //! Conversions from encoders to decoders.
 //!
 //! [`IntoDecoder`] turns an encoder into a decoder. [`AsDecoder`] lends the data of an encoder to a decoder. The
-//! decoder types of both traits and the type `Code::State` are `Drop`, so that generic code can drop their values.
+//! decoder types of both traits have the bound `Drop`, without which generic code can't drop a decoder.
 
 ghost use Rattle.std.specs.Prelude.{IfOk, IfErr};
 

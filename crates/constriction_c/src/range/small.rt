@@ -131,8 +131,8 @@ pub extern "C" fn constriction_range_decode_u16(
 
 /// Sets `decoder` to a decoder of `words` at a position that was recorded during encoding.
 ///
-/// `pos` is the number of words that the encoder had written or held back at this position. `lower` and `range` are the
-/// lower end and the length of the encoder's interval.
+/// `pos` is the number of words that the encoder had written at this position, plus the number of its pending words.
+/// `lower` and `range` are the lower end and the length of the encoder's interval.
 ///
 /// Calls [`seek`] and returns the code of its result ([`code_of`]).
 #[unsafe(no_mangle)]

@@ -314,7 +314,7 @@ fn intervals_by_rows<Word: WordOf<State>, State: BitArray, P: WordOf<Word>, cons
 
 /// Encodes symbols with `coder` from the last to the first, each with its own model.
 ///
-/// `is_room` is whether the coder's buffer for new words has a word for each symbol. If `is_room` is false, the call
+/// `is_room` says whether the coder's buffer for new words has room for one word per symbol. If it is false, the call
 /// encodes no symbol and returns an error. The caller proves that `models.check(symbols)` would succeed.
 ///
 /// # Errors

@@ -25,8 +25,8 @@ pub fn from_compressed<Word: WordOf<State>, State: BitArray>(words: &[Word]) -> 
 
 /// Sets `decoder` to a decoder of `words` at a position that was recorded during encoding.
 ///
-/// `pos` is the number of words that the encoder had written or held back when the position was recorded. `lower` and
-/// `range` are the lower end and the length of the encoder's interval at that time.
+/// `pos` is the number of words that the encoder had written at this position, plus the number of its pending words.
+/// `lower` and `range` are the lower end and the length of the encoder's interval at this position.
 ///
 /// # Errors
 ///

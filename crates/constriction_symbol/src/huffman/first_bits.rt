@@ -19,8 +19,9 @@ const MOST: u32 = 9;
 
 /// The node that a list of bits leads to from the root.
 ///
-/// Either the first `taken` bits lead to a symbol, or the list has `taken` bits and leads to an inner node. `index` is
-/// the symbol, or the number of symbols plus the index of the inner node.
+/// `taken` is the number of bits of the list that lead to the node. If the node is a symbol, the list may have more
+/// bits. If the node is an inner node, the list has `taken` bits. `index` is the symbol, or the number of symbols plus
+/// the index of the inner node.
 #[derive(Debug, Clone, Copy)]
 pub struct Place {
     pub index: usize,

@@ -53,8 +53,8 @@ pub fn encode_pairs<W: WriteBitStream<Queue>, C: EncoderCodebook>(
 ///
 /// - `Frontend(ImpossibleSymbol)`: a codebook has no codeword for its symbol. The codewords of the symbols after that
 ///   symbol in the list are written.
-/// - `Backend(error)`: the backend refused a word, or there was no memory. The codewords of the symbols after the
-///   failing symbol are written. Of the failing symbol's codeword, the bits before the refused bit are written.
+/// - `Backend(error)`: the backend refuses a word, or there is no memory. The codewords of the symbols after the
+///   failing symbol in the list are written, and the bits of the failing symbol's codeword before the refusal.
 pub fn encode_pairs_reverse<Word: BitArray, B: WriteWords<Word>, C: EncoderCodebook>(
     coder: &mut StackCoder<Word, B>,
     symbols: &[C::Symbol],
