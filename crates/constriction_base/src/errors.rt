@@ -40,7 +40,9 @@ impl<F, B> From<B> for CoderError<F, B> {
     }
 }
 
-/// The error of an encoder's frontend: the symbol is impossible.
+/// The error of an encoder's frontend: the symbol is impossible, because the model has no interval for it.
+///
+/// The frontend is the part of the coder that encodes symbols.
 ///
 /// # Examples
 ///
@@ -57,7 +59,7 @@ pub enum DefaultEncoderFrontendError {
 /// The error of an encoder whose backend returns write errors of type `E`.
 pub type DefaultEncoderError<E> = CoderError<DefaultEncoderFrontendError, E>;
 
-/// The error of a call that both reads from a backend and writes to it.
+/// The error of a call that reads words and writes words: either a read or a write is refused.
 ///
 /// # Examples
 ///

@@ -1,7 +1,7 @@
 //! Functions that move words between a coder's head and a backend.
 //!
-//! The head is the number on top of the coder's words. An export writes the head's words to the backend with
-//! [`append_words`]. An import reads words into the head with [`fill`].
+//! The head is the number on top of the coder's words. To export its compressed data, a coder writes the head's words
+//! to the backend with [`append_words`]. To import compressed data, a coder reads words into the head with [`fill`].
 //!
 //! If the backend refuses a write, `append_words` returns how many words it wrote before that write. The stack coder's
 //! guard needs this number to take the words off again, because generic code can't count the words on a backend.

@@ -46,8 +46,8 @@ impl<Word, ReadError, Iter: Iterator<Item = Result<Word, ReadError>>> FallibleIt
 > {
     /// Creates a backend over an iterator.
     ///
-    /// The backend's reads can return a list of results if and only if the iterator can return this list. The caller
-    /// proves that the iterator's `next` may be called.
+    /// The reads can return a list of results and then `Ok(None)` if and only if the iterator can return the items of
+    /// this list and then `None`. The caller proves that the iterator's `next` may be called.
     ///
     /// # Examples
     ///

@@ -153,12 +153,18 @@ impl<Probability: BitArray, const PRECISION: usize> WeightTable<Probability, PRE
     /// Creates a table from `weights` without reciprocals, for decoding.
     ///
     /// The table has the same entries as the table that [`new`](WeightTable::new) creates, but takes less time to build
-    /// and less memory. Use it also for encoders that don't divide by weights, such as the range encoder. Encoders that
-    /// divide by weights, such as the stack coder, accept the table too, but run slower.
+    /// and less memory. Encoders that don't divide by weights, such as the range encoder, need no reciprocals. Encoders
+    /// that divide by weights, such as the stack coder, accept the table but run slower.
+    ///
+    /// The caller proves that `PRECISION` is at least 1 and at most `Probability::BITS`.
     ///
     /// # Errors
     ///
-    /// Returns the errors of [`new`](WeightTable::new), in the same cases and order.
+    /// The call returns the first of these errors that applies:
+    ///
+    /// - `Empty`: the list `weights` is empty.
+    /// - `WrongTotal`: the weights don't add up to `2 ^ PRECISION`.
+    /// - `Memory`: an allocation for the table fails.
     ///
     /// # Examples
     ///
@@ -193,6 +199,8 @@ impl<Probability: BitArray, const PRECISION: usize> WeightTable<Probability, PRE
     }
 
     /// Adds the reciprocal of each weight to the table if the precision is at most 63 bits. The entries stay the same.
+    ///
+    /// The call returns `Err(AllocError)` if there is no memory for the reciprocals.
     fn with_reciprocals(mut self, alloc: Global) -> Result<Self, AllocError>
         ensures kept { IfOk result (λ t. entries t ≡ entries self) }
         ensures reciprocals { IfOk result (λ t. PRECISION ≤ 63 → KeepsReciprocals t) }
@@ -204,7 +212,10 @@ impl<Probability: BitArray, const PRECISION: usize> WeightTable<Probability, PRE
         Ok(self)
     }
 
-    /// Computes the reciprocal of each symbol's weight, or of 1 if the weight is 0.
+    /// Computes one reciprocal for each symbol: the reciprocal of its weight, or of 1 if the weight is 0.
+    ///
+    /// The caller proves that the precision is at most 63 bits. The call returns `Err(AllocError)` if there is no
+    /// memory for the reciprocals.
     fn made_reciprocals(&self, alloc: Global) -> Result<Vec<Reciprocal>, AllocError>
         requires { PRECISION ≤ 63 }
         ensures count { IfOk result (λ made. length made.items ≡ length self.now.starts.items) }
@@ -220,7 +231,10 @@ impl<Probability: BitArray, const PRECISION: usize> WeightTable<Probability, PRE
         Ok(made)
     }
 
-    /// Returns the index of the bucket that holds `quantile`: `quantile` without its lowest `shift` bits.
+    /// Returns the index of the bucket that holds `quantile`: `quantile` divided by `2 ^ self.shift`, rounded down.
+    ///
+    /// A bucket consists of the quantiles with the same high bits. The caller proves that `quantile` is below
+    /// `2 ^ PRECISION`.
     fn bucket(&self, quantile: Probability) -> usize
         requires { Probability.number quantile < 2 ^ PRECISION }
         ensures within { result + 1 < length self.now.hints.items }
@@ -230,7 +244,9 @@ impl<Probability: BitArray, const PRECISION: usize> WeightTable<Probability, PRE
         quantile.shifted_right(self.shift).to_index()
     }
 
-    /// Returns the sum of the weights before `symbol`, which is the start of its interval.
+    /// Returns the start of the interval of `symbol`, which is the sum of the weights of all lower symbols.
+    ///
+    /// The caller proves that `symbol` is below the number of symbols that the table stores.
     fn start(&self, symbol: usize) -> Probability
         requires { symbol < length self.now.starts.items }
         ensures { Probability.number result ≡ slice_index (map Probability.number self.now.starts.items) symbol }
@@ -239,6 +255,8 @@ impl<Probability: BitArray, const PRECISION: usize> WeightTable<Probability, PRE
     }
 
     /// Returns the weight of `symbol`, which is the length of its interval.
+    ///
+    /// The caller proves that `symbol` is below the number of symbols that the table stores.
     fn weight(&self, symbol: usize) -> Probability
         requires { symbol < length self.now.starts.items }
         ensures { Probability.number result

@@ -62,7 +62,7 @@ fn read_stack(words: Vec<u32>, bits: &mut [bool]) -> bool {
     true
 }
 
-/// Copies the words to `out`, as many as fit. Returns the total number of words, or 0 if `words` is `None`.
+/// Copies `words` to `out`, as many as fit. Returns the total number of words, or 0 if `words` is `None`.
 pub fn give_out(words: Option<Vec<u32>>, out: &mut [u32]) -> usize {
     match words {
         Some(words) => copy_out(&words, out),

@@ -31,8 +31,8 @@ pub struct BucketTable {
 impl BucketTable {
     /// Creates the table of `weights`.
     ///
-    /// Returns `None` if a weight is 0, if the weights don't add up to `2^24`, if a symbol to list is above 255, or if
-    /// there is no memory.
+    /// Returns `None` if a weight is 0, if the weights don't add up to `2^24`, or if there is no memory. Also returns
+    /// `None` if the symbol of the first quantile of one of the 4096 parts is above 255.
     pub fn new(alloc: Global, weights: &[u32]) -> Option<Self>
         ensures { IfSome result
             (λ table. ⟦<BucketTable as EntropyModel<24>>⟧.table table
@@ -57,6 +57,7 @@ impl BucketTable {
 /// Returns the symbol of quantile `4096 * part`, the first quantile of part number `part`.
 ///
 /// Returns `None` if the symbol is at least `count` or above 255, or if its start in `starts` is above this quantile.
+/// The caller proves that `starts` has `count + 1` items, and that `part` is below 4096.
 fn first_of(table: &WeightTable<u32, 24>, starts: &[u32], count: usize, part: u32) -> Option<u8>
     requires starts { length starts.now ≡ count + 1 }
     requires part { part < 4096 }
@@ -75,7 +76,8 @@ fn first_of(table: &WeightTable<u32, 24>, starts: &[u32], count: usize, part: u3
 
 /// Returns the symbol of the first quantile of each of the 4096 parts, in order.
 ///
-/// Returns `None` if [`first_of`] returns `None` for a part, or if there is no memory.
+/// Returns `None` if [`first_of`] returns `None` for a part, or if there is no memory. The caller proves that `starts`
+/// has `count + 1` items.
 fn firsts_of(
     alloc: Global,
     table: &WeightTable<u32, 24>,

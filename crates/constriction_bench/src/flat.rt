@@ -9,8 +9,8 @@ use constriction_words::{BitArray, WordOf};
 
 /// The model of the symbols below `2^bits`, each with the weight `2^shift`.
 ///
-/// The model has no table in memory, so a measurement shows the coder's own cost. The weight and the shift are fields.
-/// A compiler that doesn't know their values can't replace the coder's division by a shift.
+/// The model has no table in memory, so a measurement shows the coder's own cost. `weight` and `shift` are fields. A
+/// compiler that doesn't know their values can't turn the coder's division by a weight into a bit shift.
 #[derive(Drop)]
 pub struct Flat<Probability: WordOf<u32>, const PRECISION: usize> {
     weight: Probability,

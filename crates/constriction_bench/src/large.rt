@@ -6,7 +6,7 @@ use crate::runs::{copy_out, decode_in, encode_out, reload_out};
 use constriction_base::weights::WeightTable;
 use std::alloc::Global;
 
-/// Encodes symbols from the last to the first, with a table of weights.
+/// Encodes symbols from the last to the first, with the table of `weights`.
 ///
 /// Copies the words to `out`, as many as fit. Returns the total number of words, or 0 after a failure (see [`crate`]).
 #[unsafe(no_mangle)]
@@ -22,7 +22,7 @@ pub extern "C" fn constriction_bench_ans_encode_u32u64p24_table(
     encode_out::<u32, u64, _, 24>(alloc, symbols, &table, out)
 }
 
-/// Fills `symbols` with symbols decoded from `words`, with a table of weights.
+/// Fills `symbols` with symbols decoded from `words`, with the table of `weights`.
 ///
 /// Returns `false` after a failure (see [`crate`]).
 #[unsafe(no_mangle)]

@@ -52,7 +52,7 @@ impl LookupTable {
 /// Returns the symbol of `quantile`.
 ///
 /// Returns `None` if the symbol is at least `count` or above 255, or if `quantile` lies outside the symbol's interval
-/// according to `starts`.
+/// according to `starts`. The caller proves that `starts` has `count + 1` items, and that `quantile` is below 4096.
 fn symbol_at(
     table: &WeightTable<u16, 12>,
     starts: &[u32],
@@ -75,7 +75,8 @@ fn symbol_at(
 
 /// Returns the list of the symbols of all 4096 quantiles.
 ///
-/// Returns `None` if [`symbol_at`] returns `None` for a quantile, or if there is no memory.
+/// Returns `None` if [`symbol_at`] returns `None` for a quantile, or if there is no memory. The caller proves that
+/// `starts` has `count + 1` items.
 fn symbols_of(
     alloc: Global,
     table: &WeightTable<u16, 12>,

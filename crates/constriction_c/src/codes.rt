@@ -1,7 +1,11 @@
-//! The code that a C function returns for the result of its call.
+//! The codes that the C functions return.
 //!
-//! The contract of a C function contains each clause of its call's contract. `answer_by_code` converts the returned
-//! code to the result that these clauses describe.
+//! A C function passes its arguments to a call of another crate, and returns the code of the call's result. The
+//! contract of the C function contains each clause of that call's contract. `answer_by_code` converts the returned code
+//! to the result that these clauses describe.
+//!
+//! `include/constriction.h` itself defines `constriction_result_text`, which returns the text of a code. An exported
+//! function of this crate can't return a pointer.
 
 ghost use Rattle.std.specs.Prelude.{◌≡◌, ℕ, Err};
 ghost use Rattle.constriction_inputs.specs.declared.refusal.Refusal.TheVariants.{NoSpace};

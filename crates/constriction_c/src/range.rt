@@ -1,7 +1,8 @@
 //! The C functions of the range coder, `constriction_range_..`.
 //!
-//! The caller keeps an encoder or a decoder as a struct, and a buffer whose first words are in use. `len` is the number
-//! of these words. The module [`constriction_calls::range`] has the calls, and explains their arguments and errors.
+//! The caller keeps an encoder or a decoder as a struct, and a buffer of words. The first `len` words of an encoder's
+//! buffer are in use. All words of a decoder's buffer are in use. The module [`constriction_calls::range`] has the
+//! calls, and explains their arguments and errors.
 
 pub mod large;
 mod large_kinds;

@@ -4,9 +4,6 @@ ghost use Rattle.std.specs.Prelude.{◌≡◌};
 ghost use Rattle.constriction_c.specs.Codes.{version_number};
 
 /// Returns the version as a number: 10000 times the major version, plus 100 times the minor version, plus the patch.
-///
-/// `include/constriction.h` itself defines `constriction_result_text`, which returns the text of a result code, because
-/// an exported function of this crate can't return a pointer.
 #[unsafe(no_mangle)]
 pub extern "C" fn constriction_version() -> u32
     ensures { result ≡ version_number 0 5 0 }

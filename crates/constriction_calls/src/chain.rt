@@ -7,8 +7,8 @@
 //!
 //! # Errors
 //!
-//! A call that fails changes nothing. It returns the first of these errors whose condition holds. No contract states
-//! when there is no memory.
+//! A call that fails changes nothing. It returns the first of these errors whose condition holds, but it may return
+//! `NoMemory` in place of `OutOfData` or `NoSpace`.
 //!
 //! - `WrongLength`: a number of words in use is past its buffer's end, the arguments of the models don't match the
 //!   number of symbols, the lengths of `lefts` and `ps` differ, or an index of the weights doesn't fit the type of the
@@ -21,7 +21,7 @@
 //! - `OutOfData`: the coder needs a word from the buffer that it reads, and no word is left there.
 //! - `NoSpace(needed)`: the buffer to write to is too short. `needed` is the number of words that this buffer has to
 //!   hold.
-//! - `NoMemory`: there is no memory.
+//! - `NoMemory`: there is no memory. The contracts don't state when this is the case.
 
 mod decoding;
 mod encoding;

@@ -12,7 +12,7 @@
 //!     Ok(mut coder) => {
 //!         let symbol = coder.decode_symbol(&table)?;           // from 24 bits of `words`
 //!         coder.encode_symbol(&symbol, &table)?;               // restores the state before the decode
-//!         let (prefix, suffix) = coder.into_remainders()?;     // two `Vec<u32>`
+//!         let (prefix, suffix) = coder.into_remainders()?;     // words not read, remainders
 //!     }
 //!     Err(CoderError::Frontend(words)) => {}                   // too few words, or the last one was zero
 //!     Err(CoderError::Backend(never)) => match never {},

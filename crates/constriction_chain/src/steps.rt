@@ -194,10 +194,11 @@ fn is_short<Word: BitArray, State: BitArray>(r: State, p: State, precision: u32)
         .is_below(p)
 }
 
-/// Moves a word into the remainders head `r` if `r` is too low for an interval of length `p`, and returns the head.
+/// Moves a word of the remainders into the remainders head `r` if `r` is below a bound, and returns the head.
 ///
-/// The head is too low if it is below `p * 2^(State::BITS - Word::BITS - precision)`. If it is too low and no word is
-/// left, the call returns `None`.
+/// The bound is `p * 2^(State::BITS - Word::BITS - precision)`, where `p` is the length of the symbol's interval. If
+/// `r` is below the bound and no word is left, the call returns `None`. If the read fails, the call returns the error
+/// of the read.
 #[inline(always)]
 pub fn regain<Word: WordOf<State>, State: BitArray, R: ReadWords<Word, Stack>>(
     remainders: &mut R,

@@ -1,8 +1,10 @@
 //! The program `constriction`, which encodes and decodes lists of numbers.
 //!
-//! The program's only argument names a command ([`constriction_commands::commands`]). The program reads lines of
-//! numbers from standard input, and writes the command's output to standard output. If the argument names no command
-//! or the command fails, the program writes one line to standard error.
+//! The program takes one argument, the name of a command ([`constriction_commands::commands`]). The program reads lines
+//! of numbers from standard input, and writes the command's output to standard output.
+//!
+//! The program writes one line to standard error in two cases: the arguments aren't the name of one command, or the
+//! command fails.
 #![tactic(auto)]
 
 use constriction_commands::cli;

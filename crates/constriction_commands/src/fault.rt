@@ -46,7 +46,7 @@ pub enum Fault {
     NoChain,
     /// The words end before a chain coder has decoded all symbols.
     OutOfData(chain::DecoderFrontendError),
-    /// The words for a range decoder don't encode as many symbols as the input asks for.
+    /// The words for a range decoder lead to a quantile of at least `2^24`, which no symbol has.
     InvalidData(DecoderFrontendError),
     /// The index of a chunk to look up is past the last chunk.
     NoSuchChunk,

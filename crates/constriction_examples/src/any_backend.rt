@@ -80,8 +80,8 @@ fn encoded(
 
 /// Encodes three symbols over the backend [`Counted`], and prints two counts of words and the first symbol decoded.
 ///
-/// The first count is that of the encoder's position: the words written and pending before the seal. The second count
-/// is `written`: the words written, including the seal.
+/// The first count comes from the encoder's position: the words written and pending before the seal. The second count
+/// is the field `written` of the backend: the words written, including the seal.
 fn show_symbols(rt: &impl Print, alloc: Global) -> Result<()> {
     let table = WeightTable::<u32, 24>::new(alloc, &[3, 2, 16777211])?;
     let encoder = encoded(alloc, &table)?;

@@ -91,7 +91,11 @@ impl Mixture {
 
     /// Hides a symbol: decodes a latent with the symbol's posterior, encodes the symbol, and encodes the latent.
     ///
-    /// The call encodes the symbol with the latent's table, and the latent with the prior.
+    /// The call encodes the symbol with the latent's table, and the latent with the prior. It fails in these cases:
+    ///
+    /// - The mixture has no posterior for the symbol, or no symbol table for the latent.
+    /// - One of the two tables for encoding has no entry.
+    /// - There is no memory.
     fn hide(&self, coder: &mut Coder, symbol: usize) -> Result<()>
         ensures hides { IsValid 32 64 coder.old.state
             → OnOk result (Hides self.now symbol coder.old.state coder.new.state) }
@@ -108,7 +112,12 @@ impl Mixture {
 
     /// Reveals the symbol hidden last, and returns it. Undoes each action of `hide`, in reverse order.
     ///
-    /// The call decodes the latent and the symbol, and encodes the latent with the symbol's posterior.
+    /// The call decodes the latent and the symbol, and encodes the latent with the symbol's posterior. It fails in
+    /// these cases:
+    ///
+    /// - The mixture has no symbol table for the latent, or no posterior for the symbol.
+    /// - The posterior has no entry for the latent.
+    /// - There is no memory.
     fn reveal(&self, coder: &mut Coder) -> Result<usize>
         ensures reveals { (hidden : ℕ) (before : AnsState) → IsValid 32 64 before
             → Hides self.now hidden before coder.old.state
@@ -124,7 +133,7 @@ impl Mixture {
         Ok(symbol)
     }
 
-    /// Hides symbols one after the other, in order.
+    /// Hides symbols one after the other, in order. Fails at the first symbol for which `hide` fails.
     fn hide_all(&self, coder: &mut Coder, symbols: &[usize]) -> Result<()>
         ensures hides { IsValid 32 64 coder.old.state
             → OnOk result (InTurn (Hides self.now) symbols.now coder.old.state coder.new.state) }
@@ -136,6 +145,8 @@ impl Mixture {
     }
 
     /// Reveals `count` symbols, and returns them. The symbol that was hidden last is first in the list.
+    ///
+    /// Fails at the first symbol for which `reveal` fails, or if there is no memory for the list.
     fn reveal_all(&self, alloc: Global, coder: &mut Coder, count: usize) -> Result<Vec<usize>>
         ensures reveals { (hidden : List ℕ) (before : AnsState) → length hidden ≡ count → IsValid 32 64 before
             → InTurn (Hides self.now) hidden before coder.old.state
@@ -150,6 +161,8 @@ impl Mixture {
 }
 
 /// Returns the number of bits in the words below a coder's head, plus the number of bits below the head's leading 1.
+///
+/// Fails if the total number of bits in all words of the coder doesn't fit a `usize`.
 fn bits_of(coder: &Coder) -> Result<usize> {
     if !coder.sizes_fit() {
         bail!("too many words");
@@ -167,6 +180,8 @@ struct Sent {
 }
 
 /// Hides [`SYMBOLS`] on a coder, and reveals them. The symbols returned are in the order of hiding.
+///
+/// Fails if `bits_of`, hiding or revealing fails, or if the number of bits is lower after hiding than before.
 fn send(alloc: Global, mixture: &Mixture, coder: &mut Coder) -> Result<Sent>
     requires { IsValid 32 64 coder.old.state }
 {
@@ -186,7 +201,10 @@ fn send(alloc: Global, mixture: &Mixture, coder: &mut Coder) -> Result<Sent>
     })
 }
 
-/// Prints the numbers of bits, the information content, and the symbols revealed.
+/// Prints the results of a call of `send`.
+///
+/// The results are the numbers of bits before and after hiding, the symbols' cost in bits, and the symbols revealed.
+/// Also prints the symbols' information content in bits.
 fn show(rt: &impl Print, sent: &Sent) -> Result<()> {
     println!(rt; "bits before: {}", sent.before)?;
     println!(rt; "bits with {} symbols: {}", SYMBOLS.len(), sent.after)?;
@@ -197,7 +215,9 @@ fn show(rt: &impl Print, sent: &Sent) -> Result<()> {
     Ok(())
 }
 
-/// Hides and reveals the symbols on a coder of [`WORDS`], and prints the results and the coder's words afterwards.
+/// Hides and reveals [`SYMBOLS`] on a coder imported from [`WORDS`], and prints the results and the words exported.
+///
+/// The import and the export are in binary form.
 fn send_and_show(rt: &impl Print, alloc: Global, mixture: &Mixture) -> Result<()> {
     let mut coder = Coder::from_binary(WORDS.to_vec(alloc)?)?;
     binary::binary_export_of_import();
@@ -210,7 +230,8 @@ fn send_and_show(rt: &impl Print, alloc: Global, mixture: &Mixture) -> Result<()
 
 /// Encodes twelve symbols with bits-back coding on top of an earlier message's words, and decodes them.
 ///
-/// Prints the symbols' cost in bits, the symbols decoded, and the words left. These are the earlier message's words.
+/// Prints the symbols' cost in bits, their information content in bits, and the symbols decoded. Also prints the words
+/// left, which are the earlier message's words.
 pub fn run(rt: &impl Print, alloc: Global) -> Result<()> {
     let mixture = Mixture::new(alloc)?;
     send_and_show(rt, alloc, &mixture)

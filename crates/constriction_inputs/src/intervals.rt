@@ -1,4 +1,4 @@
-//! Turns each interval that a caller passes without its table into a row of three weights.
+//! Turns each interval that a caller passes without the rest of its model into a row of three weights.
 //!
 //! In the row's table, symbol 1 has the interval, symbol 0 has the quantiles below the interval, and symbol 2 has the
 //! quantiles above the interval. A coder encodes the interval when it encodes symbol 1 with the row as the model.
@@ -28,7 +28,7 @@ use std::alloc::{AllocError, Global};
 ///
 /// The call checks for errors in this order:
 ///
-/// - `WrongLength`: the two lists differ in length.
+/// - `WrongLength`: `lefts` and `ps` differ in length.
 /// - `WrongInterval`: an interval is empty or ends past `2 ^ PRECISION`.
 /// - `NoMemory`: there is no memory for the rows or the symbols.
 ///
@@ -124,6 +124,8 @@ fn are_intervals<P: BitArray, const PRECISION: usize>(lefts: &[P], ps: &[P]) -> 
 }
 
 /// Returns the number of quantiles above the interval `[left, left + p)`, which is `2 ^ PRECISION - left - p`.
+///
+/// The caller proves that the interval isn't empty, and that `left + p` is at most `2 ^ PRECISION`.
 fn above<P: BitArray, const PRECISION: usize>(left: P, p: P) -> P
     requires sizes { (1 ≤ PRECISION) × (PRECISION ≤ P.BITS) }
     requires interval { IsIntervalWithin PRECISION (P.number left) (P.number p) }
@@ -134,7 +136,8 @@ fn above<P: BitArray, const PRECISION: usize>(left: P, p: P) -> P
 
 /// Returns a row of three weights for each interval `[lefts[i], lefts[i] + ps[i])`, one row after another.
 ///
-/// The weights are the numbers of quantiles below, in and above the interval.
+/// The weights are the numbers of quantiles below, in and above the interval. The caller proves that `lefts` and `ps`
+/// have the same length, and that no interval is empty or ends past `2 ^ PRECISION`.
 ///
 /// # Errors
 ///

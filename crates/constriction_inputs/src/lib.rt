@@ -7,7 +7,7 @@
 //! - [`models`]: the forms in which a caller passes the models of symbols.
 //! - [`rows`]: rows of weights as models.
 //! - [`known`]: checks that symbols have weights above 0.
-//! - [`intervals`]: intervals that a caller passes without their table.
+//! - [`intervals`]: intervals that a caller passes without the rest of their models.
 //! - [`quantized`]: calls that write the intervals of models, and weights from counts, into a caller's buffers.
 //! - [`buffers`]: a call that appends words to a buffer.
 #![tactic(auto)]

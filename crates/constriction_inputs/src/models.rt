@@ -48,6 +48,8 @@ pub trait ModelList<P: BitArray, const PRECISION: usize>: Drop {
         ensures tables { tables self.new ≡ tables self.old };
 
     /// Returns the model at the index that the last call of `turn_to` selected.
+    ///
+    /// The caller proves that an index of the list is selected.
     fn model(&self) -> &Self::Model
         requires { turned_to self.now < length (tables self.now) }
         ensures { Self.Model.table result.now

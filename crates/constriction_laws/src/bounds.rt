@@ -4,9 +4,9 @@
 //! start of its interval. The steps may have different precisions.
 //!
 //! The bounds are inequalities between products of whole numbers. `w` and `s` are the widths in bits of a word and of a
-//! head. `k = s - w - P` is the number of spare bits: the bits that a head has beyond a word and a precision of `P`
-//! bits. In logarithms, a step of probability `p / 2^P` costs at most `log2(2^P / p) + log2(1 + 2^-k)` bits. The first
-//! term is the step's information content. The second term is due to rounding.
+//! head. `k = s - w - P` is the number of spare bits. A head has these bits beyond a word and a precision of `P` bits.
+//! In logarithms, a step of probability `p / 2^P` costs at most `log2(2^P / p) + log2(1 + 2^-k)` bits. The first term
+//! is the step's information content. The second term is due to rounding.
 
 pub mod following;
 pub mod words;
@@ -69,7 +69,7 @@ pub fn range_bound()
 /// Bounds the number of words that a range encoder exports with a self-delimiting seal.
 ///
 /// The encoder starts from the initial interval and encodes `steps`. `State` is `m = s / w` words wide. If the encoder
-/// exports at least `m` words, counting the seal, the bound is that of [`range_bound`] with `m` in place of 2.
+/// exports at least `m` words, counting the seal, the inequality of [`range_bound`] holds with `m` in place of 2.
 pub fn self_delimiting_bound()
     ensures { (w s : ℕ) (steps : List Step) (words : List ℕ) → IsSizes w s → AreSteps w steps → DelimitsSteps w s steps
         words → IsRangeBounded w s (s / w) steps words }

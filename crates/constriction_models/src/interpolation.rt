@@ -8,6 +8,8 @@ ghost use Rattle.constriction_models.specs.Interpolation.{AreValues, value_at, l
 ghost use Rattle.constriction_models.specs.laws.Interpolating.{Fits};
 
 /// Returns the interpolated value at `place`, the distance from the first value in 65536ths of the table's spacing.
+///
+/// The caller proves that `place` is below `2^27`, which is the distance from the first value to the last.
 #[inline(always)]
 fn value_at(values: &[u64], place: u64) -> u64
     requires values { AreValues values.now }
@@ -52,8 +54,9 @@ pub fn located(values: &[u64], wide: u64, rate: u64, middle: i64, place: i64) ->
 
 /// Estimates where a table of a distribution function reaches `below` (in units of `2^-32`), by interpolating `places`.
 ///
-/// `places` is as for [`guessed`]. The result is the distance from the table's start, in 65536ths of the table's
-/// spacing. If two neighboring entries of `places` are out of order or too large, the result is 0.
+/// `places[k]` is an estimate of where the function reaches `k / 1024`. The result and the entries of `places` are
+/// distances from the table's start, in 65536ths of the table's spacing. The result is 0 if, of the two entries around
+/// `below`, the second is less than the first or is at least `2^27`.
 #[inline(always)]
 fn place_of(places: &[u32], below: u64) -> u64
     requires { length places.now ≡ 1025 }

@@ -73,6 +73,9 @@ pub struct ContiguousLookupDecoderModel<
 }
 
 /// Returns the row of `quantile`, and the symbol and the end of the interval that holds `quantile`.
+///
+/// The caller proves that `PRECISION` is at most 16 bits, and that `quantile` is below `2 ^ PRECISION`. The call
+/// returns `Err(LookupError::Symbol)` if the symbol is above 65535.
 fn row_at<M: DecoderModel<PRECISION, Symbol = usize>, const PRECISION: usize>(
     model: &M,
     quantile: u32,
@@ -108,6 +111,9 @@ where
 }
 
 /// Returns the row and the symbol of each quantile of `model`, in ascending order of the quantiles.
+///
+/// The caller proves that `PRECISION` is at most 16 bits. The call returns `Err(LookupError::Symbol)` if a symbol is
+/// above 65535, and `Err(LookupError::Memory)` if there is no memory for the lists.
 fn rows_of<M: DecoderModel<PRECISION, Symbol = usize>, const PRECISION: usize>(
     alloc: Global,
     model: &M,

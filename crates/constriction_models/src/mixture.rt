@@ -21,7 +21,7 @@ use thiserror::Error;
 pub struct Component<D> {
     /// The weight of the distribution, relative to the sum of all weights.
     pub weight: u32,
-    /// The distribution.
+    /// The distribution of the component.
     pub distribution: D,
 }
 
@@ -115,6 +115,8 @@ impl<'a, D: CumulativeDistribution> Mixture<'a, D> {
     }
 
     /// Returns `sum` divided by the sum of the weights, rounded down.
+    ///
+    /// The caller proves that `sum` is at most `2^32` times the sum of the weights.
     #[inline(always)]
     fn mean(&self, sum: u128) -> u64
         requires { sum ≤ self.now.total * 4294967296 }
@@ -134,8 +136,9 @@ impl<'a, D: CumulativeDistribution> Mixture<'a, D> {
     /// Estimates the place at which the mixture reaches `below`, as if its components didn't overlap.
     ///
     /// `below` is in units of `2^-32`, and `places[k]` is the guess of component `k` for `below`. The call multiplies
-    /// `below`, limited to `2^32 - 1`, by the sum of the weights. Then it finds the component whose share holds the
-    /// product (see `share_of`). The result is this component's guess for the part of the share below the product.
+    /// `below`, limited to `2^32 - 1`, by the sum of the weights. Then `share_of` finds the component whose share holds
+    /// the product, and how much of the share lies below the product. The result is that component's guess for this
+    /// part of its share.
     fn place_by_shares(&self, places: &[i64; FEW], below: u64) -> i64 {
         let sum = below.min(4294967295) * self.total;
         let (k, inside) = self.share_of(places, sum);

@@ -168,6 +168,8 @@ impl<
     }
 
     /// Returns the symbol that lies `k` above the first symbol of the range.
+    ///
+    /// The caller proves that `k` is below the number of symbols in the range.
     #[inline(always)]
     fn symbol(&self, k: u64) -> i32
         requires { k < self.now.quantizer.count }
@@ -176,9 +178,10 @@ impl<
         (self.quantizer.min as i64 + k as i64) as i32
     }
 
-    /// Estimates how far the symbol at `quantile` lies above the first symbol of the range.
+    /// Estimates how far the symbol whose interval holds `quantile` lies above the first symbol of the range.
     ///
-    /// The estimate may be wrong, and may lie above the last symbol.
+    /// The caller proves that `quantile` is below `2 ^ PRECISION`. The estimate may be wrong, and may lie above the
+    /// last symbol.
     #[inline(always)]
     fn near(&self, quantile: u64) -> u64
         requires { quantile < 2 ^ PRECISION }
@@ -286,7 +289,9 @@ impl<D: CumulativeDistribution, Probability: WordOf<u32>, const PRECISION: usize
     }
 }
 
-/// Returns `wanted` if it lies strictly between `low` and `high`, and otherwise the mean of both, rounded down.
+/// Returns `wanted` if it lies strictly between `low` and `high`, and otherwise their mean, rounded down.
+///
+/// The caller proves that `low + 1` is below `high`, so the result always lies strictly between `low` and `high`.
 #[inline(always)]
 fn between(low: u64, high: u64, wanted: u64) -> u64
     requires { low + 1 < high }

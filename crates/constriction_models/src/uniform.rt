@@ -84,7 +84,7 @@ impl<Probability: WordOf<u32>, const PRECISION: usize> UniformModel<Probability,
         1u64 << PRECISION as u32
     }
 
-    /// Returns the symbol whose interval holds `quantile`.
+    /// Returns the symbol whose interval holds `quantile`. The caller proves that `quantile` is below `2 ^ PRECISION`.
     #[inline(always)]
     fn symbol_at(&self, quantile: u64) -> u64
         requires { quantile < 2 ^ PRECISION }

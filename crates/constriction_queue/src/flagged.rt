@@ -86,7 +86,7 @@ impl<
         }
     }
 
-    /// Returns whether the switch has decoded the flag.
+    /// Returns whether the flag was decoded, so that the next symbol is decoded with the second model.
     pub fn switched(&self) -> bool
         ensures { result ≡ self.now.switched }
     {
@@ -162,7 +162,7 @@ impl<
 ///
 /// # Errors
 ///
-/// Returns the error of the first `encode_symbol` that fails. The symbols before the refused symbol are encoded, and no
+/// Returns the error of the first `encode_symbol` that fails. The symbols before the failing symbol are encoded, and no
 /// other symbols.
 pub fn encode_flagged<
     Word: WordOf<State>,

@@ -28,7 +28,7 @@ pub enum EncoderSituation<Word> {
 impl<Word> Default for EncoderSituation<Word> {
     ghost is_default = { λ situation. situation ≡ Normal };
 
-    /// Returns [`EncoderSituation::Normal`].
+    /// Returns [`EncoderSituation::Normal`], which means that no word is pending.
     fn default() -> Self {
         EncoderSituation::Normal
     }

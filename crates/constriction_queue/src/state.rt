@@ -34,7 +34,7 @@ impl<Word: WordOf<State>, State: BitArray> Clone for RangeCoderState<Word, State
 
     ghost is_infallible = { λ _. Unit {0} };
 
-    /// Returns the same interval.
+    /// Returns a copy of the interval. The call never fails.
     fn clone(&self) -> Result<Self, AllocError> {
         Ok(*self)
     }

@@ -24,7 +24,8 @@ pub fn reaches_over<State: BitArray>(lower: State, range: State) -> bool
 
 /// Returns the pending words, with a carry added to them if `carry` is true.
 ///
-/// There are `count` pending words. The first is `first`, and each other word is all ones.
+/// There are `count` pending words. The first is `first`, and each other word is all ones. The caller proves that
+/// `first` isn't all ones.
 #[inline]
 pub fn carried<Word: BitArray>(count: NonZeroUsize, first: Word, carry: bool) -> HeldWords<Word>
     requires { Word.number first + 1 < 2 ^ Word.BITS }

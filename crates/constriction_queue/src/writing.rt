@@ -1,7 +1,8 @@
 //! Writing words to a backend.
 //!
-//! Most steps write at most one word. [`write_step`] has the code for that word in line, and calls a function that
-//! isn't inlined for several words. Therefore an encode usually makes no call, except when a vector grows.
+//! Most steps write at most one word. [`write_step`] is inlined, with the code for a step that releases at most one
+//! pending word. If a step releases several pending words, `write_step` calls a function that isn't inlined. Therefore
+//! an encode usually makes no call, except when a vector grows.
 
 ghost use Rattle.std.specs.Prelude.{◌≡◌, ◌+◌, ◌<◌, ◌≤◌, ◌^◌, ◌++◌, ◌∷◌, ◌⊎◌, [], None, Some, length, IfErr};
 ghost use Rattle.constriction_base.specs.Writing.{Appends, WritesAll};
@@ -219,7 +220,8 @@ fn write_several<Word: BitArray, Backend: WriteWords<Word>>(
 
 /// Writes the words of a step: the words of `held`, then `top`. Skips each argument that is `None`.
 ///
-/// Without pending words (`held`), a step has at most one word. The call first asks for room for all words to write.
+/// If there is any word to write, the call first asks for room for all of them. `held` contains the pending words that
+/// no later carry can change. If `held` is `None`, the call writes at most one word.
 #[inline(always)]
 pub fn write_step<Word: BitArray, Backend: WriteWords<Word>>(
     bulk: &mut Backend,

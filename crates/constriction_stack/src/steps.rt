@@ -97,8 +97,9 @@ pub fn pushed_onto<Word: WordOf<State>, State: BitArray, Backend: WriteWords<Wor
 ///
 /// The caller proves that `head` is below `p * 2^(State::BITS - precision)`, so the new head fits a `State`.
 ///
-/// With a reciprocal, the call computes the new head as `head + left + head / p * (2^precision - p)`. This formula
-/// needs the quotient but no remainder.
+/// The new head is `head / p * 2^precision + left + head % p`. If `reciprocal` contains a reciprocal of `p`, the call
+/// computes the same number as `head + left + head / p * (2^precision - p)`. This formula needs no remainder, and the
+/// reciprocal replaces the division.
 #[inline]
 fn pushed<State: BitArray>(
     head: State,

@@ -98,7 +98,10 @@ where
     Ok(())
 }
 
-/// Encodes `chunks` in order with a new encoder, and returns the index, which has an entry for each chunk.
+/// Encodes `chunks` in order with `encoder`, and returns the index, which has an entry for each chunk.
+///
+/// The caller proves that `encoder` is in the state of a new encoder, and that all chunks together have at most
+/// [`MOST_SYMBOLS`] symbols.
 fn encode_chunks<
     Word: WordOf<State>,
     State: BitArray,

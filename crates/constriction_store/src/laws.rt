@@ -81,7 +81,7 @@ where
     Ok(found)
 }
 
-/// The reason why a round trip through a store failed.
+/// The reason why building a store or looking up its chunks failed.
 #[derive(Debug, Clone, Copy, PartialEq, Eq)]
 pub enum ThroughStore {
     /// [`Store::build`] returned this error.

@@ -37,7 +37,8 @@ pub enum ChunkError {
 
 /// Returns a decoder of `words` that starts at a position.
 ///
-/// `place` is the number of words before the position, and `state` is the interval at the position.
+/// `place` is the number of words before the position, and `state` is the interval at the position. The caller proves
+/// that `place` is at most the number of words.
 fn decoder_at<'a, Word: WordOf<State>, State: BitArray>(
     words: &'a [Word],
     place: usize,

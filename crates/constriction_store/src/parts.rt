@@ -10,14 +10,20 @@ use constriction_queue::RangeCoderState;
 use constriction_words::{BitArray, WordOf};
 use thiserror::Error;
 
-/// The reason why [`Store::from_parts`] fails: a position is past the end of the words, or there are too many symbols.
+/// The error of [`Store::from_parts`], for an index that exceeds a limit.
+///
+/// The error means that an entry's position is past the end of the words, or that all chunks together have more than
+/// [`MOST_SYMBOLS`] symbols.
 #[derive(Debug, Clone, Copy, PartialEq, Eq, Error)]
 #[error("bad index")]
 pub struct BadIndex;
 
-/// Returns whether the positions and the total number of symbols in `index` are within their limits.
+/// Returns whether a store of `count` words can have the index `index`.
 ///
-/// Each position is at most `count`, the number of words. All chunks together have at most [`MOST_SYMBOLS`] symbols.
+/// The call returns `true` if and only if both of these conditions hold:
+///
+/// - The position of each entry is at most `count`.
+/// - All chunks together have at most [`MOST_SYMBOLS`] symbols.
 fn index_fits<Word: WordOf<State>, State: BitArray>(
     count: usize,
     index: &[(usize, RangeCoderState<Word, State>, usize)],

@@ -162,7 +162,8 @@ pub trait Decode<const PRECISION: usize>: Code {
 
     /// Returns whether the data may have ended.
     ///
-    /// If the call returns `false`, the next decode doesn't fail for lack of data, and the coder's `has_data` holds.
+    /// If the call returns `false`, the next decode doesn't fail for lack of data, and the ghost member `has_data`
+    /// holds for the coder. The default method always returns `true`.
     fn maybe_exhausted(&self) -> bool
         ensures data { OnFalse result (has_data self.now) }
         ensures goes_on { OnFalse result (GoesOn decodes halts is_end_of_data self.now) }

@@ -29,8 +29,8 @@ use std::marker::{Model, PhantomData};
 
 /// A list of bits that is stored in words of type `Word`: a [`StackCoder`], or a [`QueueEncoder`].
 ///
-/// Bits fill a word from its lowest bit to its highest. The coder writes a full word to the backend only when the
-/// caller appends the next bit.
+/// Bits fill a word from its lowest bit to its highest. The coder holds the last bits, at most one word, outside the
+/// backend. If this word is full, the coder writes it to the backend only when the caller appends the next bit.
 ///
 /// Contracts describe the coder by a `BitsValue`: all bits, the bits of the word outside the backend, and the backend.
 ///

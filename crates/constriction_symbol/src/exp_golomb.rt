@@ -182,10 +182,10 @@ impl<N: BitArray> DecoderCodebook for ExpGolomb<N> {
     ///
     /// # Errors
     ///
-    /// After an error, the source continues after the last bit read. Below, `B` is `N::BITS`.
+    /// After an error, the source continues after the last bit read.
     ///
-    /// - `Frontend(InvalidCodeword(..))` if the call reads `B + 1` zeros, or `B` zeros, a 1, and `B` bits that aren't
-    ///   all 0.
+    /// - `Frontend(InvalidCodeword(..))` if the first `N::BITS + 1` bits read are zeros. The call returns the same
+    ///   error if it reads `N::BITS` zeros, a 1, and then `N::BITS` bits that aren't all 0.
     /// - `Frontend(OutOfCompressedData)` if the bits end before a codeword is complete.
     /// - `Backend(error)` if the source returns this error in place of a bit.
     #[inline]

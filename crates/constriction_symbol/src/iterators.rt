@@ -1,8 +1,8 @@
 //! Iterators over decoded symbols, and over a repeated codebook.
 //!
 //! `StackCoder` and `QueueDecoder` are iterators over bits. Their `size_hint` doesn't report the number of bits left,
-//! because a backend that is an iterator doesn't know how many words are left. If a coder has `len`, a loop over
-//! `0..coder.len()` can read each bit.
+//! because the backend may be an iterator, which doesn't know how many words are left. If a coder has `len`, a loop
+//! over `0..coder.len()` can read each bit.
 
 ghost use Rattle.constriction_stream.specs.Lists.{AnswersNext};
 ghost use Rattle.constriction_symbol.specs.Codewords.{ReadsSymbol};

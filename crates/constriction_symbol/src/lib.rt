@@ -24,8 +24,8 @@
 //! - [`reversed`]: emits codewords from the first bit to the last, for codebooks that find the last bit first.
 //! - [`iterators`]: iterators over decoded symbols.
 //! - [`exp_golomb`]: the Exp-Golomb codebook for numbers.
-//! - [`huffman`]: Huffman trees for encoding and decoding. No prefix-free codebook has a lower sum of weight times
-//!   codeword length.
+//! - [`huffman`]: Huffman trees for encoding and decoding. No prefix-free codebook for the same weights has a lower sum
+//!   of each symbol's weight times the length of its codeword.
 //!
 //! # Definitions
 //!

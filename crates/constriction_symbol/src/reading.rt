@@ -20,9 +20,10 @@ use std::marker::PhantomData;
 /// A stream of bits that decodes symbols.
 ///
 /// An implementor defines the list of unread bits (`unread`), what a read may return (`gives`), and whether reads
-/// follow the list (`is_list`). The implementor proves that each call obeys these definitions. If reads follow the
-/// list, each read returns the first unread bit, `None` if no bit is unread, or an error. The implementor also proves
-/// this.
+/// follow the list (`is_list`). The implementor proves that each call obeys these definitions.
+///
+/// The implementor also proves a law for reads that follow the list: each read returns the first unread bit, `None` if
+/// no bit is unread, or an error.
 pub trait ReadBitStream<S: Semantics> {
     type ReadError;
 

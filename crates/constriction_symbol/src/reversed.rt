@@ -1,10 +1,10 @@
 //! Emits codewords first bit first (the prefix form), for codebooks that find the last bit first.
 //!
-//! A codebook that climbs from a leaf to the root of a tree finds the bits in this order. [`reversed_codeword`] emits
-//! the codewords of such a codebook first bit first.
+//! A codebook that climbs from a leaf to the root of a tree finds the last bit first. [`reversed_codeword`] emits the
+//! codewords of such a codebook first bit first.
 //!
 //! [`reversed_codeword`] reverses the bits with a [`SmallBitStack`]. This stack holds two words of bits without
-//! allocating: the first word is inline in the small vector, and the second word is outside the backend. The stack's
+//! allocating: the first word is inline in the backend, and the second word is outside the backend. The stack's
 //! constructor is in the trait [`NewSmallStack`], because a second `StackCoder::new` would be ambiguous.
 
 ghost use Rattle.constriction_symbol.specs.Bits.{PutsBit};

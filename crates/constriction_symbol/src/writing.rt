@@ -77,9 +77,9 @@ pub trait WriteBitStream<S: BitOrder> {
     ///
     /// # Errors
     ///
-    /// Returns the error of the first symbol that fails (see [`WriteBitStream::encode_symbol`]). The call has then
-    /// written exactly the earlier codewords, and the failing codeword's bits before the failing write. The call takes
-    /// no further item from the iterator.
+    /// Returns the error of the first symbol that fails. The call has then written exactly the codewords of all earlier
+    /// symbols, and the bits that [`WriteBitStream::encode_symbol`] writes before this error. The call takes no further
+    /// item from the iterator.
     ///
     /// # Examples
     ///
@@ -241,10 +241,9 @@ where
     ///
     /// # Errors
     ///
-    /// Returns the error of the first symbol that fails, counted from the end of the list (see
-    /// [`WriteBitStream::encode_symbol`]). The call has then written exactly the codewords of all later symbols in the
-    /// list, and the failing codeword's bits before the failing write. The call takes no further item from
-    /// `symbols_and_codebooks`.
+    /// Returns the error of the first symbol that fails, counted from the end of the list. The call has then written
+    /// exactly the codewords of all later symbols in the list, and the bits that [`WriteBitStream::encode_symbol`]
+    /// writes before this error. The call takes no further item from `symbols_and_codebooks`.
     pub fn encode_symbols_reverse<L, C, I>(
         &mut self,
         symbols_and_codebooks: I,

@@ -1,7 +1,7 @@
 //! `BitArray`: unsigned integers of a fixed number of bits, with exact arithmetic.
 //!
-//! The six impls are written out, one file each, because the gate refuses impls that a macro of this repository writes.
-//! The impls call methods of `num_traits`, so the methods of `BitArray` have other names.
+//! The six impls are written out, one file each, because the gate (continuous integration) refuses impls that a macro
+//! of this repository writes. The impls call methods of `num_traits`, so the methods of `BitArray` have other names.
 
 ghost use Rattle.std.specs.Prelude.{◌≡◌, ◌↔◌, ◌+◌, ◌-◌, ◌*◌, ◌/◌, ◌%◌, ◌^◌, ◌<◌, ◌≤◌, ℕ, IsTrue, MatchOption};
 ghost use Rattle.constriction_words.specs.Reciprocals.{IsReciprocalOf};

@@ -1,8 +1,9 @@
 //! Backends that hold the same words as a stack and as a queue.
 //!
-//! `Holds` doesn't include the law of `BothWays`, because the law is false for a cursor. A cursor's position separates
-//! its stack from its queue. A coder that only lends its words to a decoder needs no `BothWays`, because the decoder
-//! reads the list of `Holds<Word, Queue>`.
+//! The law of `BothWays` states that the list of the queue is the reverse of the list of the stack. `Holds` doesn't
+//! include this law, because the law is false for a cursor: a cursor's position separates its stack from its queue. A
+//! coder that only lends its words to a decoder needs no `BothWays`, because the decoder reads the list of
+//! `Holds<Word, Queue>`.
 
 ghost use Rattle.std.specs.Prelude.{◌≡◌, reverse};
 

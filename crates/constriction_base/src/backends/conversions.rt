@@ -14,8 +14,8 @@ use crate::backends::semantics::{Semantics, Stack};
 /// A value that turns into a backend for reading.
 ///
 /// An implementor chooses the relation `becomes` between the value and the new backend. It proves that the new backend
-/// holds the same words. For vectors and slices, `becomes` states the buffer and the position of the cursor that they
-/// turn into.
+/// holds the same words as the value, in the order `S`. For vectors and slices, `becomes` states the buffer and the
+/// position of the cursor that the value turns into.
 pub trait IntoReadWords<Word, S: Semantics>: Holds<Word, S> {
     /// The backend that the value turns into.
     type IntoReadWords: ReadWords<Word, S> + Drop;
@@ -32,7 +32,7 @@ pub trait IntoReadWords<Word, S: Semantics>: Holds<Word, S> {
 /// A value that lends a backend for reading.
 ///
 /// An implementor chooses the relation `becomes` between the value and the lent backend. It proves that the lent
-/// backend holds the same words, as for [`IntoReadWords`].
+/// backend holds the same words as the value, in the order `S`.
 pub trait AsReadWords<'a, Word, S: Semantics>: Holds<Word, S> {
     /// The backend that the value lends.
     type AsReadWords: ReadWords<Word, S> + Drop;
@@ -49,7 +49,7 @@ pub trait AsReadWords<'a, Word, S: Semantics>: Holds<Word, S> {
 /// A value that turns into a backend that can read and seek.
 ///
 /// An implementor chooses the relation `becomes` between the value and the new backend. It proves that the new backend
-/// holds the same words, as for [`IntoReadWords`].
+/// holds the same words as the value, in the order `S`.
 pub trait IntoSeekReadWords<Word, S: Semantics>: Holds<Word, S> {
     /// The backend that the value turns into.
     type IntoSeekReadWords: ReadWords<Word, S> + Seek + Drop;
@@ -66,7 +66,7 @@ pub trait IntoSeekReadWords<Word, S: Semantics>: Holds<Word, S> {
 /// A value that lends a backend that can read and seek.
 ///
 /// An implementor chooses the relation `becomes` between the value and the lent backend. It proves that the lent
-/// backend holds the same words, as for [`IntoReadWords`].
+/// backend holds the same words as the value, in the order `S`.
 pub trait AsSeekReadWords<'a, Word, S: Semantics>: Holds<Word, S> {
     /// The backend that the value lends.
     type AsSeekReadWords: ReadWords<Word, S> + Seek + Drop;

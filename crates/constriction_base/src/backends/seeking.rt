@@ -15,7 +15,7 @@ ghost use Rattle.std.specs.Prelude.{◌≡◌, ℕ, length, IsOk, OnOk, OnErr};
 use crate::backends::reading::Holds;
 use crate::backends::semantics::Stack;
 
-/// A backend or a coder that has positions.
+/// A backend or a coder that has positions: places in its words that a caller can record or seek to.
 pub trait PosSeek {
     /// The type of positions. For vectors and cursors, a position is the number of words before it.
     type Position: Drop;

@@ -9,9 +9,9 @@ use crate::backends::writing::WriteWords;
 
 /// Removes the next `count` words from the backend `bulk` by reading them.
 ///
-/// If a read fails, the call stops and leaves the other words. If no read can fail, the call removes exactly the next
-/// `count` words, or all words if fewer are left. A coder's guard calls `take_back` to remove the words that the guard
-/// wrote onto the backend.
+/// If a read fails, the call makes no further read. If no read can fail, the call removes exactly the next `count`
+/// words, or all words if fewer are left. A coder's guard (an object that lends the coder's exported data) calls
+/// `take_back` to remove the words that the guard wrote onto the backend.
 pub fn take_back<Word, Backend>(bulk: &mut Backend, count: usize)
 where
     Word: Drop,

@@ -1,7 +1,7 @@
-//! Writing to a cursor: each write replaces the word at the position, until the buffer ends.
+//! Writing to a cursor: each write replaces the word at the position, until the position is the end of the buffer.
 //!
-//! The contract of `write` states more than the contract in the trait: one word and the position change, and all other
-//! words stay the same.
+//! The contract of `write` here states more than the contract of `WriteWords::write`: one word and the position change,
+//! and all other words stay the same.
 
 ghost use Rattle.std.specs.Prelude.{◌≡◌, ◌+◌, ◌-◌, ◌∷◌, ◌<◌, ◌≤◌, ◌==◌, Result, Ok, Err, length, reverse, IsOk, OnOk};
 ghost use Rattle.std.specs.Prelude.{OnErr, IfErr, slice_set, take};

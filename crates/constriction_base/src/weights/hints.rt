@@ -33,6 +33,9 @@ pub fn shift_for(symbols: usize, precision: usize) -> u32
 }
 
 /// Returns the last symbol at or after `from` whose interval starts at or below `quantile`.
+///
+/// `starts` holds the start of each symbol's interval, in ascending order. The caller proves that the interval of
+/// `from` starts at or below `quantile`.
 fn symbol_from<Probability: BitArray>(
     starts: &[Probability],
     from: usize,
@@ -55,8 +58,10 @@ fn symbol_from<Probability: BitArray>(
 
 /// Returns the symbol of each bucket's first quantile, followed by the last symbol.
 ///
-/// A bucket consists of the `2 ^ shift` quantiles with the same high bits. `starts` holds the start of each symbol's
-/// interval.
+/// A bucket consists of `2 ^ shift` quantiles that differ only in their lowest `shift` bits. `starts` holds the start
+/// of each symbol's interval. The caller proves that `starts` begins with 0, never falls and stays below
+/// `2 ^ PRECISION`, and that there are from 2 to `2 ^ 63` buckets. The call returns `Err(AllocError)` if there is no
+/// memory for the result.
 pub fn hints_of<Probability: BitArray, const PRECISION: usize>(
     alloc: Global,
     starts: &[Probability],

@@ -52,7 +52,8 @@ pub fn known_symbols<Probability: BitArray, const PRECISION: usize>(
 
 /// Returns the start of each weight's interval, followed by the sum of all weights.
 ///
-/// The caller proves that this sum fits `Probability`, and that the number of weights plus 1 is below `2 ^ 64`.
+/// The caller proves that this sum fits `Probability`, and that the number of weights plus 1 is below `2 ^ 64`. The
+/// call returns `Err(AllocError)` if there is no memory for the result.
 pub fn starts_of<Probability: BitArray>(
     alloc: Global,
     weights: &[Probability],

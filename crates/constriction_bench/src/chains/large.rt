@@ -94,7 +94,7 @@ where
     }
 }
 
-/// Fills `symbols` with symbols decoded from `words` in binary form, with a table of weights.
+/// Fills `symbols` with symbols decoded from `words` in binary form, with the table of `weights`.
 ///
 /// Copies the words of the remainders to `out`, as many as fit. Returns the total number of words of the remainders, or
 /// 0 after a failure (see [`crate`]).
@@ -112,10 +112,11 @@ pub extern "C" fn constriction_bench_chain_decode_u32u64p24_table(
     decode_out(coder_of(alloc, words), symbols, &table, out)
 }
 
-/// Encodes symbols from the last to the first with a coder of `remainders`, with a table of weights.
+/// Encodes symbols from the last to the first, with the table of `weights`.
 ///
-/// Copies the compressed words, in binary form, to `out`, as many as fit. Returns the total number of compressed
-/// words, or 0 after a failure (see [`crate`]).
+/// The chain coder starts with a copy of `remainders` and without compressed words. Copies the compressed words, in
+/// binary form, to `out`, as many as fit. Returns the total number of compressed words, or 0 after a failure (see
+/// [`crate`]).
 #[unsafe(no_mangle)]
 pub extern "C" fn constriction_bench_chain_encode_u32u64p24_table(
     alloc: Global,
@@ -148,11 +149,11 @@ pub extern "C" fn constriction_bench_chain_decode_u32u64p24_flat(
     decode_out(coder_of(alloc, words), symbols, &flat, out)
 }
 
-/// Encodes `symbols`, from the last to the first, with equal weights for the symbols below `2^bits`.
+/// Encodes symbols below `2^bits` from the last to the first, with equal weights.
 ///
-/// The chain coder starts with a copy of `remainders` and without compressed words.
-/// Copies the compressed words, in binary form, to `out`, as many as fit. Returns the total number of compressed
-/// words, or 0 after a failure (see [`crate`]).
+/// The chain coder starts with a copy of `remainders` and without compressed words. Copies the compressed words, in
+/// binary form, to `out`, as many as fit. Returns the total number of compressed words, or 0 after a failure (see
+/// [`crate`]).
 #[unsafe(no_mangle)]
 pub extern "C" fn constriction_bench_chain_encode_u32u64p24_flat(
     alloc: Global,
@@ -167,10 +168,10 @@ pub extern "C" fn constriction_bench_chain_encode_u32u64p24_flat(
     encode_out(coder_back(alloc, remainders), symbols, &flat, out)
 }
 
-/// Fills `symbols` with symbols decoded from `words`, with the [`BucketTable`] of `weights`.
+/// Fills `symbols` with symbols decoded from `words` in binary form, with the [`BucketTable`] of `weights`.
 ///
-/// The words are in binary form. Copies the words of the remainders to
-/// `out`, as many as fit. Returns the total number of words of the remainders, or 0 after a failure (see [`crate`]).
+/// Copies the words of the remainders to `out`, as many as fit. Returns the total number of words of the remainders, or
+/// 0 after a failure (see [`crate`]).
 #[unsafe(no_mangle)]
 pub extern "C" fn constriction_bench_chain_decode_u32u64p24_bucket(
     alloc: Global,

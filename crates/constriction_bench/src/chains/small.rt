@@ -95,7 +95,7 @@ where
     }
 }
 
-/// Fills `symbols` with symbols decoded from `words` in binary form, with a table of weights.
+/// Fills `symbols` with symbols decoded from `words` in binary form, with the table of `weights`.
 ///
 /// Copies the words of the remainders to `out`, as many as fit. Returns the total number of words of the remainders, or
 /// 0 after a failure (see [`crate`]).
@@ -113,10 +113,11 @@ pub extern "C" fn constriction_bench_chain_decode_u16u32p12_table(
     decode_out(coder_of(alloc, words), symbols, &table, out)
 }
 
-/// Encodes symbols from the last to the first with a coder of `remainders`, with a table of weights.
+/// Encodes symbols from the last to the first, with the table of `weights`.
 ///
-/// Copies the compressed words, in binary form, to `out`, as many as fit. Returns the total number of compressed
-/// words, or 0 after a failure (see [`crate`]).
+/// The chain coder starts with a copy of `remainders` and without compressed words. Copies the compressed words, in
+/// binary form, to `out`, as many as fit. Returns the total number of compressed words, or 0 after a failure (see
+/// [`crate`]).
 #[unsafe(no_mangle)]
 pub extern "C" fn constriction_bench_chain_encode_u16u32p12_table(
     alloc: Global,
@@ -149,11 +150,11 @@ pub extern "C" fn constriction_bench_chain_decode_u16u32p12_flat(
     decode_out(coder_of(alloc, words), symbols, &flat, out)
 }
 
-/// Encodes `symbols`, from the last to the first, with equal weights for the symbols below `2^bits`.
+/// Encodes symbols below `2^bits` from the last to the first, with equal weights.
 ///
-/// The chain coder starts with a copy of `remainders` and without compressed words.
-/// Copies the compressed words, in binary form, to `out`, as many as fit. Returns the total number of compressed
-/// words, or 0 after a failure (see [`crate`]).
+/// The chain coder starts with a copy of `remainders` and without compressed words. Copies the compressed words, in
+/// binary form, to `out`, as many as fit. Returns the total number of compressed words, or 0 after a failure (see
+/// [`crate`]).
 #[unsafe(no_mangle)]
 pub extern "C" fn constriction_bench_chain_encode_u16u32p12_flat(
     alloc: Global,
@@ -168,10 +169,10 @@ pub extern "C" fn constriction_bench_chain_encode_u16u32p12_flat(
     encode_out(coder_back(alloc, remainders), symbols, &flat, out)
 }
 
-/// Fills `symbols` with symbols decoded from `words`, with the [`LookupTable`] of `weights`.
+/// Fills `symbols` with symbols decoded from `words` in binary form, with the [`LookupTable`] of `weights`.
 ///
-/// The words are in binary form. Copies the words of the remainders to
-/// `out`, as many as fit. Returns the total number of words of the remainders, or 0 after a failure (see [`crate`]).
+/// Copies the words of the remainders to `out`, as many as fit. Returns the total number of words of the remainders, or
+/// 0 after a failure (see [`crate`]).
 #[unsafe(no_mangle)]
 pub extern "C" fn constriction_bench_chain_decode_u16u32p12_lookup(
     alloc: Global,

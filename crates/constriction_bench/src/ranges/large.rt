@@ -6,7 +6,7 @@ use crate::ranges::{decode_range_in, encode_range_out};
 use constriction_base::weights::WeightTable;
 use std::alloc::Global;
 
-/// Encodes symbols in order, with a table of weights.
+/// Encodes symbols in order, with the table of `weights`.
 ///
 /// Copies the words to `out`, as many as fit. Returns the total number of words, or 0 after a failure (see [`crate`]).
 #[unsafe(no_mangle)]
@@ -22,7 +22,7 @@ pub extern "C" fn constriction_bench_range_encode_u32u64p24_table(
     encode_range_out::<u32, u64, _, 24>(alloc, symbols, &table, out)
 }
 
-/// Fills `symbols` with symbols decoded from `words`, with a table of weights.
+/// Fills `symbols` with symbols decoded from `words`, with the table of `weights`.
 ///
 /// Returns `false` after a failure (see [`crate`]).
 #[unsafe(no_mangle)]

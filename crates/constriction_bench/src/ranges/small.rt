@@ -7,7 +7,7 @@ use crate::ranges::{decode_range_in, encode_range_out};
 use constriction_base::weights::WeightTable;
 use std::alloc::Global;
 
-/// Encodes symbols in order, with a table of weights.
+/// Encodes symbols in order, with the table of `weights`.
 ///
 /// Copies the words to `out`, as many as fit. Returns the total number of words, or 0 after a failure (see [`crate`]).
 #[unsafe(no_mangle)]
@@ -23,7 +23,7 @@ pub extern "C" fn constriction_bench_range_encode_u16u32p12_table(
     encode_range_out::<u16, u32, _, 12>(alloc, symbols, &table, out)
 }
 
-/// Fills `symbols` with symbols decoded from `words`, with a table of weights.
+/// Fills `symbols` with symbols decoded from `words`, with the table of `weights`.
 ///
 /// Returns `false` after a failure (see [`crate`]).
 #[unsafe(no_mangle)]

@@ -39,7 +39,8 @@ pub extern "C" fn constriction_quantized_intervals_u32(
 
 /// Writes a weight for each count into `weights`. The weights add up to `2^24`.
 ///
-/// The weights are in proportion to the counts, apart from rounding. Each count above 0 gets a weight of at least 1.
+/// The weights are in proportion to the counts, apart from rounding. Each count above 0 gets a weight of at least 1,
+/// and a count of 0 gets the weight 0.
 ///
 /// Calls [`put_weights_of_counts`] and returns the code of its result ([`code_of`](crate::codes::code_of)).
 #[unsafe(no_mangle)]

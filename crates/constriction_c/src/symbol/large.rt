@@ -1,6 +1,6 @@
 //! Encoding and decoding with codebooks, over 32-bit words.
 //!
-//! A function sets `needed` only if its call returns `NoSpace`.
+//! A function sets `needed` only if it returns the code of the error `NoSpace`.
 
 ghost use Rattle.constriction_c.specs.Large.{PutsAtBitU32, PutsCodewordsU32, TakesAtBitU32, TakesCodewordsU32};
 ghost use Rattle.constriction_c.specs.Words.{lowest};

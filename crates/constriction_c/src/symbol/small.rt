@@ -1,7 +1,7 @@
 // Written by tools/sizes from large.rt.
 //! Encoding and decoding with codebooks, over 16-bit words.
 //!
-//! A function sets `needed` only if its call returns `NoSpace`.
+//! A function sets `needed` only if it returns the code of the error `NoSpace`.
 
 ghost use Rattle.constriction_c.specs.Small.{PutsAtBitU16, PutsCodewordsU16, TakesAtBitU16, TakesCodewordsU16};
 ghost use Rattle.constriction_c.specs.Words.{lowest};

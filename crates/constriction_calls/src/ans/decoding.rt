@@ -140,6 +140,9 @@ pub fn decode_narrow<
 }
 
 /// Decodes symbols into `symbols` with a list of models. Returns the new head and the number of words below it.
+///
+/// The state is `head` and the first `len` words of `words`. The caller proves that `len` isn't past the end of
+/// `words`, and that `models` has one model for each symbol.
 #[inline(never)]
 fn decode_by<
     Word: WordOf<State>,

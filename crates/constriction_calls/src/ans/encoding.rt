@@ -184,7 +184,7 @@ fn intervals_by_rows<Word: WordOf<State>, State: BitArray, P: WordOf<Word>, cons
 /// Encodes symbols from the last to the first, each with its own model, onto a state of `head` and no words.
 ///
 /// Returns the words that the encodes write, and the new head. Returns `None` if a model has no entry for its symbol,
-/// or if there is no memory.
+/// or if there is no memory. The caller proves that `models` has one model for each symbol.
 #[inline]
 fn coded<
     Word: WordOf<State>,

@@ -219,7 +219,8 @@ pub fn decode_narrow<
 
 /// Decodes `places.len()` symbols, each with its own model.
 ///
-/// `places` is the caller's list for the decoded symbols. The call returns the symbols and leaves `places` unchanged.
+/// The call returns the symbols. `places` is the list into which the caller then copies them. The caller proves that
+/// `models.check(places)` would succeed.
 ///
 /// # Errors
 ///
@@ -253,6 +254,8 @@ fn take_by<
 }
 
 /// Decodes `count` symbols in order, each with its own model of the list `models`.
+///
+/// The caller proves that the list has `count` models.
 ///
 /// # Errors
 ///
@@ -296,13 +299,14 @@ fn take_symbols<
 /// Appends the words of the remainders of `coder` to `remainders`, and adds their number to `remainders_len`.
 ///
 /// The call also sets `heads` to the heads of `coder`, and `compressed_len` to its number of compressed words.
+/// The caller proves that `remainders_len` is at most the length of `remainders`.
 ///
 /// # Errors
 ///
 /// A call that fails changes nothing.
 ///
 /// - `NoSpace(needed)`: `remainders` is too short. `needed` is the number of words that `remainders` has to hold.
-/// - `NoMemory`: this number doesn't fit a `usize`.
+/// - `NoMemory`: the number of words that `remainders` has to hold doesn't fit a `usize`.
 fn end_taking<'a, Word: WordOf<State>, State: BitArray, const PRECISION: usize>(
     coder: Taking<'a, Word, State, PRECISION>,
     heads: &mut ChainHeads<Word, State>,

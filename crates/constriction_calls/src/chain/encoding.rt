@@ -315,7 +315,7 @@ fn intervals_by_rows<Word: WordOf<State>, State: BitArray, P: WordOf<Word>, cons
 /// Encodes symbols with `coder` from the last to the first, each with its own model.
 ///
 /// `is_room` is whether the coder's buffer for new words has a word for each symbol. If `is_room` is false, the call
-/// encodes no symbol and returns an error.
+/// encodes no symbol and returns an error. The caller proves that `models.check(symbols)` would succeed.
 ///
 /// # Errors
 ///
@@ -363,6 +363,8 @@ fn put_by<
 }
 
 /// Encodes symbols from the last to the first, each with its own model of the list `models`.
+///
+/// The caller proves that the list has one model for each symbol.
 ///
 /// # Errors
 ///
@@ -466,13 +468,14 @@ fn put_in_line<
 /// Appends the compressed words of `coder` to `compressed`, and adds their number to `compressed_len`.
 ///
 /// The call also sets `heads` to the heads of `coder`, and `remainders_len` to its number of words of remainders.
+/// The caller proves that `compressed_len` is at most the length of `compressed`.
 ///
 /// # Errors
 ///
 /// A call that fails changes nothing.
 ///
 /// - `NoSpace(needed)`: `compressed` is too short. `needed` is the number of words that `compressed` has to hold.
-/// - `NoMemory`: this number doesn't fit a `usize`.
+/// - `NoMemory`: the number of words that `compressed` has to hold doesn't fit a `usize`.
 fn end_putting<'a, Word: WordOf<State>, State: BitArray, const PRECISION: usize>(
     coder: Putting<'a, Word, State, PRECISION>,
     heads: &mut ChainHeads<Word, State>,

@@ -33,8 +33,8 @@ type Bare<Word, State, const PRECISION: usize> = ChainCoder<
 
 /// Imports a coder from compressed words. The coder has no words of remainders below its heads.
 ///
-/// The last words become the remainders head, and no bits are left over. The call sets `heads`, and sets `len` to the
-/// number of words that stay in `words`, below the compressed head.
+/// The last words become the remainders head. The compressed head becomes 1, so it has no bits left over. The call sets
+/// `heads`, and sets `len` to the number of words that stay in `words`, below the compressed head.
 ///
 /// # Errors
 ///
@@ -70,8 +70,8 @@ pub fn from_compressed<Word: WordOf<State>, State: BitArray, const PRECISION: us
 
 /// Imports a coder from compressed words in binary form. The coder has no words of remainders below its heads.
 ///
-/// The last words become the remainders head, below a leading 1, and no bits are left over. The call sets `heads`, and
-/// sets `len` to the number of words that stay in `words`, below the compressed head.
+/// The last words become the remainders head, below a leading 1. The compressed head becomes 1, so it has no bits left
+/// over. The call sets `heads`, and sets `len` to the number of words that stay in `words`, below the compressed head.
 ///
 /// # Errors
 ///
@@ -148,12 +148,12 @@ pub fn from_remainders<Word: WordOf<State>, State: BitArray, const PRECISION: us
 ///
 /// # Errors
 ///
-/// The call checks for errors in this order:
+/// The call returns the first of these errors that applies, but it may return `NoMemory` in place of `NoSpace`:
 ///
-/// - `WrongLength` if and only if `compressed_len` is past the buffer's end.
-/// - `InvalidData` if and only if no coder has these heads, or bits are left over.
-/// - `NoSpace(needed)` if the buffer is too short. `needed` is the number of words that the buffer has to hold.
-/// - `NoMemory` if there is no memory.
+/// - `WrongLength`: `compressed_len` is past the buffer's end.
+/// - `InvalidData`: no coder has these heads, or the compressed head isn't 1, so it has bits left over.
+/// - `NoSpace(needed)`: the buffer is too short. `needed` is the number of words that the buffer has to hold.
+/// - `NoMemory`: there is no memory.
 pub fn into_compressed<Word: WordOf<State>, State: BitArray, const PRECISION: usize>(
     alloc: Global,
     heads: &ChainHeads<Word, State>,
@@ -229,7 +229,8 @@ pub fn into_binary<Word: WordOf<State>, State: BitArray, const PRECISION: usize>
 ///
 /// # Errors
 ///
-/// The call returns the errors of [`into_compressed`], for the buffer of the remainders. Bits left over are no error.
+/// The call returns the errors of [`into_compressed`], with `remainders` and `remainders_len` in place of `compressed`
+/// and `compressed_len`. But bits left over in the compressed head are no error, because this call exports that head.
 pub fn into_remainders<Word: WordOf<State>, State: BitArray, const PRECISION: usize>(
     alloc: Global,
     heads: &ChainHeads<Word, State>,

@@ -107,7 +107,10 @@ pub fn encode_stack<Word: BitArray, C: Codes>(
 /// Encodes symbols as a queue of bits that begins with the first `bit` bits of `words`.
 ///
 /// Returns the queue's words, beginning with the word that contains bit `bit`, and the number of bits in the queue.
-/// Returns `None` if the weights make no tree, if a symbol has no codeword, or if there is no memory.
+/// Returns `None` if the weights make no tree, if a symbol has no codeword, or if there is no memory. Also returns
+/// `None` if the number of bits doesn't fit a `usize`.
+///
+/// The caller proves that `words` has at least `bit` bits, and fewer than 2^64 bits.
 fn words_from<Word: BitArray, C: Codes>(
     alloc: Global,
     codes: &C,
@@ -159,7 +162,8 @@ fn queue_of_first<Word: BitArray>(
 
 /// Encodes symbols onto the queue `begun`. Returns the queue's words, and the number of bits in the queue.
 ///
-/// Returns `None` if the weights make no tree, if a symbol has no codeword, or if there is no memory.
+/// Returns `None` if the weights make no tree, if a symbol has no codeword, or if there is no memory. Also returns
+/// `None` if the number of bits doesn't fit a `usize`.
 fn queue_words<Word: BitArray, C: Codes>(
     alloc: Global,
     codes: &C,

@@ -1,4 +1,4 @@
-//! The implementation of [`crate::symbol::Codes`] for Exp-Golomb codewords. Every number of the type has a codeword.
+//! The implementation of [`crate::symbol::Codes`] for Exp-Golomb codewords. Every value of `Symbol` has a codeword.
 
 ghost use Rattle.constriction_calls.specs.SymbolCalls.{OfNumbers};
 

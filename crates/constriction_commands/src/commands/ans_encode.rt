@@ -19,7 +19,7 @@ use std::alloc::Global;
 
 /// Encodes `symbols` with `model`, and returns the words. A decoder returns the first symbol first.
 ///
-/// Returns `Encoder` if a symbol is impossible, or `OutOfMemory` if there is no memory.
+/// Returns `Encoder` if `model` has no interval for a symbol, or `OutOfMemory` if there is no memory.
 fn encode<M: EncoderModel<PRECISION, Symbol = usize, Probability = u32>>(
     alloc: Global,
     model: &M,
@@ -49,8 +49,10 @@ fn encode<M: EncoderModel<PRECISION, Symbol = usize, Probability = u32>>(
 ///
 /// # Errors
 ///
-/// Returns the faults of [`table_and_symbols`], `Encoder` if a symbol is impossible, or `OutOfMemory` if there is no
-/// memory.
+/// Returns the faults of [`table_and_symbols`], and these faults:
+///
+/// - `Encoder` if a symbol's weight is 0, or if there is no weight for a symbol.
+/// - `OutOfMemory` if there is no memory.
 pub fn answer(alloc: Global, text: &[u8]) -> Result<Vec<u8>, Fault>
     ensures ok { IfOk result (λ answer. IsAnsEncoded text.now answer.items) }
     ensures err { IfErr result (EncodeFails text.now) }

@@ -1,6 +1,6 @@
 //! The command `chain-split`, which decodes symbols with a chain coder.
 //!
-//! The command also writes the compressed words that no decode used, and the words of the remainders.
+//! The command also outputs the compressed words that the coder left unread, and the words of the coder's remainders.
 
 ghost use Rattle.std.specs.Prelude.{◌≡◌, ◌%◌, ◌^◌, ◌++◌, length, map, IfOk, IfErr};
 ghost use Rattle.constriction_commands.specs.Lines.{line_of};
@@ -75,10 +75,10 @@ fn three_lines(
     Ok(lines)
 }
 
-/// Decodes the words in the input `text`, and returns three lines of numbers.
+/// Decodes the words in the input `text` with a chain coder, and returns three lines of numbers.
 ///
 /// Line 1 of the input has the weights. Line 2 has the number of symbols, followed by the words. The lines returned
-/// have the symbols, the words that no decode used, and the words of the remainders, in this order.
+/// have the symbols, the words that the coder left unread, and the words of the coder's remainders, in this order.
 ///
 /// # Errors
 ///

@@ -63,12 +63,15 @@ fn decode<M: DecoderModel<PRECISION, Symbol = usize, Probability = u32>>(
 
 /// Decodes the words in the input `text`, and returns the symbols as a line of numbers.
 ///
-/// Line 1 of the input has the weights. Line 2 has the number of symbols, followed by the words.
+/// Line 1 of the input has the weights. Line 2 has the number of symbols, followed by the words. After the last word,
+/// the decoder reads words of value 0.
 ///
 /// # Errors
 ///
-/// Returns the faults of [`table_and_words`], `InvalidData` if the words don't encode this number of symbols, or
-/// `OutOfMemory` if there is no memory.
+/// Returns the faults of [`table_and_words`], and these faults:
+///
+/// - `InvalidData` if a decode reads a quantile of at least `2^24`, which no symbol has.
+/// - `OutOfMemory` if there is no memory.
 pub fn answer(alloc: Global, text: &[u8]) -> Result<Vec<u8>, Fault>
     ensures ok { IfOk result (λ answer. IsRangeDecoded text.now answer.items) }
     ensures err { IfErr result (RangeDecodeFails text.now) }

@@ -26,7 +26,7 @@ type Chunks = Store<u32, u64, Table, PRECISION>;
 /// # Errors
 ///
 /// - `TooManySymbols` if the chunks have more than `2^20` symbols in total.
-/// - `Encoder` if a symbol is impossible.
+/// - `Encoder` if a symbol's weight in `table` is 0, or if `table` has no weight for a symbol.
 /// - `OutOfMemory` if there is no memory for the store.
 fn store_of(alloc: Global, chunks: &[Vec<usize>], table: Table) -> Result<Chunks, Fault>
     ensures words { IfOk result (λ store. AreWordsOf (entries table) (lists_of chunks.now) store.words) }

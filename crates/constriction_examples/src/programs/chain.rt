@@ -21,7 +21,7 @@ pub fn run(rt: &impl Print, alloc: Global) -> Result<()> {
     }
     println!(rt; "{symbols:?}")?; // [0, 1]
 
-    // Export the words that no decode read, and the remainders.
+    // Export the words that the coder left unread, and the remainders.
     let (prefix, suffix) = coder.into_remainders()?;
 
     // Encode the symbols onto the remainders. This restores the words that the decodes read.

@@ -1,4 +1,6 @@
-//! Gaussian models: each symbol has its own mean and standard deviation. All numbers are integers.
+//! Gaussian models: each symbol has its own mean and standard deviation.
+//!
+//! The symbols are integers. The means and the standard deviations are integers in units of `2^-16`.
 
 use anyhow::{Result, bail};
 use constriction::stream::model::{Gaussian, LeakyQuantizer};

@@ -13,10 +13,10 @@ use constriction_base::weights::WeightTable;
 use constriction_words::BitArray;
 use std::alloc::Global;
 
-/// One table of weights of the symbols `0`, `1`, .., for all symbols to encode or decode.
+/// One table of weights for all symbols to encode or decode.
 ///
-/// The weights have to add up to `2 ^ PRECISION`. A symbol of weight 0 is impossible, and so is a symbol past the end
-/// of the list of weights.
+/// `weights[i]` is the weight of symbol `i`. The weights have to add up to `2 ^ PRECISION`. A symbol of weight 0 is
+/// impossible, and so is a symbol past the end of the list of weights.
 ///
 /// # Examples
 ///

@@ -43,7 +43,9 @@ pub fn put_weights_of_counts<P: WordOf<u32>, const PRECISION: usize>(
     }
 }
 
-/// Copies the numbers of `made` into `weights`. The caller proves that each number fits `P`.
+/// Copies the numbers of `made` into `weights`.
+///
+/// The caller proves that both lists have the same length, and that each number fits `P`.
 fn put<P: WordOf<u32>>(made: &[u32], weights: &mut [P])
     requires counted { length made.now ≡ length weights.now }
     requires fit { (k : ℕ) → k < length made.now → slice_index made.now k < 2 ^ P.BITS }

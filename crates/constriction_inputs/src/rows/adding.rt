@@ -31,7 +31,9 @@ pub fn is_total<P: BitArray, const PRECISION: usize>(weights: &[P]) -> bool
     is_reached
 }
 
-/// Returns the sum of the weights before index `symbol`. The caller proves that the sum fits `P`.
+/// Returns the sum of the weights before index `symbol`.
+///
+/// The caller proves that `symbol` is at most the number of weights, and that the sum fits `P`.
 pub fn sum_before<P: BitArray>(weights: &[P], symbol: usize) -> P
     requires within { symbol ≤ length weights.now }
     requires fits { sum_by P.number (take symbol weights.now) < 2 ^ P.BITS }

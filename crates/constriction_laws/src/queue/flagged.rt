@@ -41,9 +41,10 @@ pub fn flagged_symbols_come_back()
     symbols_come_back_whatever_follows::<usize>()
 }
 
-/// Decodes `amt` symbols from `switch`, with the model `first` up to and including the flag, and then with `second`.
+/// Decodes `amt` symbols, with the model `first` up to and including the flag, and then with the model `second`.
 ///
-/// Calls `next_symbol`.
+/// `switch` is a decoder that changes its model after the flag. The call decodes each symbol with `next_symbol`. If
+/// `switch` has already decoded the flag, all symbols have the model `second`.
 ///
 /// # Errors
 ///

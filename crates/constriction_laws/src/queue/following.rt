@@ -32,7 +32,7 @@ pub fn self_delimiting_words<Symbol>()
 
 /// A decoder reads the encoded steps from words with a self-delimiting seal, whatever words follow.
 ///
-/// The encoder and the decoder start from the initial interval.
+/// A step has a symbol's precision, weight and interval. The encoder and the decoder start from the initial interval.
 pub fn self_delimiting_words_are_read()
     ensures { (w s : ℕ) (steps : List Step) (words rest : List ℕ) → IsSizes w s → AreSteps w steps → AreWords w rest →
         DelimitsSteps w s steps words → ReadsSteps w s (words ++ rest) steps }

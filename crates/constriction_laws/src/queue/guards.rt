@@ -1,9 +1,9 @@
 //! The drop of a guard restores the encoder.
 //!
 //! The clause `shows` of `RangeEncoder::get_compressed` says that a guard lends the words of the export. The premises
-//! of the law here are the clauses `heads` and `back` of that call. The clause `heads` says that the guard's encoder
-//! has the same interval and pending words. The clause `back` says that it holds the words of the seal above the
-//! encoder's words.
+//! of the law here are the clauses `heads` and `back` of that call. A guard has an encoder of its own. The clause
+//! `heads` says that the guard's encoder has the interval and the pending words of the original encoder. The clause
+//! `back` says that the guard's encoder holds the words of the seal above the words of the original encoder.
 
 ghost use Rattle.std.specs.Prelude.{◌≡◌, ℕ};
 ghost use Rattle.constriction_queue.specs.Encoder.{Encoder, run_by, sealed_by};

@@ -4,8 +4,8 @@
 //! [`lists_undo`]. The steps of that law undo encodes, from the last to the first.
 //!
 //! An interval (`Run`) has a lower end, which is an unbounded number, and a range. It also has the number `n` of words
-//! that the encoder has moved out. Words lie within an interval if the number that they form lies in the interval. The
-//! digits of this number are the first `n + s/w` words. Digits past the last word are 0.
+//! that the encoder has moved out of its state. Words lie within an interval if the number that they form lies in the
+//! interval. The digits of this number are the first `n + s/w` words. Digits past the last word are 0.
 
 ghost use Rattle.std.specs.Prelude.{◌≡◌, ◌↔◌, ◌∷◌, ℕ, List};
 ghost use Rattle.constriction_base.specs.Models.{Item, IsModel, AreModels, AreKnown};
@@ -65,7 +65,7 @@ pub fn decodes_undo_encodes<Symbol>()
     lists_undo::<Encoding<Symbol>>()
 }
 
-/// Words decode to a nonempty list of symbols if and only if they lie within the interval after encoding the list.
+/// Words decode to a nonempty list of symbols if and only if the words lie within the interval after encoding the list.
 ///
 /// The encoder and the decoder start from the initial interval. The module's documentation explains when words lie
 /// within an interval.

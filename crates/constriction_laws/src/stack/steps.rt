@@ -10,7 +10,7 @@ ghost use Rattle.constriction_stack.specs.Symbols.{Encodes, Decodes};
 ghost use Rattle.constriction_laws.specs.Outcomes.{AreOne};
 ghost use Rattle.constriction_laws.specs.stack.Lists.{AfterDecode, HasTable};
 
-/// An entry can be pushed onto each valid state, in exactly one way.
+/// An entry of a table can be pushed onto each valid state, in exactly one way.
 pub fn one_push()
     ensures exists { (w s : ℕ) (e : Step) (state : AnsState) → IsSizes w s → IsStep w e →
         IsValid w s state → (new : AnsState) × IsPush w s e state new }

@@ -32,7 +32,8 @@ pub fn export_of_import()
 
 /// If `words` lists the words of a backend, refilling a head from the backend equals refilling it from that list.
 ///
-/// Both refills lead to the same head and leave the same words.
+/// A refill reads a word into the head if the head is below `2^(s - w)` and a word is left. Both refills lead to the
+/// same head and leave the same words.
 pub fn reads_are_words<Word: BitArray, Backend: ReadWords<Word, Stack>>()
     ensures { (words : Backend → List Word) (w s head new_head : ℕ) (old new : Backend) →
         TellsWords Backend.reads words → RefillsBy Word.number Backend.reads w s head old new_head new →

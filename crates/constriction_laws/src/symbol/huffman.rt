@@ -5,7 +5,9 @@ ghost use Rattle.constriction_laws.specs.symbol.Cost.{WithCodewords, cost};
 ghost use Rattle.constriction_symbol.specs.Huffman.{Book, IsHuffman, Tree, huffman, merge};
 ghost use Rattle.std.specs.Prelude.{Bool, List, None, Option, Some, [], ◌∷◌, ◌<◌, ◌≡◌, ◌≤◌, length, ℕ};
 
-/// Merging the two least weights until one is left turns a nonempty list of weights into exactly one tree.
+/// A nonempty list of weights leads to exactly one Huffman tree.
+///
+/// Each weight begins as a tree of one leaf. The two trees of least weight are merged until one tree is left.
 pub fn one_tree()
     ensures { (weights : List ℕ) → 0 < length weights → (tree : Tree) × (merge weights ≡ tree ∷ []) }
 {}
@@ -26,7 +28,8 @@ pub fn huffman_knows_its_symbols()
 ///
 /// The cost is the sum of each weight times the length of its codeword in bits. The clause `codewords` compares the
 /// tree with any prefix-free list of codewords. The clause `codebook` compares the tree with the codewords of any
-/// prefix-free codebook. The clause `tree` is about any codebook that has the codewords of the tree (`IsHuffman`).
+/// prefix-free codebook. The clause `tree` compares any codebook that has the codewords of the tree (`IsHuffman`) with
+/// any prefix-free list of codewords.
 pub fn least_cost()
     ensures codewords { (weights : List ℕ) (codewords others : List (List Bool)) → IsLeastCost weights (huffman weights)
         codewords others }

@@ -1,4 +1,4 @@
-//! Made by `tools/distribution_tables laplace`.
+//! The tables of the distribution, written by `tools/distribution_tables laplace`.
 
 /// The distribution function at 2049 evenly spaced places, in units of `2^-32`, rounded to the nearest integer.
 #[rattlefmt::skip]
@@ -262,10 +262,10 @@ pub static VALUES: [u64; 2049] = [
     4294967296, // all
 ];
 
-/// Approximate arguments at which the distribution function reaches 0, 1/1024, 2/1024, .., 1.
+/// Estimates of where the distribution function reaches 0, 1/1024, 2/1024, .., 1.
 ///
-/// Each number is the distance from the first of the 2049 grid points, in 65536ths of the spacing of the grid. A
-/// decoder's search begins there, and no proof depends on these numbers.
+/// Each number is the distance from the first of the 2049 places, in 65536ths of the distance between two places. A
+/// decoder begins its search at an estimate. No proof depends on these numbers.
 #[rattlefmt::skip]
 pub static GUESSES: [u32; 1025] = [
     45304127, 54025909, 55479530, 56329850, 56933219, 57401273, 57783529, 58106782,

@@ -169,7 +169,8 @@ impl<Word: WordOf<State>, State: BitArray, Backend: Holds<Word, Queue>> RangeDec
 
     /// Splits the decoder into its backend, its interval, and its point.
     ///
-    /// The backend holds the remaining words.
+    /// The backend holds the words that the decoder has not read yet. The point is the number that the last
+    /// `State::BITS / Word::BITS` words read form.
     #[inline]
     pub fn into_raw_parts(self) -> (Backend, RangeCoderState<Word, State>, State)
         ensures parts { self ≡ decoder_of Word.number Backend.Holds

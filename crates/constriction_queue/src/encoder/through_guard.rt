@@ -100,8 +100,8 @@ impl<Word: WordOf<State>, State: BitArray, A: Allocator> RangeEncoder<Word, Stat
     ///
     /// The call writes the pending words and a seal onto the encoder's vector, and the decoder reads the vector through
     /// an [`EncoderGuard`]. Dropping the decoder restores the encoder, and an error leaves the encoder unchanged. The
-    /// contract of this call states neither fact; tests check both. The contract of [`RangeEncoder::with_compressed`]
-    /// states both for that call.
+    /// contract of this call states neither fact; tests check both. In contrast, the contract of
+    /// [`RangeEncoder::with_compressed`] states that its call leaves the encoder unchanged, with or without an error.
     ///
     /// # Errors
     ///

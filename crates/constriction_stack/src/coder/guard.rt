@@ -93,7 +93,7 @@ where
     Backend: WriteWords<Word> + ReadWords<Word, Stack> + fmt::Debug,
     Backend::ReadError: Drop,
 {
-    /// Formats the backend.
+    /// Formats the coder's backend, which holds the words that the guard lends.
     fn fmt<W: fmt::Write>(&self, f: &mut fmt::Formatter<W>) -> fmt::Result {
         self.backend().fmt(f)
     }

@@ -191,8 +191,8 @@ impl<Word: WordOf<State>, State: BitArray, Backend: WriteWords<Word>> AnsCoder<
     /// Writes the head's words below its leading 1 bit onto the backend, and returns the backend.
     ///
     /// The backend then holds the binary form of the coder: the words below the head, and then the words that the call
-    /// writes, lowest first. It writes words that are 0 too, also directly below the leading 1. The call first asks the
-    /// backend for room for all words to write. If the head is 1, the backend is unchanged.
+    /// writes, lowest first. The call leaves out no zero words, not even directly below the leading 1. The call first
+    /// asks the backend for room for all words to write. If the head is 1, the backend is unchanged.
     ///
     /// # Errors
     ///

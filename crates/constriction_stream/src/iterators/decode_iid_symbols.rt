@@ -26,7 +26,7 @@ use constriction_words::WordOf;
 pub struct DecodeIidSymbols<'a, Decoder, M, const PRECISION: usize> {
     /// The decoder, positioned after the symbols returned so far.
     pub decoder: &'a mut Decoder,
-    /// The model of all symbols.
+    /// The model of every symbol that the iterator decodes.
     pub model: M,
     /// The number of symbols that are left to decode.
     pub amt: usize,

@@ -67,7 +67,9 @@ impl<
 }
 
 impl<Word: BitArray, B: IntoReadWords<Word, Stack>> StackCoder<Word, B> {
-    /// Turns the stack into a decoder with the same bits, whose backend is the stack's backend turned into a reader.
+    /// Turns the stack into a decoder with the same bits.
+    ///
+    /// The call turns the stack's backend into a backend for reading ([`IntoReadWords`]).
     pub fn into_decoder(self) -> StackCoder<Word, B::IntoReadWords>
         ensures bits { result.bits ≡ self.bits }
         ensures last { result.last ≡ self.last }

@@ -25,9 +25,11 @@ use std::marker::Model;
 
 /// A Huffman tree for decoding, with a codeword for each symbol from 0 to `num_symbols() - 1`.
 ///
-/// No prefix-free codebook has a lower sum of weight times codeword length for the same weights. Contracts describe a
-/// `DecoderHuffmanTree` by a tree whose leaves are the symbols. The codeword of a symbol is the path from the root to
-/// the symbol's leaf.
+/// The cost of a codebook is the sum of each symbol's weight times the length of the symbol's codeword. No prefix-free
+/// codebook for the same weights costs less than this tree.
+///
+/// Contracts describe a `DecoderHuffmanTree` by a tree whose leaves are the symbols. The codeword of a symbol is the
+/// path from the root to the symbol's leaf.
 ///
 /// # Examples
 ///
@@ -91,8 +93,11 @@ impl Clone for DecoderHuffmanTree {
 
 /// Builds the Huffman tree of `weights`. The symbols are the indices of the weights.
 ///
-/// Returns the errors of [`merged_pairs`], whose `most` is `usize::MAX / 2`. Also returns `Memory` if there is no
-/// memory for the tree.
+/// # Errors
+///
+/// - `TooManySymbols` if there are more than `usize::MAX / 2` weights.
+/// - The other errors of [`merged_pairs`].
+/// - `Memory` if there is no memory for the tree.
 fn tree_of<P: BitArray, E>(
     alloc: Global,
     weights: &[P],

@@ -3,8 +3,10 @@
 //! With the table, a decode looks up several bits at once instead of following them node by node.
 //!
 //! The index of an entry is a leading 1 followed by the bits, as a binary number. Entry `n` follows from entry `n / 2`
-//! and one more bit, so one loop fills the table. The table looks up one bit more than the longest codeword would have
-//! if all weights were equal, and at most 9 bits. So a small tree has a small table.
+//! and one more bit, so one loop fills the table.
+//!
+//! With equal weights, the tree's longest codeword would have `b` bits. A look-up reads `b + 1` bits, but at most 9. So
+//! a small tree has a small table.
 
 ghost use Rattle.constriction_symbol.specs.DecoderTree.{HasPlaces, HoldsTree, IsPlace, IsTopPlace, tree_of_pairs};
 ghost use Rattle.std.specs.Prelude.{Bool, IfOk, List, [], length, ◌+◌, ◌++◌, ◌<◌, ◌==◌, ◌^◌, ◌∷◌, ◌≡◌, ◌≤◌, ℕ};
@@ -27,7 +29,7 @@ pub struct Place {
 
 /// Returns the number of bits that one look-up reads in the decoding table of a tree with `nodes` inner nodes.
 ///
-/// The number is one more than the longest codeword would have if all weights were equal, and at most `MOST`.
+/// With equal weights, the tree's longest codeword would have `b` bits. The call returns `b + 1`, but at most `MOST`.
 fn most_of(nodes: usize) -> u32
     ensures some { 0 < result }
     ensures few { result ≤ 9 }
@@ -92,10 +94,10 @@ fn lesser(most: u32, all: u32) -> u32
     if most < all { most } else { all }
 }
 
-/// Looks up the node of the decoder's tree that the highest bits of `bits` lead to.
+/// Looks up the place in the decoder's tree that the highest bits of `bits` lead to from the root.
 ///
-/// `places` is the decoding table, with `2^(most + 1)` entries for up to `most` bits. The result holds the node or the
-/// symbol, and the number of bits taken, at most `Word::BITS`.
+/// `places` and `most` are the decoding table and the number of bits that [`places_of`] returns. The look-up reads the
+/// highest `most` bits, or all bits if `Word::BITS` is below `most`.
 #[inline]
 pub fn place_of<Word: BitArray>(places: &[Place], most: u32, bits: Word) -> Place
     requires some { 0 < most }

@@ -1,6 +1,6 @@
 //! A tree that Huffman's algorithm can join, with its weight and its index.
 //!
-//! The algorithm compares weights as numbers of type `P`, as the Rust crate does.
+//! The algorithm compares weights as numbers of type `P`, as the Rust crate `constriction` does.
 
 ghost use Rattle.std.specs.Prelude.{◌==◌};
 ghost use Rattle.std.proofs.Common.{rules};

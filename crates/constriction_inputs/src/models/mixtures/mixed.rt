@@ -147,9 +147,11 @@ pub(super) fn fill_from_row(
     );
 }
 
-/// Replaces `components` with components of these weights, locations and scales.
+/// Replaces `components` with weighted distributions of `family`.
 ///
-/// The caller proves that `components` has room for them, so the call needs no memory.
+/// Component `i` has weight `weights[i]`, location `locations[i]` and scale `scales[i]`. The caller proves that these
+/// three lists have the same length, and that all scales are above 0. The caller also proves that `components` has
+/// capacity for the new components, so the call needs no memory.
 #[inline]
 fn fill(
     components: &mut Vec<Component<FamilyDistribution>>,

@@ -1,4 +1,4 @@
-//! Functions that encode or decode a list of symbols on a range coder, or test for its end.
+//! Functions that encode or decode a list of symbols on a range coder, or test whether a decoder may be exhausted.
 //!
 //! The contracts use the laws' definitions to relate the coder's intervals before and after a call.
 
@@ -31,7 +31,7 @@ use std::alloc::Global;
 ///
 /// - `ImpossibleSymbol`: a model has no entry for its symbol. The symbols before that symbol are encoded.
 /// - `TooManySymbols`: there are more symbols than `symbols_left` returns. No symbol is encoded.
-/// - `Refused`: the backend refused a word. The symbols before the refused symbol are encoded.
+/// - `Refused`: the backend refused a word of a symbol. The symbols before that symbol are encoded.
 pub fn encode_pairs<
     Word: WordOf<State>,
     State: BitArray,
@@ -71,7 +71,8 @@ where
 ///
 /// # Errors
 ///
-/// - `InvalidData`: starting at the decoder's position, the words don't encode symbols of these models.
+/// - `InvalidData`: a decode returned this error. If the backend behaves as a fixed list of words, the words don't
+///   encode symbols of these models, starting at the decoder's position.
 /// - `Refused`: a read failed, or there was no memory.
 pub fn decode_pairs<
     Word: WordOf<State>,
