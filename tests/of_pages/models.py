@@ -87,7 +87,7 @@ def margin(page):
             exact = formula(Decimal(k) / distributions.STEPS[family] - distributions.REACH[family]) * models.ALL
             apart.append(abs(exact % 1 - Decimal("0.5")))
     digits = f"{int(min(apart) * 10000) / 10000:.4f}"
-    page.has(f"none lies within {digits} of a half, where rounding turns")
+    page.has(f"none lies within {digits} of a half, where `round` changes its result")
 
 
 def mixtures(page):

@@ -142,7 +142,7 @@ def following(page):
     number, words = sealed(low, length, moves, 32)
     room, zeros = low + length - number * 2**24, zero_words(low, length, 32)
     page.has(f"So `c = {number}`, and `A + R` is {low + length}, which is `c * q + {room}`")
-    page.has(f"The interval has {room} numbers at or above `c * q`. The seal needs `q` of them without zero words, {2**24 // 256} with one, and {2**24 // 256**2} with two. So `t` is {zeros}")
+    page.has(f"The interval has {room} numbers at or above `c * q`. With `t` zero words the seal needs `q / 256^t` of them: `2^24`, {2**24 // 256} or {2**24 // 256**2}. So `t` is {zeros}")
     longer = digits(number, moves + 1) + [0] * zeros
     others, within = words + [255, 255], words + [0, 255]
     judge(found(tables, words, 32)[0] == found(tables, within, 32)[0] == symbols, "what may follow the seal")

@@ -1,4 +1,4 @@
-//! Callers of the chain coder, generic in the sizes of words, heads and tables.
+//! Round-trip functions of the chain coder, generic in the sizes of words, heads and tables.
 //!
 //! The docstring of a function names the calls that the function makes. Its contract uses the laws' definitions to
 //! describe the combined effect of these calls. The errors are [`RoundTripError`](crate::errors::RoundTripError) and

@@ -1,4 +1,4 @@
-//! Callers of the range coder, generic in the sizes of words, states and tables.
+//! Round-trip functions of the range coder, generic in the sizes of words, states and tables.
 //!
 //! Each function is one half of a round trip: it encodes symbols and returns words, or it decodes symbols from words.
 //! Its docstring names the calls that it makes. Its contract uses the laws' definitions to describe the combined

@@ -1,4 +1,4 @@
-//! Callers of the stack coder, generic in the sizes of words, heads and tables.
+//! Round-trip functions of the stack coder, generic in the sizes of words, heads and tables.
 //!
 //! Each function is one half of a round trip: it encodes symbols and returns words, or it decodes symbols from words.
 //! Its docstring names the calls that it makes. Its contract uses the laws' definitions to describe the combined effect

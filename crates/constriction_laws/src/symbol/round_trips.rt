@@ -1,4 +1,4 @@
-//! Callers of the bit coders: functions that encode a list of symbols to a stream, or decode a list from a stream.
+//! Round-trip functions of the bit coders: they encode a list of symbols to a stream, or decode a list from a stream.
 //!
 //! - [`pairs`]: symbols with one codebook each.
 
