@@ -45,21 +45,20 @@ module _ {Word State : Type 0} (number : Word → ℕ) (state : State → ℕ) (
         narrowed : NarrowsAll w s (items precision (coded symbols)) (run_kept number state w s old.encoder (take old.len old.words)) (run_kept number state w s now (take old.len old.words ++ added))
         narrowed = rw same (narrows_kept number state w s old.encoder (items precision (coded symbols)) now made (rw first_is at all) (take old.len old.words))
 
-        pub puts_appended : (words : List Word) (len : ℕ) → Appended old.words old.len added words len
-            → RangePuts number state w s precision coded symbols old (record { encoder = now; words = words; len = len }) (Ok tt)
-        puts_appended words len a = record {
-          put = record { narrowed = rw a.words narrowed; is = is; added = added; appended = a };
+        pub puts_ended : (answer : Result (Unit {0}) Refusal) (encoder : EncoderParts Word State) (words : List Word) (len : ℕ) → OnOk answer ((encoder ≡ now) × Appended old.words old.len added words len)
+            → IfErr answer (λ e. (e ≡ refusals.NoSpace (old.len + length added)) ⊎ ((e ≡ refusals.NoMemory) × (2 ^ 64 ≤ old.len + length added))) → OnErr answer (length old.words < old.len + length added)
+            → OnErr answer ((encoder ≡ old.encoder) × (words ≡ old.words) × (len ≡ old.len))
+            → RangePuts number state w s precision coded symbols old (record { encoder = encoder; words = words; len = len }) answer
+        puts_ended (Ok u) encoder words len ended err full kept = record {
+          put = record { narrowed = rw (ended.0, ended.1.words) narrowed; is = rw ended.0 is; added = added; appended = ended.1 };
           asked = inr (within, fit_then precision (coded symbols) fit (inr (can, inr (known, inr (room, tt)))));
           kept = tt;
         }
-
-        pub puts_short : (e : Refusal) (B : Type 0) → (e ≡ refusals.NoSpace (old.len + length added)) ⊎ ((e ≡ refusals.NoMemory) × B) → length old.words < old.len + length added
-            → (new : RangeKept Word State) → new ≡ old → RangePuts number state w s precision coded symbols old new (Err e)
-        puts_short e B why less new kept =
+        puts_ended (Err e) encoder words len ended err full kept =
             let count = length-append (take old.len old.words) added in
             let lacks : LacksRoom number state w s (items precision (coded symbols)) old.encoder old.words old.len (old.len + length added) =
-            record { less = less; new = now; words = take old.len old.words ++ added; narrowed = narrowed; is = is; count = omega (arith, count, length-take old.len old.words, within) } in
-            puts_room known new kept e (room_of _ e (old.len + length added) why lacks)
+            record { less = full; new = now; words = take old.len old.words ++ added; narrowed = narrowed; is = is; count = omega (arith, count, length-take old.len old.words, within) } in
+            puts_room known (record { encoder = encoder; words = words; len = len }) (rw (kept.0, kept.1, kept.2) refl) e (room_of _ e (old.len + length added) err lacks)
 
 -- an encode of the same items, handed in otherwise
 module _ {Word State : Type 0} (number : Word → ℕ) (state : State → ℕ) (w s precision : ℕ) (coded other : List ℕ → Coded) (symbols others : List ℕ) (old new : RangeKept Word State) (answer : Result (Unit {0}) Refusal) where

@@ -46,6 +46,10 @@ abbrev pub run_kept : {Word State : Type 0} → (Word → ℕ) → (State → �
 run_kept number state w s e written =
     run_of w s (kept_words w e.held (number e.first) ++ map number (reverse written)) (state e.lower) (state e.range)
 
+-- The run of an encoder that has written the words of a stack, the last one first.
+abbrev pub run_over : {Word State : Type 0} → (Word → ℕ) → (State → ℕ) → ℕ → ℕ → EncoderParts Word State → List Word → Run
+run_over number state w s e words = run_of w s (kept_words w e.held (number e.first) ++ map number words) (state e.lower) (state e.range)
+
 -- The numbers are those of an encoder that can encode `count` more symbols.
 -- Even if each symbol adds a pending word, the number of pending words plus 17 stays below 2^64.
 pub record CanEncode {Word State : Type 0} (number : Word → ℕ) (state : State → ℕ) (w s : ℕ) (e : EncoderParts Word State) (count : ℕ) : Type 0 where

@@ -1,16 +1,21 @@
 //! Encoding symbols after the words in a caller's buffer.
 
-ghost use Rattle.std.specs.Prelude.{◌≡◌, ◌≤◌, List, length, map, IfSome};
+ghost use Rattle.std.specs.Prelude.{◌≡◌, ◌+◌, ◌<◌, ◌≤◌, ◌⊎◌, ◌^◌, List, [], length, map, IfErr, IfSome, OnErr, OnOk};
 ghost use Rattle.constriction_base.specs.Models.{pairs_of};
 ghost use Rattle.constriction_base.specs.Steps.{IsSizes};
 ghost use Rattle.constriction_queue.specs.Encoder.{left_to_encode, run_by};
 ghost use Rattle.constriction_queue.specs.Symbols.{NarrowsAll};
+ghost use Rattle.constriction_inputs.specs.Buffers.{Appended};
 ghost use Rattle.constriction_inputs.specs.Coded.{AreFit, items};
-ghost use Rattle.constriction_calls.specs.RangeCalls.{IsEncoderKept, RangePutsBy, RangePutsIntervals, run_kept};
+ghost use Rattle.constriction_inputs.specs.declared.refusal.Refusal.TheVariants as refusals;
+ghost use Rattle.constriction_calls.specs.RangeCalls.{CanEncode, IsEncoderKept, RangePutsBy, RangePutsIntervals};
+ghost use Rattle.constriction_calls.specs.RangeCalls.{run_kept, run_over};
 ghost use Rattle.constriction_inputs.specs.Weights.{by_weights};
 
 use crate::narrow::{are_known, widened};
-use crate::range::parts::{EncoderParts, encoder_for, parts_of};
+use crate::range::parts::{EncoderParts, encoder_for, encoder_over, parts_over};
+use constriction_base::backends::{Holds, Stack, WriteWords};
+use constriction_base::cursor::Cursor;
 use constriction_inputs::buffers::append;
 use constriction_inputs::intervals::{row_of_one, rows_by_intervals};
 use constriction_inputs::models::{ModelList, Models, Rows, Weights};
@@ -44,7 +49,7 @@ fn put_list<
         (run_kept Word.number State.number Word.BITS State.BITS made.1 made.0.items)) }
 {
     if symbols.len() == 1 {
-        put_in_line::<Word, State, P, L, PRECISION>(encoder, list, symbols)
+        put_in_line::<Word, State, _, P, L, PRECISION>(encoder, list, symbols)
     } else {
         put_many::<Word, State, P, L, PRECISION>(encoder, list, symbols)
     }
@@ -70,28 +75,33 @@ fn put_many<
         (pairs_of PRECISION (λ table. table) symbols.now (L.tables list.old)) (run_by Word.BITS State.BITS encoder)
         (run_kept Word.number State.number Word.BITS State.BITS made.1 made.0.items)) }
 {
-    put_in_line::<Word, State, P, L, PRECISION>(encoder, list, symbols)
+    put_in_line::<Word, State, _, P, L, PRECISION>(encoder, list, symbols)
 }
 
-/// Encodes as [`put_list`] does. The compiler may inline this function into its caller.
+/// Encodes as [`put_list`] does, over any backend. Returns the backend and the encoder's numbers.
+///
+/// The compiler may inline this function into its caller.
 #[inline]
 fn put_in_line<
     Word: WordOf<State>,
     State: BitArray,
+    Backend: WriteWords<Word> + Drop,
     P: WordOf<Word>,
     L: ModelList<P, PRECISION>,
     const PRECISION: usize,
 >(
-    encoder: RangeEncoder<Word, State, Vec<Word>>,
+    encoder: RangeEncoder<Word, State, Backend>,
     list: &mut L,
     symbols: &[usize],
-) -> Option<(Vec<Word>, EncoderParts<Word, State>)>
+) -> Option<(Backend, EncoderParts<Word, State>)>
+where
+    Backend::WriteError: Drop,
     requires counted { length symbols.now ≡ length (L.tables list.now) }
     requires left { length symbols.now ≤ left_to_encode encoder }
     ensures coder { IfSome result (λ made. IsEncoderKept Word.number State.number Word.BITS State.BITS made.1) }
     ensures narrowed { IfSome result (λ made. NarrowsAll Word.BITS State.BITS
         (pairs_of PRECISION (λ table. table) symbols.now (L.tables list.old)) (run_by Word.BITS State.BITS encoder)
-        (run_kept Word.number State.number Word.BITS State.BITS made.1 made.0.items)) }
+        (run_over Word.number State.number Word.BITS State.BITS made.1 (Backend.words made.0))) }
 {
     let (words, state, situation) = encoder.into_raw_parts();
     let mut encoder = RangeEncoder::from_raw_parts(words, state, situation);
@@ -102,7 +112,7 @@ fn put_in_line<
             Err(_) => return None,
         }
     }
-    Some(parts_of(encoder))
+    Some(parts_over(encoder))
 }
 
 /// Encodes symbols in order, and returns the words written and the numbers of the encoder.
@@ -132,6 +142,86 @@ fn put_by<
         return None;
     };
     put_list::<Word, State, P, G::List, PRECISION>(encoder, &mut list, symbols)
+}
+
+/// Encodes one symbol as [`put_by`] does, and writes its words to `room`. The call needs no memory for these words.
+///
+/// Returns the words written and the encoder's numbers. Returns `None` if there isn't exactly one symbol, if more than
+/// one word is pending, if `room` is too short, if no encoder has the numbers `parts`, if the model has no entry for
+/// the symbol, or if there is no memory for the model.
+#[inline]
+fn put_one<
+    'a,
+    Word: WordOf<State>,
+    State: BitArray,
+    P: WordOf<Word>,
+    G: Models<P, PRECISION>,
+    const PRECISION: usize,
+>(
+    alloc: Global,
+    room: &'a mut [Word],
+    parts: EncoderParts<Word, State>,
+    models: &G,
+    symbols: &[usize],
+) -> Option<(&'a [Word], EncoderParts<Word, State>)>
+    requires sizes { IsSizes Word.BITS State.BITS }
+    requires precision { (1 ≤ PRECISION) × (PRECISION ≤ P.BITS) }
+    requires fit { AreFit PRECISION (G.coded models.now symbols.now) }
+    ensures can { IfSome result
+        (λ _. CanEncode Word.number State.number Word.BITS State.BITS parts (length symbols.now)) }
+    ensures coder { IfSome result (λ made. IsEncoderKept Word.number State.number Word.BITS State.BITS made.1) }
+    ensures narrowed { IfSome result (λ made. NarrowsAll Word.BITS State.BITS
+        (items PRECISION (G.coded models.now symbols.now))
+        (run_kept Word.number State.number Word.BITS State.BITS parts [])
+        (run_kept Word.number State.number Word.BITS State.BITS made.1 made.0.now)) }
+{
+    if symbols.len() != 1 || parts.held > 1 {
+        return None;
+    }
+    let Some(encoder) = encoder_over(Cursor::new_at_write_beginning(room), parts, symbols.len())
+    else {
+        return None;
+    };
+    let Some(mut list) = models.list(alloc, symbols, false) else {
+        return None;
+    };
+    match put_in_line::<Word, State, _, P, G::List, PRECISION>(encoder, &mut list, symbols) {
+        Some((written, now)) => {
+            let (words, count) = written.into_buf_and_pos();
+            Some((&words[..count], now))
+        }
+        None => None,
+    }
+}
+
+/// Appends words to the first `len` words of `buffer`, and then sets `encoder` to `now`.
+///
+/// # Errors
+///
+/// The call returns the errors of [`append`]. A call that fails changes nothing.
+#[inline]
+fn end_putting<Word: WordOf<State>, State: BitArray>(
+    words: &[Word],
+    now: EncoderParts<Word, State>,
+    encoder: &mut EncoderParts<Word, State>,
+    buffer: &mut [Word],
+    len: &mut usize,
+) -> Result<(), Refusal>
+    requires { len.now ≤ length buffer.now }
+    ensures ok { OnOk result
+        ((encoder.new ≡ now) × Appended buffer.old len.old words.now buffer.new len.new) }
+    ensures err { IfErr result (λ e. (e ≡ refusals.NoSpace (len.old + length words.now))
+        ⊎ ((e ≡ refusals.NoMemory) × (2 ^ 64 ≤ len.old + length words.now))) }
+    ensures full { OnErr result (length buffer.old < len.old + length words.now) }
+    ensures kept { OnErr result
+        ((encoder.new ≡ encoder.old) × (buffer.new ≡ buffer.old) × (len.new ≡ len.old)) }
+{
+    match append(words, buffer, len) {
+        Ok(()) => {}
+        Err(refusal) => return Err(refusal),
+    }
+    *encoder = now;
+    Ok(())
 }
 
 /// Encodes symbols in order, each with its own model.
@@ -184,13 +274,7 @@ pub fn encode<
             alloc, made, models, symbols,
         )
     {
-        return match append(&words, buffer, len) {
-            Ok(()) => {
-                *encoder = now;
-                Ok(())
-            }
-            Err(refusal) => Err(refusal),
-        };
+        return end_putting(&words, now, encoder, buffer, len);
     }
     if !models.know(symbols) {
         return Err(Refusal::ImpossibleSymbol);
@@ -200,6 +284,53 @@ pub fn encode<
     } else {
         Err(Refusal::NoSpace(len.saturating_add(held)))
     }
+}
+
+/// Encodes symbols as [`encode`] does. For one symbol, the call needs no memory for the words if at most one word is
+/// pending.
+///
+/// # Errors
+///
+/// The call returns the errors of [`encode`].
+#[inline]
+fn encode_one<
+    Word: WordOf<State>,
+    State: BitArray,
+    P: WordOf<Word>,
+    G: Models<P, PRECISION>,
+    const PRECISION: usize,
+>(
+    alloc: Global,
+    encoder: &mut EncoderParts<Word, State>,
+    buffer: &mut [Word],
+    len: &mut usize,
+    models: &G,
+    symbols: &[usize],
+) -> Result<(), Refusal>
+    requires sizes { IsSizes Word.BITS State.BITS }
+    requires precision { (1 ≤ PRECISION) × (PRECISION ≤ P.BITS) }
+    ensures call { RangePutsBy Word.BitArray State.BitArray PRECISION (G.coded models.now) symbols.now
+        encoder.old buffer.old len.old encoder.new buffer.new len.new result }
+{
+    if *len > buffer.len() {
+        return Err(Refusal::WrongLength);
+    }
+    models.check(symbols)?;
+    let word = Word::nothing();
+    if size_of_val(&word) <= 64 && encoder.held <= buffer.len() - *len {
+        let mut room = [word, word];
+        if let Some((words, now)) = put_one::<Word, State, P, G, PRECISION>(
+            alloc, &mut room, *encoder, models, symbols,
+        ) {
+            return end_putting(words, now, encoder, buffer, len);
+        }
+    }
+    let mut kept = *encoder; // a copy, so that a caller's numbers can stay in registers
+    let answer = encode::<Word, State, P, G, PRECISION>(
+        alloc, &mut kept, buffer, len, models, symbols,
+    );
+    *encoder = kept;
+    answer
 }
 
 /// Encodes symbols of a type such as `u8` in order, with one table of weights for all symbols.
@@ -281,9 +412,19 @@ pub fn encode_intervals<
         && let Some(row) = row_of_one::<P, PRECISION>(lefts, ps)
     {
         let model = Row::<P, PRECISION>::of_total(&row);
-        return encode::<Word, State, P, _, PRECISION>(alloc, encoder, buffer, len, &model, &[1]);
+        return encode_one::<Word, State, P, _, PRECISION>(
+            alloc,
+            encoder,
+            buffer,
+            len,
+            &model,
+            &[1],
+        );
     }
-    intervals_by_rows::<_, _, P, PRECISION>(alloc, encoder, buffer, len, lefts, ps)
+    let mut parts = *encoder; // a copy, as in `encode_one`
+    let answer = intervals_by_rows::<_, _, P, PRECISION>(alloc, &mut parts, buffer, len, lefts, ps);
+    *encoder = parts;
+    answer
 }
 
 /// Encodes intervals as [`encode_intervals`] does: each interval as symbol 1 of its own row of three weights.
@@ -291,6 +432,7 @@ pub fn encode_intervals<
 /// # Errors
 ///
 /// The call returns the errors of [`encode_intervals`].
+#[inline(never)]
 fn intervals_by_rows<Word: WordOf<State>, State: BitArray, P: WordOf<Word>, const PRECISION: usize>(
     alloc: Global,
     encoder: &mut EncoderParts<Word, State>,

@@ -3,9 +3,10 @@
 ghost use Rattle.std.specs.Prelude.{◌≡◌, ◌↔◌, ◌≤◌, ◌-◌, [], length, map, IfSome, IsSome};
 ghost use Rattle.constriction_base.specs.Steps.{IsSizes};
 ghost use Rattle.constriction_queue.specs.Encoder.{left_to_encode, run_by};
-ghost use Rattle.constriction_calls.specs.RangeCalls.{CanEncode, IsDecoderKept, IsEncoderKept, IsRead, run_kept};
+ghost use Rattle.constriction_calls.specs.RangeCalls.{CanEncode, IsDecoderKept, IsEncoderKept, IsRead};
+ghost use Rattle.constriction_calls.specs.RangeCalls.{run_kept, run_over};
 
-use constriction_base::backends::Seek;
+use constriction_base::backends::{Holds, Seek, Stack};
 use constriction_base::cursor::Cursor;
 use constriction_queue::{EncoderSituation, RangeCoderState, RangeDecoder, RangeEncoder};
 use constriction_words::{BitArray, WordOf};
@@ -55,7 +56,7 @@ pub struct DecoderParts<State> {
     pub pos: usize,
 }
 
-/// Creates an encoder with an empty backend from the caller's numbers. The call needs no memory.
+/// Creates an encoder over an empty vector from the caller's numbers. The call needs no memory.
 ///
 /// The caller can then encode at least `count` symbols. Returns `None` if and only if no encoder has the numbers, or
 /// `parts.held + count` is above `2^64 - 18`.
@@ -70,6 +71,29 @@ pub fn encoder_for<Word: WordOf<State>, State: BitArray>(
     ensures left { IfSome result (λ encoder. count ≤ left_to_encode encoder) }
     ensures variant { IsSome result ↔ CanEncode Word.number State.number Word.BITS State.BITS parts count }
 {
+    encoder_over(Vec::new(alloc), parts, count)
+}
+
+/// Creates an encoder over an empty backend from the caller's numbers.
+///
+/// The caller can then encode at least `count` symbols. Returns `None` if and only if [`encoder_for`] does.
+#[inline]
+pub(crate) fn encoder_over<
+    Word: WordOf<State>,
+    State: BitArray,
+    Backend: Holds<Word, Stack> + Drop,
+>(
+    bulk: Backend,
+    parts: EncoderParts<Word, State>,
+    count: usize,
+) -> Option<RangeEncoder<Word, State, Backend>>
+    requires sizes { IsSizes Word.BITS State.BITS }
+    requires empty { Backend.words bulk ≡ [] }
+    ensures run { IfSome result (λ encoder. run_by Word.BITS State.BITS encoder
+        ≡ run_kept Word.number State.number Word.BITS State.BITS parts []) }
+    ensures left { IfSome result (λ encoder. count ≤ left_to_encode encoder) }
+    ensures variant { IsSome result ↔ CanEncode Word.number State.number Word.BITS State.BITS parts count }
+{
     let Ok(state) = RangeCoderState::new(parts.lower, parts.range) else {
         return None;
     };
@@ -78,13 +102,13 @@ pub fn encoder_for<Word: WordOf<State>, State: BitArray>(
         None if parts.first.is_nothing() => EncoderSituation::Normal,
         None => return None,
     };
-    if !RangeEncoder::<Word, State, Vec<Word>>::parts_fit(state, situation) {
+    if !RangeEncoder::<Word, State, Backend>::parts_fit(state, situation) {
         return None;
     }
     if count > usize::MAX - 17 - parts.held {
         return None;
     }
-    Some(RangeEncoder::from_raw_parts(Vec::new(alloc), state, situation))
+    Some(RangeEncoder::from_raw_parts(bulk, state, situation))
 }
 
 /// Returns the words that an encoder wrote, and the numbers from which [`encoder_for`] creates the encoder again.
@@ -93,6 +117,18 @@ pub fn parts_of<Word: WordOf<State>, State: BitArray>(
 ) -> (Vec<Word>, EncoderParts<Word, State>)
     ensures run { run_by Word.BITS State.BITS encoder
         ≡ run_kept Word.number State.number Word.BITS State.BITS result.1 result.0.items }
+    ensures coder { IsEncoderKept Word.number State.number Word.BITS State.BITS result.1 }
+{
+    parts_over(encoder)
+}
+
+/// Returns the backend of an encoder, and the numbers from which [`encoder_over`] creates the encoder again.
+#[inline]
+pub(crate) fn parts_over<Word: WordOf<State>, State: BitArray, Backend: Holds<Word, Stack>>(
+    encoder: RangeEncoder<Word, State, Backend>,
+) -> (Backend, EncoderParts<Word, State>)
+    ensures run { run_by Word.BITS State.BITS encoder
+        ≡ run_over Word.number State.number Word.BITS State.BITS result.1 (Backend.words result.0) }
     ensures coder { IsEncoderKept Word.number State.number Word.BITS State.BITS result.1 }
 {
     let (words, state, situation) = encoder.into_raw_parts();

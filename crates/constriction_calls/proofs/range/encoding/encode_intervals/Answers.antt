@@ -17,7 +17,7 @@ shared_whole_as_slice-of_total g c = three_fit (length c.args.lefts.now) c.size_
 pub returns : goal.returns
 returns g c =
     let p = g.P.BitArray.number in
-    let now = c.encode.new in
+    let now = c.encode_one.new in
     let made = c.in-Some.ensures in
     let one = by_weights (map p c.of_total-model.result.weights.now) in
     let coded = as_intervals (map p c.args.lefts.now) in
@@ -27,5 +27,5 @@ returns g c =
     let same : 1 ≡ length (map p c.args.ps.now) = omega (arith, fit.0, length-map c.args.lefts.now p, one') in
     record {
       call = puts_as g.Word.BitArray.number g.State.BitArray.number g.Word.BitArray.BITS g.State.BitArray.BITS g.row.PRECISION one coded (1 ∷ []) (map p c.args.ps.now)
-          (kept_in c.args.encoder.now c.args.buffer.now c.args.len.now) (kept_in now.encoder now.buffer now.len) c.encode.result is same (tt, tt, rw c.of_total-model.ensures made.total) fit c.encode.ensures.call;
+          (kept_in c.args.encoder.now c.args.buffer.now c.args.len.now) (kept_in now.encoder now.buffer now.len) c.encode_one.result is same (tt, tt, rw c.of_total-model.ensures made.total) fit c.encode_one.ensures.call;
     }

@@ -33,4 +33,4 @@ loop-i-preserved g c =
 
 pub returns-clause-narrowed : goal.returns-clause-narrowed
 returns-clause-narrowed g c =
-    rw c.parts_of.ensures.run at (rw (take_all c.loop-i.i c.args.symbols.now (omega (arith, c.loop-i-test.false))) at c.loop-i.invariant.narrowed)
+    rw c.parts_over.ensures.run at (rw (take_all c.loop-i.i c.args.symbols.now (omega (arith, c.loop-i-test.false))) at c.loop-i.invariant.narrowed)
