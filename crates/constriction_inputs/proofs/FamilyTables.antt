@@ -1,9 +1,9 @@
 -- Tables of locations and scales: how many there are, which symbols they know, and the intervals of symbols.
-use Rattle.std.proofs.Common.{◌≡◌, ◌∙◌, ℕ, zero, suc, ◌+◌, ◌<◌, List, [], ◌∷◌, ◌++◌, Option, None, ℤ, pos, length, map, take, set, get_or, refl, sym, ap, subst, arith, rules, inl, inr}
+use Rattle.std.proofs.Common.{◌≡◌, ◌∙◌, ℕ, zero, suc, ◌+◌, ◌<◌, List, [], ◌∷◌, Option, None, ℤ, pos, length, map, take, set, get_or, refl, sym, ap, subst, arith, rules, inl, inr}
 use Rattle.std.specs.Prelude.{IfNone, IsSome, Some}
 use Rattle.std.specs.List.{AllByRecursion, zip}
 use Rattle.std.proofs.lemmas.Bool.{cases_lt}
-use Rattle.std.proofs.lemmas.List.{get_or-map, length-map, length-take-le, map_push, take_all, take_more}
+use Rattle.std.proofs.lemmas.List.{get_or-map, length-map, take_all}
 use Rattle.std.proofs.lemmas.Slice.Zip.{get_or-zip, length-zip}
 use Rattle.constriction_base.specs.Models.{AreKnown, Item, item_of, pairs_of}
 use Rattle.constriction_base.specs.Tables.{Has}
@@ -11,7 +11,6 @@ use Rattle.constriction_models.specs.Quantized.{indexed}
 use Rattle.constriction_models.specs.declared.families.Family.{Family}
 use Rattle.constriction_models.specs.laws.Indexing.{indexed_has, indexed_impossible}
 use Rattle.constriction_inputs.specs.Quantized.{AreIntervalsOf, below_by, tables_by}
-use Rattle.constriction_base.proofs.WordLists.{zip_push}
 use Rattle.constriction_inputs.proofs.Pairs.{pair_at, pairs_counted}
 
 -- ---- how many tables there are
@@ -20,18 +19,13 @@ pub tables_counted : (precision : ℕ) (family : Option Family) (min : ℤ) (cou
 tables_counted precision family min count locations scales same =
     omega (arith, length-map (zip locations scales) (λ (at : ℤ × ℕ). indexed precision (below_by family at.0 at.1) min count), length-zip locations scales)
 
--- ---- one table more
-pub tables_more : {M : Type 0} (table : M → List (ℕ × ℕ × ℕ)) (precision : ℕ) (family : Option Family) (min : ℤ) (count : ℕ) (locations : List ℤ) (scales : List ℕ) (models : List M) (model : M)
-    (i : ℕ) (location : ℤ) → i < length locations → length locations ≡ length scales → location ≡ get_or locations i (pos 0)
-    → table model ≡ indexed precision (below_by family location (get_or scales i 0)) min count → map table models ≡ tables_by precision family min count (take i locations) (take i scales)
-    → map table (models ++ model ∷ []) ≡ tables_by precision family min count (take (i + 1) locations) (take (i + 1) scales)
-tables_more table precision family min count locations scales models model i location within same location_is is before =
+-- ---- the table at a place
+pub table_at : (precision : ℕ) (family : Option Family) (min : ℤ) (count : ℕ) (locations : List ℤ) (scales : List ℕ) (place : ℕ) (d : List (ℕ × ℕ × ℕ)) → place < length locations → length locations ≡ length scales
+    → get_or (tables_by precision family min count locations scales) place d ≡ indexed precision (below_by family (get_or locations place (pos 0)) (get_or scales place 0)) min count
+table_at precision family min count locations scales place d within same =
     let entries = λ (at : ℤ × ℕ). indexed precision (below_by family at.0 at.1) min count in
-    let more : take (i + 1) locations ≡ take i locations ++ location ∷ [] = take_more locations i (pos 0) within ∙ ap (λ (x : ℤ). take i locations ++ x ∷ []) (sym location_is) in
-    let long : length (take i locations) ≡ length (take i scales) = length-take-le i locations (omega arith) ∙ sym (length-take-le i scales (omega arith)) in
-    let pairs = zip_push (take i locations) (take i scales) location (get_or scales i 0) long in
-    map_push table models model
-    ∙ rw (more, take_more scales i 0 (omega arith), pairs, map_push entries (zip (take i locations) (take i scales)) (location, get_or scales i 0), before, is) refl
+    get_or-map entries (zip locations scales) place (pos 0, 0) d (omega (arith, length-zip locations scales))
+    ∙ ap entries (get_or-zip locations scales place (pos 0, 0) within (omega arith))
 
 -- ---- which symbols are known: the places in the range, whatever cuts it
 module _ {X : Type 0} (precision : ℕ) (below : X → ℤ → ℕ) (min : ℤ) (count : ℕ) where

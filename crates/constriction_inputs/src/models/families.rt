@@ -1,19 +1,20 @@
 //! `Families`: a family of distributions, with a location and a scale for each symbol.
 
-ghost use Rattle.std.specs.Prelude.{◌≡◌, ◌↔◌, ◌<◌, ◌≤◌, ◌<ℤ◌, Some, length, map, IfOk, IsTrue};
+ghost use Rattle.std.specs.Prelude.{◌≡◌, ◌↔◌, ℕ, ◌<◌, ◌≤◌, ◌<ℤ◌, Some, get_or, length, pos, IfOk, IsTrue};
 ghost use Rattle.std.specs.List.{AllByRecursion};
+ghost use Rattle.constriction_models.specs.Quantized.{indexed};
 ghost use Rattle.constriction_models.specs.Quantizers.{symbol_count, first_symbol};
-ghost use Rattle.constriction_inputs.specs.Quantized.{ArePlacesInRange, by_family, family_arguments, family_of};
+ghost use Rattle.constriction_inputs.specs.Quantized.{ArePlacesInRange, below_by, by_family, family_arguments, family_of};
 ghost use Rattle.constriction_inputs.specs.Quantized.{symbols_in, tables_by};
 ghost use Rattle.constriction_inputs.specs.QuantizedCalls.{AsksFamily};
 
-use crate::models::{Each, Models};
+use crate::models::{ModelList, Models};
 use crate::refusal::Refusal;
 use constriction_base::model::EntropyModel;
 use constriction_models::families::{Family, FamilyDistribution};
 use constriction_models::quantizer::{IndexedDistribution, LeakyQuantizer};
 use constriction_words::{BitArray, WordOf};
-use std::alloc::{AllocError, Global};
+use std::alloc::Global;
 
 /// The model of a Gaussian, Laplace or logistic distribution. Its symbols are indices into a range of integers.
 pub type FamilyModel<P, const PRECISION: usize> = IndexedDistribution<
@@ -44,7 +45,7 @@ pub struct Families<'a> {
 }
 
 impl<'a, P: WordOf<u32>, const PRECISION: usize> Models<P, PRECISION> for Families<'a> {
-    type List = Each<FamilyModel<P, PRECISION>>;
+    type List = FamilyList<'a, P, FamilyModel<P, PRECISION>, PRECISION>;
 
     ghost coded = { λ given. by_family (family_arguments given) };
 
@@ -64,17 +65,82 @@ impl<'a, P: WordOf<u32>, const PRECISION: usize> Models<P, PRECISION> for Famili
 
     fn list(
         &self,
-        alloc: Global,
-        _symbols: &[usize],
+        _alloc: Global,
+        symbols: &[usize],
         _divides: bool,
-    ) -> Option<Each<FamilyModel<P, PRECISION>>> {
+    ) -> Option<FamilyList<'a, P, FamilyModel<P, PRECISION>, PRECISION>> {
         let Ok((family, quantizer)) = self.quantizer::<P, PRECISION>() else {
             return None;
         };
-        match models_of(alloc, family, &quantizer, self.locations, self.scales) {
-            Ok(models) => Some(Each { models, place: 0 }),
-            Err(_) => None,
-        }
+        let model = model_of(family, &quantizer, 0, 1);
+        Some(FamilyList {
+            family,
+            quantizer,
+            locations: self.locations,
+            scales: self.scales,
+            place: symbols.len(),
+            model,
+        })
+    }
+}
+
+/// The list of the models of a family, one for each symbol. It holds the model of one symbol only.
+///
+/// `turn_to` replaces this model by the model of the selected symbol. So the division by the symbol's scale can overlap
+/// with the coder's own division.
+///
+/// # Examples
+///
+/// ```
+/// if let Some(mut list) = Models::<u32, 24>::list(&families, alloc, &[127, 130], false) {
+///     ModelList::<u32, 24>::turn_to(&mut list, 1);
+///     ModelList::<u32, 24>::model(&list).quantile_function(8388608)
+/// }
+/// ```
+#[derive(Drop)]
+pub struct FamilyList<
+    'a,
+    P: WordOf<u32>,
+    M: EntropyModel<PRECISION, Symbol = usize>,
+    const PRECISION: usize,
+> {
+    family: Family,
+    quantizer: LeakyQuantizer<P, PRECISION>,
+    locations: &'a [i64],
+    scales: &'a [u32],
+    place: usize,
+    model: M,
+    ghost counted: { length locations.now ≡ length scales.now },
+    ghost scaled: { (k : ℕ) → k < length scales.now → 0 < get_or scales.now k 0 },
+    ghost turned: { place < length locations.now → M.table model
+        ≡ indexed PRECISION (below_by (Some family) (get_or locations.now place (pos 0)) (get_or scales.now place 0))
+        (first_symbol quantizer) (symbol_count quantizer) },
+}
+
+impl<'a, P: WordOf<u32>, const PRECISION: usize> ModelList<P, PRECISION>
+    for FamilyList<'a, P, FamilyModel<P, PRECISION>, PRECISION> {
+    type Model = FamilyModel<P, PRECISION>;
+
+    ghost tables = { λ list. tables_by PRECISION (Some list.family) (first_symbol list.quantizer)
+        (symbol_count list.quantizer) list.locations.now list.scales.now };
+
+    ghost turned_to = { λ list. list.place };
+
+    #[inline(always)]
+    fn turn_to(&mut self, place: usize) {
+        self.model = model_at(
+            self.family,
+            &self.quantizer,
+            self.locations,
+            self.scales,
+            place,
+        );
+        self.place = place;
+    }
+
+    #[inline(always)]
+    fn model(&self) -> &FamilyModel<P, PRECISION> {
+        &self.model
     }
 }
 
@@ -168,30 +234,41 @@ fn are_above_zero(scales: &[u32]) -> bool
     true
 }
 
-/// Returns a model of the family `family` for each location and the scale at the same index.
+/// Returns the model of `family` with this location and scale. The caller proves that `scale` is above 0.
+#[inline(always)]
+fn model_of<P: WordOf<u32>, const PRECISION: usize>(
+    family: Family,
+    quantizer: &LeakyQuantizer<P, PRECISION>,
+    location: i64,
+    scale: u32,
+) -> FamilyModel<P, PRECISION>
+    requires { 0 < scale }
+    ensures { ⟦<FamilyModel<P, PRECISION> as EntropyModel<PRECISION>>⟧.table result
+        ≡ indexed PRECISION (below_by (Some family) location scale)
+        (first_symbol quantizer.now) (symbol_count quantizer.now) }
+{
+    let distribution = family.distribution(location, scale).unwrap();
+    quantizer.quantize_indexed(distribution)
+}
+
+/// Returns the model of `family` with the location and the scale at index `place`.
 ///
-/// The caller proves that `locations` and `scales` have the same length, and that all scales are above 0.
-///
-/// # Errors
-///
-/// The call returns `AllocError` if there is no memory for the list of models.
-fn models_of<P: WordOf<u32>, const PRECISION: usize>(
-    alloc: Global,
+/// The caller proves that there is a location at this index, that there are as many scales as locations, and that this
+/// scale is above 0.
+#[inline(always)]
+fn model_at<P: WordOf<u32>, const PRECISION: usize>(
     family: Family,
     quantizer: &LeakyQuantizer<P, PRECISION>,
     locations: &[i64],
     scales: &[u32],
-) -> Result<Vec<FamilyModel<P, PRECISION>>, AllocError>
+    place: usize,
+) -> FamilyModel<P, PRECISION>
+    requires within { place < length locations.now }
     requires counted { length locations.now ≡ length scales.now }
-    requires scaled { AllByRecursion (λ scale. 0 < scale) scales.now }
-    ensures { IfOk result (λ models. map ⟦<FamilyModel<P, PRECISION> as EntropyModel<PRECISION>>⟧.table models.items
-        ≡ tables_by PRECISION (Some family) (first_symbol quantizer.now)
-        (symbol_count quantizer.now) locations.now scales.now) }
+    requires scaled { 0 < get_or scales.now place 0 }
+    ensures { ⟦<FamilyModel<P, PRECISION> as EntropyModel<PRECISION>>⟧.table result
+        ≡ indexed PRECISION (below_by (Some family) (get_or locations.now place (pos 0)) (get_or scales.now place 0))
+        (first_symbol quantizer.now) (symbol_count quantizer.now) }
 {
-    let mut models = Vec::with_capacity(alloc, locations.len())?;
-    for i in 0..locations.len() {
-        let distribution = family.distribution(locations[i], scales[i]).unwrap();
-        models.push_reserved(quantizer.quantize_indexed(distribution));
-    }
-    Ok(models)
+    model_of(family, quantizer, locations[place], scales[place])
 }
