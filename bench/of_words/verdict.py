@@ -11,7 +11,7 @@ from library import Refused
 INTO_BINARY = "`AnsCoder::into_binary` drops zero words at the top"
 CLEAR = "`RangeEncoder::clear` keeps the pending words"
 STACK_END = "`StackCoder::from_compressed` takes the lowest set bit of the last word as the end"
-END_OF_BITS = "`ExpGolomb` answers `InvalidCodeword` where the bits end"
+END_OF_BITS = "`ExpGolomb` returns `InvalidCodeword` if the bits end"
 NAMED = (INTO_BINARY, CLEAR, STACK_END, END_OF_BITS)
 
 

@@ -122,7 +122,7 @@ def test():
     carried = 2 * (4 - log2(11))
     page.has(f"Two quantiles take 8 bits. The symbols carry {carried:.2f} bits under their model, and the other")
     page.has(f"{8 - carried:.2f} bits are in the remainders")
-    page.has("At precision 4, `r` is at least 2^4 and below 2^12; at precision 8, at least 1 and below 2^8")
+    page.has("At precision 4, `r` is at least 2^4 and below 2^12. At precision 8, `r` is at least 1 and below 2^8")
     high, low = divmod(number, 256)
     judge(1 <= high < 2**8 <= number, "a change of the precision moves one word")
     page.has(f"`increase_precision::<8>` writes the word {low} and leaves `r = {high}`")

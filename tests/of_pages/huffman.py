@@ -52,8 +52,8 @@ def codewords(page, ways):
     judge(sum(costs) == least_cost(WEIGHTS), "no codewords take fewer bits")
     shown = " + ".join(f"{weight}*{length}" for weight, length in zip(WEIGHTS, lengths))
     content = sum(weight * log2(total / weight) for weight in WEIGHTS) / total
-    page.has(f"take `({shown}) / {total} = {sum(costs) / total:g}` bits each")
-    page.has(f"where their information content is {content:.2f} bits")
+    page.has(f"takes `({shown}) / {total} = {sum(costs) / total:g}` bits.")
+    page.has(f"The average information content is {content:.2f} bits")
 
 
 def nodes(page, steps, ways):

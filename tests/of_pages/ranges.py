@@ -81,9 +81,9 @@ def next_word(page, run):
     """What each symbol makes of the word that waits after the first step."""
     held, lower = divmod(run[0], 2**16)
     length, end = run[1], lower + run[1]
-    judge(end > 65535, "the interval reaches over the end")
+    judge(end > 65535, "the interval straddles two words")
     page.has(f"`{run[0]} = {held} * 65536 + {lower}`, and `{lower} + {length}` is above 65535")
-    page.has(f"begin with the word {held} to numbers that begin with {held + 1}")
+    page.has(f"some of its numbers begin with {held}, some with {held + 1}")
     page.has(f"0 is the first number that begins with the word {held}:")
     why = {0: ": no number of the part reaches 65536", 2: ": all numbers of the part are above 65535"}
     for symbol, (left, weight) in enumerate(entries(WEIGHTS)):
