@@ -39,7 +39,7 @@ def pushes(page, head, words):
         (left, length), old, top = entries(WEIGHTS)[symbol], head, head // 2**12
         before.append((head, words))
         moved, low, below, head, words = push(WEIGHTS, symbol, head, words)
-        room = f"{top} < {length} fails: the word {low} moves out, the head is {below}" if moved else f"{top} < {length}"
+        room = f"{top} < {length} fails: the word {low} moves out, the head becomes {below}" if moved else f"{top} < {length}"
         judge(moved == (top >= length), "the room of a push")
         after = f"{below} / {length} * 16 + {left} + {below} % {length} = {head}"
         page.row(NAMES[symbol], old, room, after, series(words) or "none")
@@ -59,17 +59,40 @@ def pops(page, head, words, before):
         judge((head, words) == before.pop(), "a pop undoes a push")
 
 
+def rounds_within(head, length, precision, word, state, bits):
+    """A push of a weight multiplies the head that a word has left, if one has, by 1 / probability, up to 1 / 2^bits."""
+    if head >> state - precision >= length:
+        head >>= word
+    whole, rest = divmod(head, length)
+    afters = [(whole << precision) + left + rest for left in (0, 2**precision - length)]
+    return all(abs(after * length - (head << precision)) << bits <= head << precision for after in afters)
+
+
+def rounding(page):
+    """Rounding errors: here of each head and weight, and in the default coder of the heads where errors are greatest."""
+    for length in range(1, 2**4):
+        near = all(rounds_within(head, length, 4, 8, 16, 4) for head in range(2**8, 2**16))
+        judge(near, f"{page.name}: the rounding error of a push of weight {length}")
+    lengths = {2**power + more for power in range(25) for more in (-1, 0, 1)}
+    for length in (it for it in sorted(lengths) if 0 < it < 2**24):
+        heads = [head + (rest << word) for head in (2**32, length << 40) for word in (0, 32) for rest in (0, length - 1)]
+        near = all(rounds_within(head, length, 24, 32, 64, 8) for head in heads)
+        judge(near, f"{page.name}: the rounding error of a push of weight {length} in 24 bits")
+    page.has("If the head is at least 2^8 before the push, the relative rounding error is at most 2^-4")
+    page.has("(`DefaultAnsCoder` at 24 bits: for heads from 2^32, at most 2^-8)")
+
+
 def test():
     page = Page("docs/ANS.md")
     for (left, length), name in zip(entries(WEIGHTS), NAMES):
         page.row(name, left, length, quantiles(left, length), bits_of_information(length, 4))
     head = 29 * 256 + 237
-    page.has(f"imports the words `[237, 29]`: its head is `29 * 256 + 237 = {head}`, and no words are below")
+    page.has(f"imports the words `[237, 29]`, last word first. Its head becomes `29 * 256 + 237 = {head}`, with no words below")
     head, words, before = pushes(page, head, [])
     export = words + list(reversed(digits(head, 2)))
     page.has(f"`{listed(export)}`, since `{head} = {head // 256} * 256 + {head % 256}`")
     pops(page, head, words, before)
     page.has("`log2(16 / p)` bits")
-    page.has("at least 2^8 here, 2^32 in `DefaultAnsCoder`")
+    rounding(page)
     # Sizes, the quantile by 16, the steps of bits back, and the weights.
     page.rest("0", "1", "2", "3", "4", "5", "8", "12", "16")

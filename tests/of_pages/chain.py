@@ -86,8 +86,7 @@ def other_model(page):
         page.row("stack coder", series(first), f"{quantile}, {following}", f"{one}, {two}")
         begins, length = entries(first)[one]
         ways.append(f"{head // 16} * {length} + {quantile - begins} = {left}")
-    page.has(f"Under the weights {series(OTHER)} the chain coder's `r` is {decodes[0].way()} and then {decodes[1].way()}")
-    page.has(f"has the head {head} at first. Its first pop leaves {ways[0]} (weights {series(WEIGHTS)}) or")
+    page.has(f"first pop takes the head {head} to {ways[0]} (weights {series(WEIGHTS)}) or")
     page.has(f"{ways[1]} (weights {series(OTHER)})")
 
 

@@ -34,7 +34,7 @@ def read(bits, size):
 
 
 def grammar(page):
-    for number in (0, 1, 2, 3, 5, 7, 1000):
+    for number in (0, 1, 2, 5, 7, 1000):
         bits, code = format(number + 1, "b"), golomb(number)
         page.row(number, bits, len(bits) - 1, code, len(code))
         judge(len(code) == 2 * (len(bits) - 1) + 1, f"the length of the codeword of {number}")
@@ -69,7 +69,7 @@ def reading(page):
         if count > 1:
             page.row(code[:count], zeros, number or "")
     page.has(f"The reader of {code} takes these steps:")
-    page.has(f"so it ends here. The number is {number} - 1 = {number - 1}")
+    page.has(f"The number is {number} - 1 = {number - 1}")
     greatest = golomb(2**8 - 1)
     judge(greatest == "0" * 8 + "1" + "0" * 8 and read(greatest, 8) == (255, 17), "the greatest number of 8 bits")
     page.has(f"For `b = 8`, 255 takes {len(greatest)} bits, and a queue with words of 32 bits holds it")

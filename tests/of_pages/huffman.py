@@ -62,14 +62,14 @@ def nodes(page, steps, ways):
     for _, first, second, union, _ in steps:
         parents[first], parents[second] = 2 * union, 2 * union + 1
     page.row("Index", *range(len(parents)))
-    page.row("Node", *parents)
+    page.row("Number", *parents)
     climb, node = [], parents[3]
     while node:
         climb.append(node)
         node = parents[node // 2]
     first, second, third = (f"{node} (bit {node % 2}, parent {node // 2})" for node in climb)
     bits = series(node % 2 for node in climb)
-    climbed = f"From symbol 3's leaf to the root, the encoder reads the nodes {first}, {second} and {third}."
+    climbed = f"From symbol 3's leaf to the root, the numbers are {first}, {second} and {third}."
     page.has(f"{climbed} The bits {bits} are the codeword from its last bit to its first")
 
     page.row("Union", *[union for _, _, _, union, _ in steps])
@@ -100,13 +100,13 @@ def least(page):
     tree = [ways[symbol] for symbol in range(len(weights))]
     golomb = [by.golomb_codeword(number) for number in range(len(weights))][::-1]
     others = {
-        "of about equal length": ["000", "001", "01", "10", "11"],
+        "about equal lengths": ["000", "001", "01", "10", "11"],
         "Exp-Golomb, shortest for the greatest weight": golomb,
-        "of a tree that joins the two greatest weights": ["1", "01", "001", "0001", "0000"],
+        "tree that always joins the two greatest weights": ["1", "01", "001", "0001", "0000"],
     }
     page.has(f"for the weights {series(weights)}:")
     terms = " + ".join(f"{weight}*{len(codeword)}" for weight, codeword in zip(weights, tree))
-    page.row(f"of the tree: {series(tree)}", f"{terms} = {cost(weights, tree)}")
+    page.row(f"Huffman tree: {series(tree)}", f"{terms} = {cost(weights, tree)}")
     judge(cost(weights, tree) == least_cost(weights), "no codewords of these weights cost less")
     for name, codewords in others.items():
         judge(not any(a != b and b.startswith(a) for a in codewords for b in codewords), f"{name}: one begins another")

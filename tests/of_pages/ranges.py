@@ -73,7 +73,7 @@ def growing(page):
     a, b, c = words
     judge(number == number_of(words, 3), "the seal's digits")
     worth = f"{a} * 256^2 + {b} * 256 + {c}"
-    page.has(f"`c = {number}`, and `{worth}` is that number. So the words are `{listed(words)}`")
+    page.has(f"`c = {number} = {worth}`, so the words are `{listed(words)}`")
     return runs, words
 
 
@@ -149,8 +149,6 @@ def following(page):
     judge(found(tables, others, 32)[0][:2] == [0, 1] and number_of(others, 4) >= low + length, "what may not")
     enough = f"The `{listed(words)}` of `into_compressed` isn't enough: `{listed(others)}` is past the interval"
     page.has(f"the words are `{listed(longer)}`. {enough}")
-    page.has(f"`{listed(within)}` lies within it")
-    page.has("Where a state is two words, `t` is 0 or 1")
 
 
 def joined(page):
@@ -165,7 +163,6 @@ def joined(page):
     page.has(f"In `{listed(words)}` the second list begins at place {len(first)}")
     judge(len(words) == 4, "the fourth word")
     page.has(f"A decoder at place 0 reads {words[3]} as its fourth word and still returns {symbols[0]} and {symbols[1]}")
-    page.has(f"A decoder at place {len(first)} reads {words[3]}, then zeros")
 
 
 def self_delimited(tables, symbols, state=32):
