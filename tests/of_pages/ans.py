@@ -40,6 +40,7 @@ def pushes(page, head, words):
         before.append((head, words))
         moved, low, below, head, words = push(WEIGHTS, symbol, head, words)
         room = f"{top} < {length} fails: the word {low} moves out, the head becomes {below}" if moved else f"{top} < {length}"
+        room += " (by chance equal)" if low == below else ""
         judge(moved == (top >= length), "the room of a push")
         after = f"{below} / {length} * 16 + {left} + {below} % {length} = {head}"
         page.row(NAMES[symbol], old, room, after, series(words) or "none")
@@ -78,8 +79,8 @@ def rounding(page):
         heads = [head + (rest << word) for head in (2**32, length << 40) for word in (0, 32) for rest in (0, length - 1)]
         near = all(rounds_within(head, length, 24, 32, 64, 8) for head in heads)
         judge(near, f"{page.name}: the rounding error of a push of weight {length} in 24 bits")
-    page.has("If the head is at least 2^8 before the push, the relative rounding error is at most 2^-4")
-    page.has("(`DefaultAnsCoder` at 24 bits: for heads from 2^32, at most 2^-8)")
+    page.has("If the head is at least 2^8 before the push, rounding changes the new head by at most 2^-4 of its exact value")
+    page.has("For `DefaultAnsCoder` at 24 bits and heads of at least 2^32, the bound is 2^-8")
 
 
 def test():
