@@ -54,8 +54,8 @@
    range coder. A decode of one symbol builds no table, and takes 1 to 3 nanoseconds for each weight. The functions
    .._each take 4 nanoseconds for each weight of each row.
 
-   ONE SYMBOL AT A TIME. To encode one symbol, pass its interval. This takes 22 nanoseconds with a stack coder, 30
-   with a range coder and 23 with a chain coder. You can decode one symbol without a call over all weights, if you can
+   ONE SYMBOL AT A TIME. To encode one symbol, pass its interval. This takes 22 nanoseconds with a stack coder, 17
+   with a range coder and 24 with a chain coder. You can decode one symbol without a call over all weights, if you can
    search the sums of the weights yourself. Compute the quantile from the state, and find the symbol whose interval
    contains it. Then pass three weights: the sum of the weights below this symbol, the symbol's weight, and the sum of
    the weights above it. The call decodes symbol 1. This takes 16 nanoseconds with a stack coder. The quantile is:
