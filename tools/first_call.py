@@ -33,7 +33,7 @@ WEIGHTS = {
     "constriction_commands": 4.7,
     "constriction_cli": 0.8,
     "constriction_inputs": 3.9,
-    "constriction_calls": 15.1,
+    "constriction_calls": 16.1,
     "constriction_c": 7.1,
 }
 
