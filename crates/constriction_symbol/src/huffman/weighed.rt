@@ -1,6 +1,8 @@
 //! A tree that Huffman's algorithm can join, with its weight and its index.
 //!
-//! The algorithm compares weights as numbers of type `P`, as the Rust crate `constriction` does.
+//! The algorithm compares weights as numbers of type `P`, as the Rust crate `constriction` does. A comparison reads
+//! both indices even if the weights differ. The compiled sort's main loop then has no branch that depends on a
+//! comparison.
 
 ghost use Rattle.std.specs.Prelude.{◌==◌};
 ghost use Rattle.std.proofs.Common.{rules};
@@ -54,12 +56,13 @@ impl<P: BitArray> Ord for Weighed<P> {
     ghost matches_eq = { Prim.search (comparing, rules) };
 
     fn cmp(&self, other: &Self) -> Ordering {
+        let by_index = self.index.cmp(&other.index);
         if self.weight.is_below(other.weight) {
             Ordering::Less
         } else if other.weight.is_below(self.weight) {
             Ordering::Greater
         } else {
-            self.index.cmp(&other.index)
+            by_index
         }
     }
 }
