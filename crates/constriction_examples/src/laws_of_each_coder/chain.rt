@@ -1,7 +1,8 @@
 //! An application of a law of the chain coder, and calls whose contracts say how much room a failed call leaves.
 
-ghost use Rattle.std.specs.Bool.{OnFalse};
-ghost use Rattle.std.specs.Prelude.{IfErr, IfNone, IfOk, IfSome, [], ◌≡◌, ◌≤◌};
+ghost use Rattle.constriction.specs.Symbols.{DecodesSymbol, EncodesSymbol};
+ghost use Rattle.std.specs.Bool.{OnFalse, OnTrue};
+ghost use Rattle.std.specs.Prelude.{IfErr, IfNone, IfOk, IfSome, Ok, [], ◌≡◌, ◌≤◌};
 
 use constriction::backends::{Holds, ReadWords, WriteWords};
 use constriction::laws::chain::isolation::symbols_are_isolated;
@@ -76,6 +77,10 @@ pub fn decode_to_the_end<
 ) -> Result<Option<M::Symbol>, BackendError<C::ReadError, R::WriteError>>
 where
     M::Probability: WordOf<u32>,
+    ensures symbol { IfOk result (λ found. IfSome found (λ symbol.
+        DecodesSymbol ⟦<ChainCoder<u32, u64, C, R, PRECISION> as Decode<PRECISION>>⟧.decodes
+        ⟦<ChainCoder<u32, u64, C, R, PRECISION> as Decode<PRECISION>>⟧.halts
+        PRECISION (M.table model.now) coder.old (Ok symbol) coder.new)) }
     ensures none_left { IfOk result (λ found. IfNone found (C.is_list → coder.old.state.compressed ≡ [])) }
     ensures room_at_the_end { IfOk result
         (λ found. IfNone found (R.room coder.old.remainders ≤ R.room coder.new.remainders)) }
@@ -110,6 +115,10 @@ pub fn encode_to_the_end<
 ) -> Result<bool, EncoderError<C::WriteError, R::ReadError>>
 where
     M::Probability: WordOf<u32>,
+    ensures encoded { IfOk result (λ put. OnTrue put (
+        EncodesSymbol ⟦<ChainCoder<u32, u64, C, R, PRECISION> as Encode<PRECISION>>⟧.encodes
+        ⟦<ChainCoder<u32, u64, C, R, PRECISION> as Encode<PRECISION>>⟧.is_impossible_symbol
+        PRECISION (M.table model.now) symbol.now coder.old (Ok tt) coder.new)) }
     ensures none_left { IfOk result (λ put. OnFalse put (R.is_list → coder.old.state.remainders ≡ [])) }
     ensures room_at_the_end { IfOk result
         (λ put. OnFalse put (C.room coder.old.compressed ≤ C.room coder.new.compressed)) }
