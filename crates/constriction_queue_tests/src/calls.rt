@@ -1,10 +1,12 @@
-//! Tests of the public calls that the worked examples in `rows.rt` don't make, each call once.
+//! Tests of the public calls that the worked examples in `rows.rt` don't make.
 
 use crate::coders::{INVERTING, Table, small, small_of};
 use crate::decoding::Lent;
 use crate::flagged::{switch_of, tables_of};
+use crate::parts::{is_interval, is_situation};
 use constriction_base::backends::{BoundedReadWords, Queue};
 use constriction_base::weights::WeightTable;
+use constriction_queue::{EncoderSituation, RangeCoderState};
 use constriction_scripts::taking::take_each;
 use std::test::Fail;
 
@@ -70,6 +72,13 @@ fn calls_of_a_decoder(rt: HostRuntime) -> Result<(), Fail> {
     let words = [127u8, 127, 1].to_vec(rt.alloc())?;
     assert!(rt; lent_give(&words, &table));
     Ok(())
+}
+
+/// Checks that the default interval and the default situation are those of a new encoder.
+#[test]
+fn default_state(rt: HostRuntime) {
+    assert!(rt; is_interval(RangeCoderState::<u8, u16>::default(), &[0, 65535], 0));
+    assert!(rt; is_situation(EncoderSituation::<u8>::default(), &[]));
 }
 
 /// Checks that the decoder inside a switch decodes the third symbol with the first table, after the flag.

@@ -1,12 +1,13 @@
-//! Tests of symbols read with iterators, and the outcome of a list call.
+//! Tests of symbols read with iterators, and the outcome of a call that encodes symbols.
 
 use crate::bits::writes;
 use crate::coders::{LentQueue, word_queue};
-use crate::codewords::Put;
+use crate::codewords::{Put, Took, refusal_of};
 use constriction_base::backends::Stack;
 use constriction_base::errors::{CoderError, DefaultEncoderError};
+use constriction_symbol::codebooks::SymbolCodeError;
 use constriction_symbol::coder::StackCoder;
-use constriction_symbol::exp_golomb::ExpGolomb;
+use constriction_symbol::exp_golomb::{ExpGolomb, InvalidCodeword};
 use constriction_symbol::reading::ReadBitStream;
 use std::alloc::AllocError;
 
@@ -21,7 +22,7 @@ pub fn answer_of(answer: Result<(), DefaultEncoderError<AllocError>>) -> Put {
 
 /// Returns whether an iterator over two codebooks decodes `first`, then `second`, and then ends.
 pub fn takes_two(coder: &mut StackCoder<u8>, first: u8, second: u8) -> bool {
-    let codebooks = [ExpGolomb::<u8>::new(), ExpGolomb::<u8>::new()];
+    let codebooks = [ExpGolomb::<u8>::new(), ExpGolomb::<u8>::default()];
     let mut given = coder.decode_symbols(codebooks.iter());
     given.size_hint() == (2, Some(2))
         && matches!(given.next(), Some(Ok(found)) if found == first)
@@ -36,6 +37,18 @@ fn takes_two_by_one(queue: &mut LentQueue<'_, u8>, first: u8, second: u8) -> boo
     matches!(given.next(), Some(Ok(found)) if found == first)
         && matches!(given.next(), Some(Ok(found)) if found == second)
         && given.next().is_none()
+}
+
+/// Checks that the error of a codebook becomes the error of a coder.
+#[test]
+fn error_of_a_codebook(rt: HostRuntime) {
+    let error = SymbolCodeError::<InvalidCodeword>::OutOfCompressedData;
+    assert!(rt;
+        matches!(
+            refusal_of::<AllocError>(error.into_coder_error()),
+            Took::OutOfData
+        )
+    );
 }
 
 /// Checks that the bits `101100` on a stack are the numbers 0 and 5, and that 5 is read first.
