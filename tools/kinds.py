@@ -138,7 +138,7 @@ STRUCTS = {
     "RangeDecoderU32": ("DecoderParts<u64>", "large_decoder"),
 }
 PARTS = """impl {name} {{
-    /// Returns the numbers as the type that the calls of `constriction_calls` take.
+    /// Returns the struct's fields as the type that the calls of `constriction_calls` take.
     #[inline]
     pub fn parts(&self) -> {type}
         ensures {{ result ≡ {value} self.now }}
@@ -203,6 +203,15 @@ def listed(names, is_ghost):
     return text if len(names) == 1 else "{\n" + textwrap.indent(textwrap.fill(f"{text},", 96), " " * 4) + "\n}"
 
 
+# By module, what the functions of large_kinds.rt are.
+MORE = {
+    "ans": "of the stack coder: other models, symbols of 8 and 16 bits, and words in binary form",
+    "range": "of the range coder: other models, symbols of 8 and 16 bits, and self-delimiting words",
+    "chain": "of the chain coder: other models, symbols of 8 and 16 bits, binary form, and words of remainders",
+    "symbol": "for codewords: Exp-Golomb on a stack, and Huffman on a queue, on a stack and at a given bit",
+}
+
+
 def beside(module, text):
     """The names of the files that are written beside a module's source with this text, each with its text."""
     functions = [it for it in text.rstrip("\n").split("\n\n") if 'extern "C"' in it]
@@ -213,8 +222,8 @@ def beside(module, text):
     given = [it for it in IMPORTS.split("\n") if "constriction_calls::" not in it or f"::{module}::" in it]
     given += [f"use crate::{module}::large::{{{', '.join(structs)}}};"] if structs else []
     written = {
-        "kinds": ("The same calls with other kinds of models, codewords and words.", functions[count:]),
-        "parts": ("The structs as the types that the calls of `constriction_calls` take.", [parts(*it) for it in structs.items()]),
+        "kinds": (f"More C functions {MORE.get(module)}.", functions[count:]),
+        "parts": ("Converts the C functions' structs to the types that the calls of `constriction_calls` take, and back.", [parts(*it) for it in structs.items()]),
     }
     for name, (says, items) in written.items():
         body = "\n\n".join(items)

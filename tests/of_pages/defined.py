@@ -11,11 +11,11 @@ import re
 from judging import TOP, judge, read
 
 PAGE = "docs/DEFINITIONS.md"
-HEAD = """# Where a definition lives
+HEAD = """# Definitions by crate
 
 Contracts cite definitions from the `specs/` folder of each crate. This page lists the files by crate, with the first
-sentence of each. `python3 tests/of_pages/defined.py` writes it, and `tests/pages` fails where it is stale. The facade
-`constriction` passes definitions on and has none.
+sentence of each. `python3 tests/of_pages/defined.py` writes it, and `tests/pages` fails if it is stale. The facade
+`constriction` re-exports definitions and has none of its own.
 """
 
 

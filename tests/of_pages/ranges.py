@@ -84,7 +84,7 @@ def next_word(page, run):
     judge(end > 65535, "the interval straddles two words")
     page.has(f"`{run[0]} = {held} * 65536 + {lower}`, and `{lower} + {length}` is above 65535")
     page.has(f"some of its numbers begin with {held}, some with {held + 1}")
-    page.has(f"0 is the first number that begins with the word {held}:")
+    page.has(f"counts from the first number that begins with the word {held}:")
     why = {0: ": no number of the part reaches 65536", 2: ": all numbers of the part are above 65535"}
     for symbol, (left, weight) in enumerate(entries(WEIGHTS)):
         begin, end = lower + length // 256 * left, lower + length // 256 * (left + weight)
@@ -142,7 +142,7 @@ def following(page):
     number, words = sealed(low, length, moves, 32)
     room, zeros = low + length - number * 2**24, zero_words(low, length, 32)
     page.has(f"So `c = {number}`, and `A + R` is {low + length}, which is `c * q + {room}`")
-    page.has(f"The interval has {room} numbers at or above `c * q`. With `t` zero words the seal needs `q / 256^t` of them: `2^24`, {2**24 // 256} or {2**24 // 256**2}. So `t` is {zeros}")
+    page.has(f"The interval has {room} numbers at or above `c * q`. With `t` zero words the seal needs `q / 256^t` such numbers: `2^24`, {2**24 // 256} or {2**24 // 256**2}. So `t` is {zeros}")
     longer = digits(number, moves + 1) + [0] * zeros
     others, within = words + [255, 255], words + [0, 255]
     judge(found(tables, words, 32)[0] == found(tables, within, 32)[0] == symbols, "what may follow the seal")

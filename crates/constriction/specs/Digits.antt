@@ -1,2 +1,2 @@
--- A fixed count of the lowest digits of a number, and the number of words that a number takes.
+-- The lowest digits of a number, as a list of a given length, and the length of a number in words.
 pub use Rattle.constriction_base.specs.Digits.{fixed_digits, count_of_words}

@@ -1,2 +1,2 @@
--- List calls and decode iterators: one step at each item, in order or from the last to the first.
+-- Calls that make one step of a coder for each item of an iterator, and iterators over decoded symbols.
 pub use Rattle.constriction_stream.specs.Lists.{StepsAll, StepsUntilFault, GivesAtMost, LowersByItems, as_tried, TriesItem, AnswersNext, CountsDown}

@@ -1,7 +1,7 @@
 //! Entropy coders over lists of words: lossless compression with models of the symbols' probabilities.
 //!
-//! The coders come close to the least number of bits that the models allow. A proved contract states what each call
-//! does.
+//! The stream coders come close to the least number of bits that the models allow. A proved contract states what each
+//! call does.
 //!
 //! This crate has no code of its own. It re-exports, in one tree of modules, the items of the crates that it depends
 //! on. So your crate needs to depend only on this crate. `specs/` re-exports the definitions that the contracts cite.
@@ -95,8 +95,9 @@
 //!   without a division. You can define other distributions with [`stream::model::CumulativeDistribution`].
 //! - [`stream::model::Mixture`]: the weighted mean of distributions, each a [`stream::model::Component`].
 //!   [`stream::model::MixtureError`] is the error of components that make no mixture.
-//! - [`stream::model::UniformModel`], [`stream::model::BernoulliModel`]: models of equally probable symbols, and of two
-//!   symbols. [`stream::model::SupportError`] is the error of too few or too many symbols for the precision.
+//! - [`stream::model::UniformModel`], [`stream::model::BernoulliModel`]: models of equally probable symbols (up to
+//!   rounding), and of two symbols. [`stream::model::SupportError`] is the error of too few or too many symbols for
+//!   the precision.
 //! - [`stream::model::weights_of_counts`]: a function that returns the weights for a histogram's counts.
 //!   [`stream::model::CountsError`] is the error of computing these weights.
 //! - [`stream::model::ContiguousLookupDecoderModel`]: a model for decoding that stores the symbol of each quantile.
@@ -108,8 +109,8 @@
 //!   [`stream::stack::SmallAnsCoder`] (16 and 32 bits).
 //! - [`stream::stack::AnsCompressedIter`]: an iterator over the words that a coder would export. The coder stays
 //!   unchanged.
-//! - [`stream::stack::CoderGuard`]: a guard that lends the exported words on the coder's own backend until it is
-//!   dropped.
+//! - [`stream::stack::CoderGuard`]: a guard that lends the exported words on the coder's own backend until the
+//!   guard is dropped.
 //! - [`stream::stack::CompressedDataEndsWithZeroWord`]: the error of importing words that no coder exports.
 //!
 //! ## [`stream::queue`]: range coding, which decodes the first symbol first
@@ -121,10 +122,10 @@
 //!   [`stream::queue::SmallRangeDecoder`]. [`stream::queue::DecoderFrontendError`] is the error of words that encode no
 //!   symbol at the decoder's position.
 //! - [`stream::queue::RangeCompressedIter`], [`stream::queue::EncoderGuard`]: an iterator over the sealed words of an
-//!   encoder, and a guard that lends these words. The encoder stays unchanged. [`stream::queue::LendsAsWritten`] is the
-//!   trait of backends that lend their words in writing order.
+//!   encoder, and a guard that lends these words. Dropping the guard restores the encoder.
+//!   [`stream::queue::LendsAsWritten`] is the trait of backends that lend their words in writing order.
 //! - [`stream::queue::encode_flagged`], [`stream::queue::FlagSwitch`]: encoding and decoding a list of symbols with two
-//!   models. The coders use the second model after a flag symbol.
+//!   models. The coders use the second model after the first flag symbol.
 //!
 //! ## [`stream::chain`]: symbols that don't depend on each other's models
 //!
@@ -134,7 +135,7 @@
 //! - [`stream::chain::DecoderFrontendError`], [`stream::chain::EncoderFrontendError`], [`stream::chain::BackendError`],
 //!   [`stream::chain::ChangePrecisionError`]: the errors of a chain coder's calls.
 //!
-//! # [`store`]: many lists of symbols in one list of words, where each list can be decoded alone
+//! # [`store`]: many lists of symbols in one list of words, where each list of symbols can be decoded alone
 //!
 //! - [`store::Store`]: lists of symbols (chunks) with one model, and an index with the position of each chunk. A store
 //!   has at most [`store::MOST_SYMBOLS`] symbols. [`store::BuildError`], [`store::ChunkError`] and [`store::BadIndex`]
@@ -157,15 +158,15 @@
 //!
 //! Functions whose contracts are theorems, for use in your proofs. Most of them are laws, which have no code. You call
 //! a law to use its contract in your proof, and at run time the call does nothing. Other functions do make coders'
-//! calls at run time, such as those in the modules `round_trips`. Each of these encodes or decodes a list of symbols.
+//! calls at run time. For example, most functions in a module `round_trips` encode or decode a list of symbols.
 //!
 //! - [`laws::lists`]: if each step can be undone, so can a list of steps.
 //! - [`laws::bounds`]: upper bounds on the number of words of the stack coder and of the range coder, for any list of
-//!   steps. Other laws state which words may follow the words of a range coder.
+//!   steps. Another law states when any words may follow the sealed words of a range encoder.
 //! - [`laws::chain`]: the chain coder. [`laws::chain::isolation`] states that its symbols don't depend on each other's
 //!   models. [`laws::chain::steps`], [`laws::chain::lists`] and [`laws::chain::words`] are about one step, about lists,
-//!   and about restoring words from the remainders. [`laws::chain::round_trips`] decodes symbols and encodes them
-//!   again.
+//!   and about restoring words from the remainders. [`laws::chain::round_trips`] has functions that decode symbols, and
+//!   functions that encode them back.
 //! - [`laws::queue`]: the range coder. [`laws::queue::words`], [`laws::queue::lists`] and [`laws::queue::positions`]
 //!   are about sealed words, lists of symbols, and recorded positions. [`laws::queue::round_trips`] encodes and decodes
 //!   lists. Other modules are about flags, self-delimiting seals, guards and room.
@@ -176,7 +177,8 @@
 //!   prefix-free codebook.
 //! - [`laws::stack`]: the stack coder. [`laws::stack::steps`], [`laws::stack::lists`] and [`laws::stack::words`] are
 //!   about one symbol, lists, and words that are exported and imported. [`laws::stack::round_trips`] encodes and
-//!   decodes lists. Other modules are about binary forms, guards, positions, readings and sizes.
+//!   decodes lists. Other modules are about binary forms, guards, positions, sizes, and backends such as
+//!   iterators.
 //! - [`laws::errors`]: the reasons why symbols weren't encoded or decoded.
 #![tactic(auto)]
 

@@ -1,4 +1,4 @@
--- A given number of digits of a number, and the number of words that it has.
+-- The lowest digits of a number, as a list of a given length with leading zeros, and the length of a number in words.
 use Rattle.std.specs.Prelude.{ℕ, zero, suc, ◌/◌, ◌%◌, ◌^◌, List, [], ◌∷◌, ◌++◌, length}
 use Rattle.std.specs.Int.Digits.{digits_of}
 

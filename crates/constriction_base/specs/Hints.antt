@@ -1,8 +1,8 @@
--- Hints for finding a quantile's symbol among the starts of intervals.
+-- Hints: symbols at which the search for a quantile's interval begins or ends.
 use Rattle.std.specs.Prelude.{ℕ, ◌+◌, ◌*◌, ◌<◌, ◌≤◌, List, length, slice_index}
 use Rattle.constriction_base.specs.Tables.{end_of}
 
--- The interval of this symbol holds the place or ends at it.
+-- The interval of `symbol` holds the quantile `place` or ends at it.
 pub record IsHint (starts : List ℕ) (high place symbol : ℕ) : Type 0 where
   pub known : symbol < length starts
   pub from : slice_index starts symbol ≤ place

@@ -1,4 +1,4 @@
--- An iterator of Results of words, seen as reads of a backend.
+-- An iterator over `Result`s of words as a backend: each read takes the next item.
 use Rattle.std.specs.Prelude.{◌≡◌, Bool, true, false, List, [], ◌∷◌, Option, None, Some, Result, Ok, Err, MatchBool, MatchOption}
 
 -- The iterator's item that makes a read return this answer, or `None` if the iterator has ended.

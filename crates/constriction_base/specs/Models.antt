@@ -1,4 +1,4 @@
--- A model as coding sees it (its precision and its table), and symbols with their models.
+-- Models as coders see them (a precision and a table), and items (symbols with their models).
 use Rattle.std.specs.Prelude.{ℕ, ◌≤◌, List, map}
 use Rattle.std.specs.List.{AllByRecursion, zip}
 use Rattle.constriction_base.specs.Tables.{Has, IsTable}

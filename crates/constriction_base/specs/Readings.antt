@@ -1,4 +1,4 @@
--- Words that the reads of a backend return, as coders take them in.
+-- Sequences of reads of a backend, and the head that a coder forms from the words.
 use Rattle.std.specs.Prelude.{◌≡◌, ℕ, ◌<◌, ◌≤◌, ◌^◌, ⊤, Bool, List, [], ◌∷◌, ◌++◌, Option, None, Some, Result, Ok, Err, MatchBool, MatchResult, map}
 use Rattle.std.specs.Int.Digits.{number_from_digits, number_from_digits_after}
 use Rattle.constriction_base.specs.Backends.{Reads}

@@ -1,6 +1,5 @@
--- Steps of a coder (the interval of one symbol in a table), and the sizes of words and states.
--- A step is all that a coder learns of a symbol and its model. Under a lawful model, each step is an entry of
--- the table.
+-- Steps of a coder (a precision and the interval of one symbol), and the allowed sizes of words and states. A step is
+-- all that a coder learns of a symbol and its model. Under a lawful model, each step is an entry of the table.
 use Rattle.std.specs.Prelude.{◌≡◌, ℕ, ◌+◌, ◌*◌, ◌%◌, ◌<◌, ◌≤◌, ◌^◌, List, [], ◌∷◌}
 use Rattle.std.specs.List.{AllByRecursion}
 

@@ -1,4 +1,4 @@
--- What contracts say of a weight table: its entries, and that they are a lawful table.
+-- The entries and the model of a `WeightTable`, and proofs that the entries make a table.
 use Rattle.std.specs.Prelude.{◌≡◌, ℕ, ◌^◌, ◌≤◌, List, length, map}
 use Rattle.constriction_base.specs.Tables.{IsTable, table_of, weights_between}
 use Rattle.constriction_base.specs.Models.{Model}

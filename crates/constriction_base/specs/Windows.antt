@@ -1,5 +1,6 @@
--- Windows: bounds on a number above a list of words, and moves of one word that bring the number back within them.
--- The number is the head of a stack of digits in base 2 ^ w. The remainders of the chain coder are an example.
+-- Windows (the numbers from a bound b to b * 2 ^ w - 1), and the moves of one word that keep a head in its window. A
+-- word has w bits. The head is the number on top of a stack of words. The remainders head of the chain coder is an
+-- example.
 use Rattle.std.specs.Prelude.{◌≡◌, ℕ, ◌+◌, ◌*◌, ◌^◌, ◌<◌, ◌≤◌, List, ◌∷◌}
 
 -- The number is at least the bound and below the bound times 2 ^ w.

@@ -1,5 +1,5 @@
--- Writing the words that a call owes to a backend, and what the backend holds where a write is refused. The owed words
--- are those that the call has to write. In each list of words, the word that is written last and read next comes first.
+-- Writing all words that a call has to write (the owed words), and the words of the backend after a refused write. In
+-- each list of words, the word that is written last and read next comes first.
 use Rattle.std.specs.Prelude.{◌≡◌, ◌⊎◌, ℕ, ◌+◌, ◌*◌, ◌^◌, ◌<◌, ◌≤◌, List, [], ◌∷◌, ◌++◌, Result, Ok, Err, drop, length, map, OnOk, OnErr, IfErr, IsOk, MatchResult}
 use Rattle.constriction_base.specs.Digits.{fixed_digits}
 use Rattle.constriction_base.specs.declared.backends.reading.Holds as holding

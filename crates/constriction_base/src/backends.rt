@@ -1,8 +1,8 @@
 //! Backends: where a coder keeps its words.
 //!
 //! Contracts describe a backend by the list of words that its next reads return, the next word first. A read takes the
-//! first word off the list. A write puts a word in front of the list. Writes always go onto a stack: the word written
-//! last is read first.
+//! first word off the list. Writes always go onto a stack: a write puts a word in front of the list that is read as a
+//! stack, so the word written last is read first.
 //!
 //! - `semantics`: the two reading orders.
 //! - `reading`: reading words, and counting the words left to read.
@@ -10,7 +10,7 @@
 //! - `seeking`: recording positions, and seeking to them.
 //! - `lending`: buffers that lend their words as a slice.
 //! - `conversions`: values that turn into a backend for reading, or lend one.
-//! - `taking`: taking written words off again.
+//! - `taking`: removing words that were written to a backend.
 //! - `both_ways`: backends that hold the same words as a stack and as a queue.
 
 pub mod both_ways;

@@ -90,7 +90,7 @@ pub enum ReadWriteError<R, W> {
 /// ```
 #[derive(Debug, Clone, Copy, PartialEq, Eq, Hash, Error)]
 pub enum BoundedWriteError {
-    /// The position is the end of the buffer, so there is no word that the write could replace.
+    /// The cursor is at the end of its buffer, so there is no word that the write could replace.
     #[error("out of space")]
     OutOfSpace,
     /// An allocation failed.

@@ -35,7 +35,7 @@ pub fn count_of_words<Word: WordOf<State>, State: BitArray>(head: State) -> usiz
     count
 }
 
-/// Returns the number of bits of `head` below its highest set bit, counted in words.
+/// Returns the number of words that the bits of `head` below its highest set bit fill.
 ///
 /// Returns `None` if these bits aren't a whole number of words, or if `head` is 0. The caller proves that the width of
 /// `State` is a whole number of words, at least two.

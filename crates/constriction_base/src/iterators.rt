@@ -46,8 +46,8 @@ impl<Word, ReadError, Iter: Iterator<Item = Result<Word, ReadError>>> FallibleIt
 > {
     /// Creates a backend over an iterator.
     ///
-    /// The reads can return a list of results and then `Ok(None)` if and only if the iterator can return the items of
-    /// this list and then `None`. The caller proves that the iterator's `next` may be called.
+    /// Each read returns the iterator's next item: `Ok(Some(word))` for the item `Ok(word)`, `Err(error)` for the item
+    /// `Err(error)`, and `Ok(None)` at the end. The caller proves that the iterator's `next` may be called.
     ///
     /// # Examples
     ///

@@ -1,9 +1,9 @@
-//! The parts that every entropy coder uses: backends, which hold its words, and models, which hold probabilities.
+//! The parts that entropy coders share: backends, which hold words, and models, which hold probabilities.
 //!
-//! A coder depends on two things. Its backend is a list of words: a read takes the first word off, and a write puts a
-//! word in front. Its model is a table: each symbol that can be coded has an interval, and the intervals partition the
-//! numbers below `2 ^ PRECISION`. The contracts of the crates that depend on this one describe backends and models only
-//! as lists and tables.
+//! A stream coder depends on two things. Its backend is a list of words: a read takes the first word off, and a write
+//! puts a word in front. Its model is a table: each symbol that can be coded has an interval, and the intervals
+//! partition the numbers below `2 ^ PRECISION`. The contracts of the crates that depend on this one describe models as
+//! tables, and backends mainly as lists of words.
 //!
 //! - [`backends`]: the backend traits (`ReadWords`, `WriteWords` and others) and the two reading orders, `Stack` and
 //!   `Queue`.

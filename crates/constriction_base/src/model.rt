@@ -1,4 +1,4 @@
-//! Model traits. A model gives each symbol an interval, whose length stands for the symbol's probability.
+//! Model traits. A model gives each of its symbols an interval, whose length stands for the symbol's probability.
 //!
 //! A model of a given precision (in bits) partitions its quantiles, the numbers below `2 ^ PRECISION`, into intervals.
 //! Each symbol that the model can code has one interval. The interval's length, divided by `2 ^ PRECISION`, is the
@@ -44,9 +44,9 @@ pub trait EntropyModel<const PRECISION: usize>: Drop {
 
 /// A model that an encoder can use.
 ///
-/// An implementor proves that each call returns the start and the length of the symbol's interval. The call returns
-/// `None` if and only if the table has no entry for the symbol. If a call also returns a reciprocal, the implementor
-/// proves that it is the reciprocal of the interval's length.
+/// An implementor proves that each call returns the start and the length of the symbol's interval, or `None` if the
+/// table has no entry for the symbol. If a call also returns a reciprocal, the implementor proves that it is the
+/// reciprocal of the interval's length.
 ///
 /// # Examples
 ///
@@ -105,7 +105,7 @@ pub trait EncoderModel<const PRECISION: usize>: EntropyModel<PRECISION> {
 /// table.quantile_function(255) // (1, 255, 1)
 /// ```
 pub trait DecoderModel<const PRECISION: usize>: EntropyModel<PRECISION> {
-    /// Returns the symbol whose interval holds the quantile, the start of the interval, and its length.
+    /// Returns the symbol whose interval holds the quantile, and the start and the length of this interval.
     ///
     /// The caller proves that the quantile is below `2 ^ PRECISION`. Each quantile lies in the interval of exactly one
     /// symbol.

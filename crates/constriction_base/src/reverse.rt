@@ -2,8 +2,8 @@
 //!
 //! `Reverse(Cursor::new_at_write_beginning(words))` is a stack that reads the buffer `words` from first word to last.
 //! Use `Reverse` for buffers that list the words of a stack in reading order, for example a file that is written from
-//! its end. The impls cover only cursors. An impl for every backend can be proved, but code that calls this impl can't
-//! be proved.
+//! its end. The impls cover only cursors. The prover would accept impls for every backend, but not code that calls
+//! them.
 
 ghost use Rattle.constriction_base.specs.laws.Room.{within};
 

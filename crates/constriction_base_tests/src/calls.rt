@@ -1,4 +1,4 @@
-//! Calls of any backend of `u32` words, in functions without a contract.
+//! Test helpers that call a backend of `u32` words and return whether the outcome is the expected one.
 
 use constriction_base::backends::{
     BoundedReadWords, Pos, PosSeek, Queue, ReadWords, Seek, Stack, WriteWords,

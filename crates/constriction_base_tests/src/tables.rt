@@ -1,4 +1,4 @@
-//! Tests of a table of weights with requests for memory refused, one at a time.
+//! Tests of weight tables while one request for memory is refused, for each request in turn.
 
 ghost use Rattle.std.specs.Prelude.{◌<◌, ◌^◌};
 

@@ -10,7 +10,7 @@ use constriction_base::errors::BoundedWriteError;
 use constriction_words::BitArray;
 use std::alloc::{AllocError, Allocator};
 
-/// The backend's call that failed in [`two_for_one`], with the error. `Prepare` also has what the read returned.
+/// The backend's call that failed in [`two_for_one`], with its error. `Prepare` also has the result of the read.
 #[derive(Debug, Drop)]
 pub enum Refusal<Word, ReadError, WriteError> {
     Read(ReadError),
@@ -21,7 +21,8 @@ pub enum Refusal<Word, ReadError, WriteError> {
 
 /// Reads the next word, and writes `below` and then `above` in its place.
 ///
-/// Returns the word that was read, or `None` if the read found no word.
+/// Returns the word that was read, or `None` if the read found no word. Stops at the first call of the backend that
+/// fails, and returns its [`Refusal`].
 pub fn two_for_one<Word: BitArray, Backend: ReadWords<Word, Stack> + WriteWords<Word>>(
     backend: &mut Backend,
     below: Word,
@@ -59,7 +60,8 @@ pub fn two_for_one<Word: BitArray, Backend: ReadWords<Word, Stack> + WriteWords<
 
 /// Replaces the last word of a vector by `below` and `above`. If there is no memory, the vector is unchanged.
 ///
-/// Only `prepare` can be refused. The function then pushes the word that was read, for which the vector still has room.
+/// Returns the replaced word, or `None` if the vector was empty. Only `prepare` can fail. The function then pushes the
+/// word that was read, for which the vector still has room.
 pub fn two_for_last<A: Allocator>(
     words: &mut Vec<u32, A>,
     below: u32,
@@ -81,9 +83,10 @@ pub fn two_for_last<A: Allocator>(
     }
 }
 
-/// Replaces the word before a cursor by `below` and `above`.
+/// Replaces the word before a cursor by `below` and `above`. Returns the replaced word.
 ///
-/// If the cursor is at the end of its buffer, only `below` has room. The function writes it and returns `OutOfSpace`.
+/// If the cursor is at the end of its buffer, only `below` has room. The function then writes `below` and returns
+/// `OutOfSpace`. The caller proves that the cursor isn't at the beginning.
 pub fn two_for_one_before(
     words: &mut Cursor<u32, &mut [u32]>,
     below: u32,

@@ -1,4 +1,4 @@
--- The starts of the intervals of the symbols 0, 1, .., followed by the end of the last symbol's interval.
+-- Cumulative weights: the interval starts of the symbols 0, 1, .., and then the end of the last interval.
 use Rattle.std.specs.Prelude.{◌≡◌, ℕ, ◌+◌, ◌*◌, ◌<◌, ◌≤◌, ◌^◌, List, [], ◌∷◌, length, slice_index, cond, nat_eq}
 
 -- The start and the length of a symbol's interval in a table. Both are 0 if the symbol has no entry.

@@ -1,4 +1,4 @@
-//! A table of weights for benchmarks, with a list of the first symbol of each of 4096 equal parts of the quantiles.
+//! A table of weights for benchmarks. A list of 4096 symbols shortens the search for a quantile's symbol.
 
 ghost use Rattle.std.specs.Prelude.{◌≡◌, ℕ, ◌+◌, ◌-◌, ◌*◌, ◌^◌, ◌<◌, ◌%◌, length, map, slice_index, IfSome};
 ghost use Rattle.constriction_base.specs.Tables.{table_of};
@@ -15,7 +15,8 @@ use std::num::NonZero;
 /// A table of weights at a precision of 24 bits, with a list that shortens the search for a quantile's symbol.
 ///
 /// The quantiles are divided into 4096 parts of equal length. The list has the symbol of each part's first quantile. A
-/// decode searches upward from this symbol. All weights are above 0, and all listed symbols are below 256.
+/// decode searches upward from the listed symbol of its quantile's part. All weights are above 0, and all listed
+/// symbols are below 256.
 #[derive(Drop)]
 pub struct BucketTable {
     table: WeightTable<u32, 24>,
@@ -32,7 +33,7 @@ impl BucketTable {
     /// Creates the table of `weights`.
     ///
     /// Returns `None` if a weight is 0, if the weights don't add up to `2^24`, or if there is no memory. Also returns
-    /// `None` if the symbol of the first quantile of one of the 4096 parts is above 255.
+    /// `None` if one of the symbols to list is above 255.
     pub fn new(alloc: Global, weights: &[u32]) -> Option<Self>
         ensures { IfSome result
             (λ table. ⟦<BucketTable as EntropyModel<24>>⟧.table table

@@ -1,7 +1,13 @@
 //! Benchmark cases of the coders as C functions over numbers and slices, so that a program in C can time them.
 //!
-//! A case fails if there is no memory, if a model refuses its arguments, if a coder returns an error, or if the words
-//! end too early. The function of the case then returns 0 or `false`.
+//! A case fails for one of these reasons, and its function then returns 0 or `false`:
+//!
+//! - There is no memory.
+//! - A model refuses its arguments.
+//! - A coder returns an error.
+//! - The words end too early.
+//!
+//! The crate has these modules:
 //!
 //! - `runs`: the measured loops of the stack coder.
 //! - `flat`, `lookup`, `bucket`: models that take little time, so that a measurement shows the coder's own time.

@@ -99,7 +99,7 @@ pub extern "C" fn constriction_bench_ans_reload_u16u32p12(
     reload_out::<u16, u32>(alloc, words, out)
 }
 
-/// Copies `words` to a new vector, as an import does, and from there to `out`, as an export does. Uses no coder.
+/// Copies `words` to a new vector, and from there to `out`. The case `ans_reload` makes the same two copies.
 ///
 /// `out` receives as many words as fit. Returns the total number of words, or 0 after a failure (see [`crate`]).
 #[unsafe(no_mangle)]

@@ -10,7 +10,8 @@ use std::alloc::Global;
 /// Returns the first quantile of each symbol below `count`, and then the end of the last symbol's interval.
 ///
 /// Returns `None` if one of these symbols has no entry in `model`, or if there is no memory. Also returns `None` if an
-/// interval doesn't begin where the previous symbol's interval ends, or if it ends past `2^PRECISION`.
+/// interval doesn't begin where the previous symbol's interval ends (the first: at 0), or if it ends past
+/// `2^PRECISION`.
 pub fn starts_of<M: EncoderModel<PRECISION, Symbol = usize>, const PRECISION: usize>(
     alloc: Global,
     model: &M,

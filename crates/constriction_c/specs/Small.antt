@@ -1,6 +1,7 @@
 -- Written by tools/sizes from Large.antt.
--- Contracts of the C functions with 16-bit words, 32-bit states and a precision of 12 bits. Each takes what a function's arguments are before the
--- call and then what they are after it. `code` is what the function returns, and `before` and `needed` are the old and the new value of `needed`.
+-- Contracts of the C functions with 16-bit words, 32-bit states and a precision of 12 bits. Each contract takes the
+-- values of a function's arguments before the call, and then their values after it. `code` is the returned code.
+-- `before` and `needed` are the values of the argument `needed` before and after the call.
 use Rattle.std.specs.Prelude.{ℕ, ℤ, ◌^◌, List, Result, map}
 use Rattle.constriction_c.specs.Codes.{Told, answer_by_code}
 use Rattle.constriction_c.specs.Words.{lowest}

@@ -1,12 +1,12 @@
 //! The calls of `constriction_calls` as C functions. `include/constriction.h` describes the functions for C callers.
 //!
-//! Each call comes in two sizes: with 32-bit words (64-bit states, a precision of 24 bits), and with 16-bit words
-//! (32-bit states, a precision of 12 bits).
+//! Each call is available in two sizes: with 32-bit words (64-bit states, a precision of 24 bits), and with 16-bit
+//! words (32-bit states, a precision of 12 bits).
 //!
-//! A C function passes its arguments to one call, and returns the code of the call's result ([`codes::code_of`]). If
-//! the result is the error `NoSpace`, the function also sets `needed` to the number of words that the buffer has to
-//! hold. For any other result the function leaves `needed` unchanged. The contract of the function (`Told`) is the
-//! contract of the call, for the result that the returned code stands for.
+//! The C function of a call passes its arguments to the call, and returns the code of the call's result
+//! ([`codes::code_of`]). If the result is the error `NoSpace`, the function also sets `needed` to the number of words
+//! that the buffer has to hold. For any other result the function leaves `needed` unchanged. The contract of the
+//! function (`Told`) is the contract of the call, applied to the result that the returned code stands for.
 #![tactic(auto)]
 
 pub mod ans;

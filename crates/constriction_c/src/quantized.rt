@@ -1,4 +1,4 @@
-//! The C functions of models: intervals of symbols in the models of a family of distributions, and weights from counts.
+//! The C functions of models: symbols' intervals under a family of distributions, and weights from counts.
 //!
 //! The modules of [`constriction_inputs::quantized`] have the calls, and explain their arguments and errors.
 

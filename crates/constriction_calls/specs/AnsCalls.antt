@@ -1,4 +1,4 @@
--- Contracts of the stack coder's calls: what each call does with the caller's coder, and when each error comes.
+-- Contracts of the stack coder's calls: what each call does with the caller's coder, and when it returns each error.
 use Rattle.std.specs.Prelude.{◌≡◌, ℕ, ◌+◌, ◌<◌, ◌≤◌, List, [], Result, length, map, reverse, OnErr, OnOk}
 use Rattle.constriction_base.specs.Models.{AreKnown, Item}
 use Rattle.constriction_stack.specs.Ans.{AnsState, IsValid, exported}

@@ -1,4 +1,4 @@
--- Contracts of the chain coder's calls: what each call does with the caller's coder, and when each error comes.
+-- Contracts of the chain coder's calls: what each call does with the caller's coder, and when it returns each error.
 use Rattle.std.specs.Prelude.{◌≡◌, ℕ, ◌*◌, ◌^◌, ◌<◌, ◌≤◌, List, ◌∷◌, ◌++◌, [], length, map, reverse, take, Result, OnErr, OnOk}
 use Rattle.constriction_base.specs.Models.{AreKnown, Item}
 use Rattle.constriction_base.specs.Tables.{AtEntry}

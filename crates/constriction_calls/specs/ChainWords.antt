@@ -1,4 +1,4 @@
--- Contracts of the calls that import a chain coder from words, or export its words, in three forms.
+-- Contracts of the calls that import or export the words of a chain coder, in compressed, binary or remainders form.
 use Rattle.std.specs.Prelude.{◌≡◌, ℕ, ◌<◌, ◌≤◌, List, [], length, map, reverse, Result, OnErr, OnOk}
 use Rattle.constriction_chain.specs.Chain.{ChainState}
 use Rattle.constriction_chain.specs.Imports.{AreBinaryWords, FromBinary, FromCompressed, FromRemainders, compressed_words}

@@ -1,10 +1,10 @@
--- Symbols of a type with fewer numbers than a symbol of a table of weights may have.
+-- Symbols of a narrow integer type, under a table with at most as many weights as the type has values.
 use Rattle.std.specs.Prelude.{ℕ, ◌≤◌, List, length}
 use Rattle.constriction_base.specs.Models.{items_of}
 use Rattle.constriction_inputs.specs.Coded.{Coded}
 use Rattle.constriction_inputs.specs.Weights.{IsTotal, weights_model}
 
--- Symbols of a type with so many numbers, under the weights of one table: each index of the table has to be one of these numbers.
+-- Symbols of a type with `many` values, under the weights of one table. Each index of the table is below `many`.
 abbrev pub narrow_by_weights : ℕ → List ℕ → List ℕ → Coded
 narrow_by_weights many weights symbols = record {
   items_at = λ precision. items_of (weights_model precision weights) symbols;

@@ -1,4 +1,5 @@
--- Contracts of the range coder's calls: what each call does with the caller's numbers and buffer, and when errors come.
+-- Contracts of the range coder's calls: what each call does with the caller's encoder or decoder and its buffer, and
+-- when it returns each error.
 use Rattle.std.specs.Prelude.{◌≡◌, ◌↔◌, ℕ, zero, suc, ◌+◌, ◌-◌, ◌%◌, ◌<◌, ◌≤◌, ◌^◌, List, [], ◌++◌, Result, OnErr, OnOk, length, map, min, reverse, drop, take}
 use Rattle.constriction_base.specs.Models.{Item, AreKnown}
 use Rattle.constriction_queue.specs.Decoder.{Decoder}

@@ -1,4 +1,4 @@
--- Contracts of the calls of stores: what each call does with the caller's words and index, and when each error comes.
+-- Contracts of the store calls: what each call does with the caller's words and index, and when it returns each error.
 use Rattle.std.specs.Prelude.{◌≡◌, ℕ, ◌-◌, ◌<◌, ◌≤◌, ◌^◌, List, [], ◌∷◌, Result, OnErr, OnOk, drop, length, map, sum, take}
 use Rattle.constriction_base.specs.Models.{AreKnown, items_of}
 use Rattle.constriction_store.specs.Stores.{Entry, HoldsChunk, HoldsChunks, IsBuilt, entry_of}

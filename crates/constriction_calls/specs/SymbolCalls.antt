@@ -1,4 +1,4 @@
--- Contracts of the calls that use codebooks: what each call does with the caller's buffer, and when each error comes.
+-- Contracts of the calls with codebooks: what each call does with the caller's buffer, and when it returns each error.
 use Rattle.std.specs.Prelude.{◌≡◌, ℕ, ◌<◌, ◌⊎◌, ◌-◌, ◌^◌, Bool, List, [], ◌∷◌, ◌++◌, length, map, reverse, Option, Some, Err, OnErr, OnOk, Result}
 use Rattle.constriction_base.specs.declared.errors.CoderError.{CoderError}
 use Rattle.constriction_base.specs.declared.errors.CoderError.TheVariants.{Frontend, Backend}

@@ -9,18 +9,23 @@
 //!
 //! # Errors
 //!
-//! A call that fails changes nothing. It returns the first of these errors that applies:
+//! A call that fails changes nothing. It returns the first of these errors that applies, but it may return `NoMemory`
+//! in place of `NoSpace`:
 //!
-//! - `WrongLength`: `len` is past the buffer's end, the arguments of the models don't match the number of symbols, the
-//!   lengths of `lefts` and `ps` differ, or an index of the weights doesn't fit the type of the decoded symbols.
-//! - `WrongInterval`: an interval is empty or ends past `2 ^ PRECISION`, or a family's range has fewer than two symbols
-//!   or more than `2 ^ PRECISION` symbols.
+//! - `WrongLength` in one of these cases:
+//!   - `len` is past the buffer's end.
+//!   - The arguments of the models don't match the number of symbols.
+//!   - The lengths of `lefts` and `ps` differ.
+//!   - There are more weights than the type of the decoded symbols has values.
+//! - `WrongInterval` in one of these cases:
+//!   - An interval is empty or ends past `2 ^ PRECISION`.
+//!   - A family's range has fewer than two or more than `2 ^ PRECISION` symbols.
 //! - `WrongWeights`: the caller's weights or distributions are invalid. The variant
 //!   [`constriction_inputs::refusal::Refusal::WrongWeights`] lists the cases.
 //! - `InvalidData`: the last of the words to import is 0, or the state to export has no binary form.
 //! - `ImpossibleSymbol`: a model has no entry for its symbol.
 //! - `NoSpace(needed)`: the buffer is too short. `needed` is the number of words that the buffer has to hold.
-//! - `NoMemory`: there is no memory. The call may return `NoMemory` in place of `NoSpace`.
+//! - `NoMemory`: there is no memory.
 //!
 //! # Examples
 //!

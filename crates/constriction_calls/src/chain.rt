@@ -10,9 +10,11 @@
 //! A call that fails changes nothing. It returns the first of these errors whose condition holds, but it may return
 //! `NoMemory` in place of `OutOfData` or `NoSpace`.
 //!
-//! - `WrongLength`: a number of words in use is past its buffer's end, the arguments of the models don't match the
-//!   number of symbols, the lengths of `lefts` and `ps` differ, or an index of the weights doesn't fit the type of the
-//!   decoded symbols.
+//! - `WrongLength` in one of these cases:
+//!   - The caller's count of words in use exceeds the length of the buffer.
+//!   - The arguments of the models don't match the number of symbols.
+//!   - The lengths of `lefts` and `ps` differ.
+//!   - There are more weights than the type of the decoded symbols has values.
 //! - `WrongInterval`, `WrongWeights`: the intervals or the arguments of the models are invalid.
 //!   [`constriction_inputs::refusal::Refusal`] lists the cases.
 //! - `InvalidData`: the caller's heads aren't the heads of any coder. The calls that import or export words document

@@ -6,18 +6,19 @@
 //! - [`encoding`]: encoding symbols.
 //! - [`decoding`]: decoding symbols.
 //! - [`words`]: sealing an encoder's words.
-//! - [`positions`]: decoders at the beginning or at a position, and whether the words may have ended.
-//! - [`parts`]: the numbers of an encoder and of a decoder.
+//! - [`positions`]: placing a decoder at the first symbol or at a recorded position, and testing for the end.
+//! - [`parts`]: the structs of the numbers that a caller keeps.
 //!
 //! # Errors
 //!
-//! A call that fails changes nothing. Each call first returns the first of these errors whose case holds:
+//! A call that fails changes nothing. Each call first checks the cases below, in order, and returns the error of the
+//! first case that holds:
 //!
-//! - `WrongLength`: `len` or the decoder's position is past the buffer's end, or an index of the weights doesn't fit
-//!   the type of the decoded symbols.
+//! - `WrongLength`: `len` or the decoder's position is past the buffer's end, or there are more weights than the type
+//!   of the decoded symbols has values.
 //! - The error of [`constriction_inputs::models::Models::check`], if the call takes models and the check fails.
-//! - `InvalidData`: no encoder or decoder has the numbers that the caller passed, or the number of pending words plus
-//!   the number of symbols to encode is above `2^64 - 18`.
+//! - `InvalidData`: the caller's numbers are no state of an encoder or decoder, or the number of pending words plus the
+//!   number of symbols to encode is above `2^64 - 18`.
 //!
 //! If none of these cases holds, the call checks for the errors that its own documentation lists.
 

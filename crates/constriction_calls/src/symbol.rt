@@ -3,8 +3,8 @@
 //! A caller selects the codebook with a value of a type that implements [`Codes`]: `ExpGolomb` for the Exp-Golomb
 //! codewords of numbers, or [`Tree`] for the Huffman tree of weights.
 //!
-//! The words hold a list of bits. Reading a queue of bits returns them in the order of writing, and reading a stack of
-//! bits returns them in the reverse order.
+//! The words hold a list of bits. Reading a queue of bits returns the bits in the order of writing. Reading a stack of
+//! bits returns the bits in the reverse order.
 //!
 //! # Errors
 //!
@@ -12,12 +12,14 @@
 //!
 //! - `WrongLength`: the words have fewer than `bit` bits, or 2^64 bits or more. Only [`encode_at`] and [`decode_at`]
 //!   return this error.
-//! - `WrongWeights`: the weights make no Huffman tree. There are no weights, or their sum doesn't fit their type, or
-//!   there are more than `2^62 - 1` weights for encoding, or more than `2^63 - 1` for decoding.
+//! - `WrongWeights`: the weights make no Huffman tree, in one of these cases:
+//!   - There are no weights.
+//!   - The sum of the weights doesn't fit their type.
+//!   - There are more than `2^62 - 1` weights for encoding, or more than `2^63 - 1` for decoding.
 //! - `ImpossibleSymbol`: a symbol has no codeword.
 //! - `NoSpace(needed)`: the buffer is too short. `needed` is the number of words that the buffer has to hold.
+//! - `InvalidData`: an Exp-Golomb codeword stands for a number that doesn't fit its type, or a stack's last word is 0.
 //! - `OutOfData`: the words end before all symbols are decoded.
-//! - `InvalidData`: the next bits don't begin with a codeword, or the last word of a stack is 0.
 //!
 //! If there is no memory, the call returns `NoMemory`, unless `WrongLength`, `WrongWeights` or `ImpossibleSymbol`
 //! applies.
@@ -60,7 +62,7 @@ pub trait Codes {
     /// The error that `Decoder` returns for bits that don't begin with a codeword.
     type Wrong: Drop;
 
-    /// Defines the codewords of numbers: by Exp-Golomb, or by the Huffman tree of weights.
+    /// Defines the codewords of numbers: Exp-Golomb codewords, or the codewords of a Huffman tree.
     ghost book: { Self → SymbolCode };
 
     /// Assigns a number to each symbol. The symbol's codeword is the codeword of that number in `book`.
@@ -74,7 +76,7 @@ pub trait Codes {
         ensures codewords { IfSome result (λ made. (s : Self.Symbol) → Self.Encoder.codeword made s
             ≡ codeword_in number (book self.now) s) };
 
-    /// Returns the error of an encode of `symbols` that failed. The call needs no memory.
+    /// Returns the error to report after encoding `symbols` failed. The call needs no memory.
     ///
     /// The error is the first of these whose condition holds:
     ///

@@ -1,4 +1,4 @@
--- The states to which imports of words lead, and the words that whole coders export.
+-- The states that a chain coder's imports make, and the words that whole coders (without bits left over) export.
 use Rattle.std.specs.Prelude.{◌≡◌, ℕ, ◌^◌, List, [], ◌++◌}
 use Rattle.std.specs.Int.Digits.{digits_of}
 use Rattle.constriction_base.specs.Digits.{fixed_digits}

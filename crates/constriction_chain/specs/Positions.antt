@@ -1,4 +1,4 @@
--- A lemma that the laws about seeking a chain coder cite.
+-- A lemma for the laws about seeking a chain coder: if two statements are false, their disjunction is false.
 use Rattle.std.specs.Prelude.{◌⊎◌}
 use Rattle.std.proofs.Common.{inl, inr}
 

@@ -1,6 +1,6 @@
--- The possible results of a chain coder's steps over any backends. The definitions use only the backends' ghost
--- members: their words, the results of a read, and the errors of a write and of `prepare`. A backend knows its words if
--- its `is_list` holds.
+-- The possible results of a chain coder's encodes, decodes and precision changes over any backends. The definitions use
+-- only the backends' ghost members: their words, the results of a read, and the errors of a write and of `prepare`. A
+-- backend knows its words if its `is_list` holds.
 use Rattle.std.specs.Prelude.{◌≡◌, ◌⊎◌, ⊤, ℕ, ◌+◌, ◌-◌, ◌*◌, ◌/◌, ◌%◌, ◌^◌, ◌<◌, ◌≤◌, List, length, map, Option, None, Some, Result, Ok, Err, IfOk, IfErr}
 use Rattle.constriction_base.specs.Readings.{ReadsAs}
 use Rattle.constriction_base.specs.Steps.{Step}
@@ -61,7 +61,8 @@ pub record NotKept {W R S F : Type 0} (holds : holding.Ghosts R W S) (writes : w
   pub high : least w s P * 2 ^ w ≤ gained
   pub words : holds.words new ≡ holds.words old
 
--- that number is brought back into its window: what the call answers and leaves
+-- A call brings the number `gained` into the window of the remainders head and returns the new head (`Kept`). If the
+-- backend refuses the word to move out, the call returns the backend's error (`NotKept`).
 pub record Keeps {W V R S F : Type 0} (number : W → ℕ) (remainders_number : V → ℕ) (holds : holding.Ghosts R W S) (writes : writing.Ghosts R W F)
     (w s P gained : ℕ) (old : R) (answer : Result V F) (new : R) : Type 0 where
   pub ok : IfOk answer (λ r. Kept number holds writes w s P gained old (remainders_number r) new)
@@ -149,7 +150,7 @@ module _ {W C R S E F : Type 0} (number : W → ℕ) (compressed_holds : holding
     -- The remainders' backend loses no room.
     pub room_left : remainders_writes.room old.remainders ≤ remainders_writes.room new.remainders
 
-  -- the first half of a decode on heads and backends: a quantile was taken, or the decode halted
+  -- The first half of a decode, on heads and backends. The call takes a quantile, or the decode halts.
   pub record TakesAtHeads {V : Type 0} (remainders_number : V → ℕ) (w s P : ℕ) (heads : W × V) (old : C) (other : R)
       (answer : Result (W × W) (CoderError DecoderFrontendError (BackendError E F))) (new : C) (other' : R) : Type 0 where
     pub ok : IfOk answer (λ found. Took w s P
@@ -271,8 +272,8 @@ module _ {W C R S E F : Type 0} (number : W → ℕ) (compressed_holds : holding
     pub after : IsChainCoder number compressed_holds remainders_holds w s e.precision new
     pub outcome : EncodeAnswers w s old e answer new
 
-  -- an encode on heads and backends, of the step with the interval of length p from left on: new heads come, or an error
-  -- that leaves the heads
+  -- An encode on heads and backends. The step's interval has the length `p` and begins at `left`. The call returns the
+  -- new heads, or an error, which leaves the heads unchanged.
   pub record EncodesAtHeads {V : Type 0} (remainders_number : V → ℕ) (w s P : ℕ) (left p : W) (heads : W × V) (old : C) (other : R)
       (answer : Result (W × V) (CoderError EncoderFrontendError (BackendError E F))) (new : C) (other' : R) : Type 0 where
     pub ok : IfOk answer (λ after. EncodeCall w s

@@ -6,19 +6,19 @@ use Rattle.constriction_base.specs.Tables.{AtEntry, IsTable}
 use Rattle.constriction_base.specs.Models.{Model, Item}
 use Rattle.constriction_chain.specs.Chain.{ChainState, IsDecode, IsEncode}
 
--- a decode of the symbol leads from the old state to the new one, by the step of its entry
+-- Decoding the symbol leads from the old state to the new state, by the step of the symbol's entry.
 abbrev pub TakesOff : {S : Type 0} → ℕ → ℕ → Model S → S → ChainState → ChainState → Type 0
 TakesOff w s model symbol old new = AtEntry model.precision model.table symbol (λ e. IsDecode w s e old new)
 
--- an encode of the symbol leads from the old state to the new one, by the step of its entry
+-- Encoding the symbol leads from the old state to the new state, by the step of the symbol's entry.
 abbrev pub PutsBack : {S : Type 0} → ℕ → ℕ → Model S → S → ChainState → ChainState → Type 0
 PutsBack w s model symbol old new = AtEntry model.precision model.table symbol (λ e. IsEncode w s e old new)
 
--- decodes of the items, one after the other, lead from the old state to the new one
+-- Decoding the items in order leads from the old state to the new state.
 abbrev pub TakesOffAll : {S : Type 0} → ℕ → ℕ → List (Item S) → ChainState → ChainState → Type 0
 TakesOffAll w s items old new = InTurn (λ item. TakesOff w s item.model item.symbol) items old new
 
--- encodes of the items, one after the other, lead from the old state to the new one
+-- Encoding the items in order leads from the old state to the new state.
 abbrev pub PutsBackAll : {S : Type 0} → ℕ → ℕ → List (Item S) → ChainState → ChainState → Type 0
 PutsBackAll w s items old new = InTurn (λ item. PutsBack w s item.model item.symbol) items old new
 

@@ -1,5 +1,6 @@
--- Imports and exports of chain coders in two forms. In the compressed form, the remainders head becomes its words
--- without leading zeros. In binary form, it becomes the words below its leading 1. Words are listed in reading order.
+-- Imports and exports of chain coders, in compressed and in binary form. In the compressed form, the remainders head
+-- becomes its words without leading zeros. In binary form, it becomes the words below its leading 1. Words are listed
+-- in reading order.
 use Rattle.std.specs.Prelude.{◌≡◌, ◌⊎◌, ℕ, ◌^◌, ◌<◌, List, ◌∷◌, ◌++◌, map, Option, None, Some, Result, Ok, Err, IfNone, IfOk, IfSome}
 use Rattle.std.specs.Int.Digits.{digits_of, number_from_digits}
 use Rattle.constriction_base.specs.Digits.{fixed_digits}

@@ -4,7 +4,7 @@
 //! two calls, the coder asks the model for the symbol. An encode calls [`give`].
 //!
 //! The heads are two numbers here, not a struct with a const parameter. In a function that is generic over two backends
-//! and a model, the struct would make the proof's conditions too large for the checker.
+//! and a model, the struct would make the proof's conditions too large for the prover.
 
 ghost use Rattle.constriction_base.specs.Tables.{Covers};
 ghost use Rattle.constriction_chain.specs.Chain.{IsRemaindersHead, IsSized};
@@ -22,6 +22,12 @@ use constriction_words::{BitArray, Reciprocal, WordOf};
 ///
 /// `heads` contains the compressed head and the remainders head. If fewer than `precision` bits are left over, the call
 /// first asks the remainders for room for one word, and then reads a compressed word.
+///
+/// # Errors
+///
+/// - `Frontend(OutOfCompressedData)`: the call needs a compressed word, and the read returns none.
+/// - `Backend(Remainders(error))`: the request for room returns `error`.
+/// - `Backend(Compressed(error))`: the read returns `error`.
 #[inline(always)]
 pub fn take<Word: WordOf<State>, State: BitArray, C: ReadWords<Word, Stack>, R: WriteWords<Word>>(
     compressed: &mut C,
@@ -42,7 +48,8 @@ pub fn take<Word: WordOf<State>, State: BitArray, C: ReadWords<Word, Stack>, R: 
 /// Moves the offset `quantile - left` into the remainders head `r`, and returns the new remainders head.
 ///
 /// `p` is the length of the quantile's interval. If the head rises to `2^(State::BITS - precision)` or more, it is
-/// above its window. The call then writes the lowest word of the head to `remainders`.
+/// above its window. The call then writes the lowest word of the head to `remainders`. If the write fails, the call
+/// returns the error of the write.
 #[inline(always)]
 pub fn keep<Word: WordOf<State>, State: BitArray, R: WriteWords<Word>>(
     remainders: &mut R,
@@ -138,6 +145,12 @@ fn give_at<Word: WordOf<State>, State: BitArray, C: WriteWords<Word>, R: ReadWor
 /// The call takes an offset below `p` from the remainders. It puts the quantile, which is `left` plus this offset, back
 /// onto the compressed side. The call branches once on whether there is a reciprocal. One path divides, and the other
 /// multiplies by the reciprocal.
+///
+/// # Errors
+///
+/// - `Frontend(OutOfRemainders)`: the call needs a word of the remainders, and the read returns none.
+/// - `Backend(Remainders(error))`: the read returns `error`.
+/// - `Backend(Compressed(error))`: the request for room, or the write of a compressed word, returns `error`.
 #[inline(always)]
 pub fn give<Word: WordOf<State>, State: BitArray, C: WriteWords<Word>, R: ReadWords<Word, Stack>>(
     compressed: &mut C,

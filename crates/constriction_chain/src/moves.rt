@@ -24,7 +24,7 @@ pub fn is_below_power<State: BitArray>(r: State, less: u32) -> bool
 /// Reads words of `source` into a new remainders head until the head is in its window, and returns the head.
 ///
 /// The window begins at `2^(State::BITS - Word::BITS - precision)`. The call returns `None` if the first word is 0, or
-/// if there are too few words to reach the window.
+/// if there are too few words to reach the window. If a read fails, the call returns the error of the read.
 pub fn begin_window<Word: WordOf<State>, State: BitArray, B: ReadWords<Word, Stack>>(
     source: &mut B,
     precision: u32,

@@ -50,6 +50,12 @@ fn from_word<Word: BitArray>(h: Word, word: Word, precision: u32) -> (Word, Word
 ///
 /// If fewer than `precision` bits are left over in the compressed head `h`, the call needs a compressed word. It first
 /// asks the remainders for room for one word, and then reads the compressed word.
+///
+/// # Errors
+///
+/// - `Frontend(OutOfCompressedData)`: the call needs a compressed word, and the read returns none.
+/// - `Backend(Remainders(error))`: the request for room returns `error`.
+/// - `Backend(Compressed(error))`: the read returns `error`.
 #[inline(always)]
 pub fn take_quantile<Word: BitArray, C: ReadWords<Word, Stack>, R: WriteWords<Word>>(
     compressed: &mut C,
@@ -85,7 +91,7 @@ pub fn take_quantile<Word: BitArray, C: ReadWords<Word, Stack>, R: WriteWords<Wo
 /// Multiplies the remainders head `r` by `p`, adds the offset `t`, and brings the head back into its window.
 ///
 /// If the sum is `2^(State::BITS - precision)` or more, it is above the window. The call then writes the low word of
-/// the sum to `remainders`. The call returns the new head.
+/// the sum to `remainders`. The call returns the new head, or the error of the write if the write fails.
 #[inline(always)]
 pub fn gain<Word: WordOf<State>, State: BitArray, R: WriteWords<Word>>(
     remainders: &mut R,
@@ -126,7 +132,7 @@ fn owes_word<Word: BitArray>(h: Word, precision: u32) -> bool
 /// Asks `compressed` for room for one word if putting back a quantile of `precision` bits will write a word.
 ///
 /// Putting the quantile back writes a word if the compressed head `h`, with the quantile appended, is too long for a
-/// `Word`.
+/// `Word`. If `compressed` refuses the room, the call returns the error of `compressed`.
 #[inline(always)]
 pub fn prepare_for_quantile<Word: BitArray, C: WriteWords<Word>>(
     compressed: &mut C,
@@ -150,7 +156,8 @@ pub fn prepare_for_quantile<Word: BitArray, C: WriteWords<Word>>(
 
 /// Puts `quantile` back onto the compressed head `h`, and returns the new head.
 ///
-/// If the head, with the quantile appended, is too long for a `Word`, the call writes its low word to `compressed`.
+/// If the head, with the quantile appended, is too long for a `Word`, the call writes its low word to `compressed`. If
+/// the write fails, the call returns the error of the write.
 #[inline(always)]
 pub fn give_quantile<Word: BitArray, C: WriteWords<Word>>(
     compressed: &mut C,

@@ -102,7 +102,9 @@ fn leaves<Word: Number>(left: &[Word], numbers: &[u128]) -> &'static str {
     }
 }
 
-/// Imports a coder from the words `numbers`. Returns the answer.
+/// Imports a coder from the words `numbers`.
+///
+/// Returns the answer, a word of a script ([`constriction_scripts::answers`]).
 fn import<Word, State, const PRECISION: usize>(
     alloc: Global,
     coder: &mut Whole<Word, State, PRECISION>,
@@ -149,7 +151,9 @@ where
     }
 }
 
-/// Replaces the coder by a clone. Returns the answer.
+/// Replaces the coder by a clone.
+///
+/// Returns the answer, a word of a script ([`constriction_scripts::answers`]).
 ///
 /// If `is_again` is true, the clone is taken apart and put together first.
 fn copy<Word, State, const PRECISION: usize>(
@@ -219,7 +223,9 @@ where
     }
 }
 
-/// Takes a copy of the coder apart, and compares one of the two lists with `numbers`. Returns the answer.
+/// Takes a copy of the coder apart, and compares one of the two lists with `numbers`.
+///
+/// Returns the answer, a word of a script ([`constriction_scripts::answers`]).
 fn compare<Word, State, const PRECISION: usize>(
     coder: &Whole<Word, State, PRECISION>,
     (how, is_first): (Parts, bool),
@@ -298,12 +304,15 @@ where
 
 /// Returns the error to report for a failed act. `answer` is the answer that the act gave.
 ///
-/// The error is `MEMORY` if `answer` is `MEMORY`: the test itself has no memory. Otherwise it is the act's text.
+/// The error is `MEMORY` if `answer` is `MEMORY`, because the test itself then has no memory. Otherwise, the error is
+/// the act's text. The call never returns `None`.
 pub fn failure(answer: &'static str, act: &Act<'_>) -> Option<&'static str> {
     Some(if answer == MEMORY { MEMORY } else { act.text })
 }
 
-/// Runs a script with a coder. Returns the text of the first act whose result isn't the expected one, if any.
+/// Runs a script with a coder, up to the first act whose answer isn't the expected one.
+///
+/// Returns the error that [`failure`] reports for this act, or `None` if there is no such act.
 pub fn follow<Word, State, Probability, const PRECISION: usize>(
     alloc: Global,
     coder: &mut Whole<Word, State, PRECISION>,

@@ -1,4 +1,4 @@
-//! A test over another backend: a buffer of compressed words.
+//! A test of seeking with a coder that reads its compressed words from a buffer through a cursor.
 
 use crate::coders::{Table, WEIGHTS};
 use constriction_base::backends::{Pos, Seek};

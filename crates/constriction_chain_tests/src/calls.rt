@@ -1,4 +1,4 @@
-//! Tests of the public calls that the worked examples of `rows` don't make, each call once.
+//! Tests of the public calls that the worked examples of `rows` don't make.
 
 use crate::coders::fine;
 use std::test::Fail;

@@ -115,9 +115,9 @@ pub fn change_by(
     }
 }
 
-/// Runs a script with a coder that changes its precision.
+/// Runs a script with a coder that changes its precision, up to the first act whose answer isn't the expected one.
 ///
-/// Returns the text of the first act whose result isn't the expected one, if any.
+/// Returns the error that [`failure`] reports for this act, or `None` if there is no such act.
 pub fn follow_changes(
     alloc: Global,
     coder: &mut Either,

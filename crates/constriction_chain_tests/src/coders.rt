@@ -63,10 +63,13 @@ where
     }
 }
 
-/// Runs the scripts of `parts` with the coder `found`, each script with its own table.
+/// Runs the scripts of `parts` with the coder in `found`, each script with its own table.
 ///
-/// Returns `None` if each act of the scripts succeeds. Otherwise returns the text of the first act that failed, or
-/// another reason for stopping, such as no memory.
+/// Returns `None` if each act of the scripts has its expected answer. Otherwise returns one of these texts:
+///
+/// - `no coder` if `found` is `None`.
+/// - `MEMORY` if the call can't make a table or read a script.
+/// - The error that [`follow`] returns for the first act that fails.
 pub fn go<Word, State, Probability, const PRECISION: usize>(
     alloc: Global,
     found: Option<Whole<Word, State, PRECISION>>,
@@ -102,17 +105,17 @@ pub fn fine(alloc: Global, text: &'static str) -> Result<(), Fail> {
     said(go::<u8, u16, u8, 8>(alloc, empty(alloc, 1), &[(WEIGHTS, text)]))
 }
 
-/// Runs scripts with a coder of 8-bit words and 16-bit states, at a precision of 4 bits.
+/// Runs the scripts of `parts`, each with its own 4-bit table, with a coder of 8-bit words and 16-bit states.
 pub fn coarse(alloc: Global, parts: &[Part<'_, u8>]) -> Result<(), Fail> {
     said(go::<u8, u16, u8, 4>(alloc, empty(alloc, 16), parts))
 }
 
-/// Runs the script `text` with a coder of 16-bit words and 32-bit states, at a precision of 12 bits.
+/// Runs the script `text` with a coder of 16-bit words and 32-bit states, and the 12-bit table of `weights`.
 pub fn small(alloc: Global, weights: &[u16], text: &'static str) -> Result<(), Fail> {
     said(go::<u16, u32, u16, 12>(alloc, empty(alloc, 16), &[(weights, text)]))
 }
 
-/// Runs the script `text` with a coder of 32-bit words and 64-bit states, at a precision of 24 bits.
+/// Runs the script `text` with a coder of 32-bit words and 64-bit states, and the 24-bit table of `weights`.
 pub fn wide(alloc: Global, weights: &[u32], text: &'static str) -> Result<(), Fail> {
     said(go::<u32, u64, u32, 24>(alloc, empty(alloc, 256), &[(weights, text)]))
 }

@@ -1,8 +1,12 @@
-//! Tests of the chain coder at concrete types: worked examples with exact values, and each public call once.
+//! Tests of the chain coder at concrete types: worked examples with exact values, and a test of each public call.
 //!
-//! The contracts of `constriction_chain` are proved there for all values. These tests check what no contract can state.
-//! The definitions have the values that a reader expects. Calls that need memory succeed if there is some. A caller can
-//! make each call. `tests/cases` has more tests, which run without a proof.
+//! The contracts are proved in `constriction_chain`, for all values. The tests check what no contract can state:
+//!
+//! - The definitions give the expected values.
+//! - Calls that need memory succeed if there is enough memory.
+//! - A caller can make each call.
+//!
+//! `tests/cases` has more tests, which run without a proof.
 //!
 //! The expected values are computed separately, on lists of bits: a coder is a list of the bits left over, and two
 //! lists of words.

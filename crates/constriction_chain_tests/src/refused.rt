@@ -1,9 +1,14 @@
-//! Tests of calls over vectors with requests for memory refused, one at a time.
+//! Tests of calls over vectors, in runs that refuse one request for memory.
 //!
 //! `tests/refused-memory` runs these tests once for each request for memory that they make, and refuses this request. A
-//! test then checks three facts about the call that makes the request. The call reports that there is no memory, leaves
-//! the coder in the expected state, and succeeds when it is made again. If all three hold, the test fails with the
-//! call's name. If the test itself makes the request, it fails with `Memory`. If no request is refused, a test passes.
+//! test then checks three facts about the call that makes the request:
+//!
+//! - The call reports that there is no memory.
+//! - The call leaves the coder in the expected state.
+//! - The whole call, or the part of it that is left, succeeds when it is made again.
+//!
+//! If all three hold, the test fails with the call's name. If one doesn't hold, the test fails with another text. If
+//! the test itself makes the request, it fails with `Memory`. If no request is refused, a test passes.
 
 use crate::changes::{Either, Tables, change_by, follow_changes};
 use crate::coders::{Coarse, Fine, Table, WEIGHTS, empty};
@@ -46,7 +51,9 @@ fn second<E: Told + Drop>(
     }
 }
 
-/// Decodes two symbols with the iterator of the call `name`. Returns the answer.
+/// Decodes two symbols with the iterator of the call `name`.
+///
+/// Returns the answer, a word of a script ([`constriction_scripts::answers`]).
 fn take_two(coder: &mut Fine, table: &Table, name: &str) -> &'static str {
     match name {
         "decode_iid_symbols" => {

@@ -1,4 +1,4 @@
-//! Acts that encode lists from the last symbol to the first, with the coder's own calls.
+//! Runs script steps that encode a list from the last symbol to the first, with `ChainCoder`'s inherent methods.
 
 use crate::coders::Whole;
 use constriction_base::weights::WeightTable;
@@ -22,7 +22,9 @@ fn item_of<'a, M>(
 ///
 /// - `back` encodes a list of symbols with one table.
 /// - `pairs-back` encodes two pairs of a symbol and its table.
-/// - `items-back` encodes two pairs as `Result`s. If the script gives `bad7` first, the first `Result` is `Err(7)`.
+/// - `items-back` encodes two pairs as `Result`s. If the act's first number is `bad7`, the first `Result` is `Err(7)`.
+///
+/// For any other act, the call does nothing and returns `OTHER`.
 pub fn back_by<Word, State, Probability, const PRECISION: usize>(
     coder: &mut Whole<Word, State, PRECISION>,
     table: &WeightTable<Probability, PRECISION>,

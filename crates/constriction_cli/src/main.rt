@@ -4,7 +4,7 @@
 //! of numbers from standard input, and writes the command's output to standard output.
 //!
 //! The program writes one line to standard error in three cases: there isn't exactly one argument, the argument isn't
-//! the name of a command, or the command fails.
+//! the name of a command, or a fault stops the run ([`constriction_commands::fault`]).
 #![tactic(auto)]
 
 use constriction_commands::cli;

@@ -1,4 +1,4 @@
--- The output of each command for an input text, and the condition under which each fault comes.
+-- The output of each command for an input text, and the condition for each fault.
 use Rattle.std.specs.Prelude.{Option, ◌≡◌, ℕ, List, [], ◌∷◌, codes, drop, map, string_bytes, ◌⊎◌, IfSome}
 use Rattle.std.specs.declared.string.String.{String}
 use Rattle.constriction_commands.specs.Coding.{EncodeFails}

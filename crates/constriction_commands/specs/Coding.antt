@@ -1,4 +1,4 @@
--- The models of the program's coders, and the faults of an encode.
+-- The models of the program's coders, and the condition under which encoding the symbols of a text fails.
 use Rattle.std.specs.Prelude.{◌≡◌, ℕ, List, [], ◌∷◌, ◌++◌, ⊤}
 use Rattle.std.specs.List.{Any}
 use Rattle.constriction_base.specs.Models.{Model}

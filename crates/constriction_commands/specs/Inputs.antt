@@ -1,4 +1,4 @@
--- The inputs that commands parse from the lines of a text, and the faults that come for bad lines.
+-- The inputs that commands parse from the lines of a text, and the fault for each kind of bad line.
 use Rattle.std.specs.Prelude.{Option, None, ◌≡◌, ℕ, ◌-◌, ◌≤◌, ◌^◌, Some, List, [], ◌∷◌, sum, ◌≢◌, ◌⊎◌, ◌<◌, ⊤}
 use Rattle.constriction_base.specs.Tables.{table_of}
 use Rattle.constriction_commands.specs.Lines.{first_line, second_line, after_line, numbers_of, number_lists_of}

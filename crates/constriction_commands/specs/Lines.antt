@@ -1,4 +1,4 @@
--- Lines of numbers: the lines of a text, the numbers that a line lists, and how numbers are printed.
+-- The lines of a text, the numbers that a line lists, and the printing of numbers.
 use Rattle.std.specs.Prelude.{ℕ, ◌+◌, ◌*◌, ◌-◌, Bool, true, false, ◌&&◌, ◌||◌, ◌==◌, nat_le, if◌then◌else◌, Option, None, Some, List, [], ◌∷◌, ◌++◌, map, filter, decimal}
 use Rattle.std.specs.List.{before_first, after_first, onto_first, slice_split, join_with_byte}
 use Rattle.std.specs.Char.{is_ascii_digit}

@@ -1,4 +1,4 @@
--- The faults of decoding symbols with a range coder of 32-bit words and 64-bit states.
+-- Failed decodes with a range coder of 32-bit words and 64-bit states.
 use Rattle.std.specs.Prelude.{ℕ, ◌/◌, ◌≤◌, ◌<◌, ◌^◌, List, length, ⊤}
 use Rattle.constriction_base.specs.Models.{items_of}
 use Rattle.constriction_queue.specs.Range.{Run, initial, offset}

@@ -1,4 +1,4 @@
--- What the program writes, and the faults that stop it, for the arguments that the system gives.
+-- The output and the faults of the program, for the arguments that the system gives.
 use Rattle.std.specs.Prelude.{Option, ◌≡◌, ◌≢◌, ◌⊎◌, ℕ, List, Result, IfErr, IfOk, IfSome, IsOkAnd, MatchResult}
 use Rattle.std.specs.Io.KnownBytes.{Appends}
 use Rattle.std.specs.IoError.{error_kind}

@@ -1,4 +1,4 @@
--- What a run writes: beginnings of an answer, and the lines on standard error.
+-- The output of the program: the first bytes of a command's output, or all of them, and the lines on standard error.
 use Rattle.std.specs.Prelude.{Option, ◌≡◌, ℕ, List, [], ◌∷◌, ◌++◌, take, codes}
 use Rattle.std.specs.Io.KnownBytes.{Appends}
 use Rattle.constriction_commands.specs.declared.fault.Fault.{Fault}

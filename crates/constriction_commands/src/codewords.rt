@@ -49,7 +49,11 @@ pub fn codeword<C: EncoderCodebook>(
     }
 }
 
-/// Appends each bit to `line`, as the digit 0 or 1.
+/// Appends each bit of `bits` to `line`, as the digit 0 or 1.
+///
+/// # Errors
+///
+/// Returns `AllocError` if there is no memory. `line` may then have some of the digits.
 pub fn push_digits(line: &mut Vec<u8>, bits: &[bool]) -> Result<(), AllocError>
     ensures { OnOk result (line.new.items ≡ line.old.items ++ digits bits.now) }
 {

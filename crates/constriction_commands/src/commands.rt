@@ -18,7 +18,7 @@ ghost use Rattle.constriction_commands.specs.declared.commands.Command.{Command}
 use crate::fault::Fault;
 use std::alloc::Global;
 
-/// A command of the program, which computes the bytes of an output from the bytes of an input.
+/// A command of the program. Each command computes the bytes of an output from the bytes of an input.
 #[derive(Clone, Copy, Debug, PartialEq, Eq)]
 pub enum Command {
     AnsEncode,
@@ -59,7 +59,7 @@ impl Command {
     ///
     /// # Errors
     ///
-    /// Returns the fault that stops the command. `Fails` of `specs/Answers.antt` states when each fault comes.
+    /// Returns the fault that stops the command. `Fails` of `specs/Answers.antt` states the condition for each fault.
     pub fn answer(self, alloc: Global, text: &[u8]) -> Result<Vec<u8>, Fault>
         ensures ok { IfOk result (λ answer. Answers self text.now answer.items) }
         ensures err { IfErr result (Fails self text.now) }

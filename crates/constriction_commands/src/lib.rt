@@ -1,8 +1,8 @@
 //! The commands of the program `constriction`, and the calls that run the program.
 //!
 //! [`cli::run`] runs the command that the arguments name, with any reader and writers. [`cli::start`] runs the program
-//! with the arguments that the system passes. `Answers` and `Fails` of `specs/Answers.antt` define the output of each
-//! command, and state when each fault comes.
+//! with the arguments that the system passes. In `specs/Answers.antt`, `Answers` defines the output of each command,
+//! and `Fails` states the condition for each fault.
 #![tactic(auto)]
 
 pub mod cli;

@@ -13,6 +13,10 @@ use std::alloc::{AllocError, Global};
 use std::io::{ErrorKind, Write};
 
 /// Appends a line of numbers to `out`: the numbers in decimal, separated by spaces, and a line feed.
+///
+/// # Errors
+///
+/// Returns `AllocError` if there is no memory. `out` may then have a part of the line.
 pub fn push_numbers<I: Integer>(out: &mut Vec<u8>, numbers: &[I]) -> Result<(), AllocError>
     ensures { OnOk result (out.new.items ≡ out.old.items ++ join_with_byte 32 (map I.text numbers.now) ++ 10 ∷ []) }
 {
@@ -28,6 +32,10 @@ pub fn push_numbers<I: Integer>(out: &mut Vec<u8>, numbers: &[I]) -> Result<(), 
 }
 
 /// Returns a line of numbers: the numbers in decimal, separated by spaces, and a line feed.
+///
+/// # Errors
+///
+/// Returns `AllocError` if there is no memory.
 pub fn line_of_numbers<I: Integer>(alloc: Global, numbers: &[I]) -> Result<Vec<u8>, AllocError>
     ensures { IfOk result (λ line. line.items ≡ join_with_byte 32 (map I.text numbers.now) ++ 10 ∷ []) }
 {

@@ -1,9 +1,10 @@
 //! Tests of the program's runs over lists of bytes.
 //!
 //! The output of a run is proved in `constriction_commands` for all inputs. These tests check what no contract can
-//! state: runs succeed if there is memory, and the outputs have the numbers that a reader expects.
-//! `tests/cases/constriction_commands_tests` has tests that run without a proof, with `tests/unproved`. They cover
-//! texts, and readers and writers that fail.
+//! state: runs succeed if there is memory, and the outputs have the expected numbers.
+//!
+//! `tests/unproved` runs the tests of `tests/cases/constriction_commands_tests` without a proof. Those tests cover the
+//! lines of faults, and input and output that fail.
 #![tactic(auto)]
 
 #[cfg(test)]

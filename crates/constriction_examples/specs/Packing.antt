@@ -1,4 +1,4 @@
--- The words of 32 bits that hold packed symbols.
+-- The 32-bit words that a new stack coder exports after encoding the packed symbols.
 use Rattle.std.specs.Prelude.{◌≡◌, ℕ, ◌%◌, ◌^◌, List, map, reverse}
 use Rattle.constriction.specs.stack.Ans.{AnsState, empty, exported}
 use Rattle.constriction.specs.Models.{Item}

@@ -1,9 +1,10 @@
 //! Bits-back coding: symbols from a mixture of two models cost about as many bits as their information content.
 //!
-//! Each symbol is drawn from one of two models. A number, called the latent, says which model. The receiver doesn't
-//! need the latent, and encoding it costs one bit for each symbol. Bits-back coding gets that bit back: the sender
-//! decodes the latent from words that the coder already holds. The decode takes the bits of the latent off the coder.
-//! After the receiver has decoded the symbol, it encodes the latent again, and so restores these bits.
+//! Each symbol is drawn from one of two models. A number, called the latent, selects the model. The latent isn't part
+//! of the message, so the sender may choose it. But encoding the latent costs one bit for each symbol. Bits-back coding
+//! gets most of that bit back. The sender chooses the latent by decoding it from words that the coder already holds,
+//! which takes bits off the coder. Then the sender encodes the symbol and the latent. The receiver decodes both, and
+//! encodes the latent with the table with which the sender decoded it. This restores the bits that the sender took off.
 //!
 //! The sender "hides" symbols with the function `hide`, and the receiver "reveals" them with the function `reveal`.
 
@@ -91,10 +92,11 @@ impl Mixture {
 
     /// Hides a symbol: decodes a latent with the symbol's posterior, encodes the symbol, and encodes the latent.
     ///
-    /// The call encodes the symbol with the latent's table, and the latent with the prior. It fails in these cases:
+    /// The call encodes the symbol with the latent's symbol table, and the latent with the prior. It fails in these
+    /// cases:
     ///
     /// - The mixture has no posterior for the symbol, or no symbol table for the latent.
-    /// - One of the two tables for encoding has no entry.
+    /// - The latent's symbol table has no entry for the symbol, or the prior has no entry for the latent.
     /// - There is no memory.
     fn hide(&self, coder: &mut Coder, symbol: usize) -> Result<()>
         ensures hides { IsValid 32 64 coder.old.state

@@ -1,10 +1,10 @@
 //! Isolation: which symbols change if one model is replaced.
 //!
 //! A stack coder decodes from one large number. Each decode reduces that number, by an amount that depends on the
-//! symbol's model. So if the model of the first symbol is replaced, all later symbols are decoded from another number.
+//! symbol's model. So if the model of the first symbol is replaced, all later symbols may change.
 //!
-//! A chain coder first cuts the words into pieces of 12 bits, one for each symbol, whatever the models are. The model
-//! then says which symbol the piece stands for. The rest of the piece's information goes to a second stack, the
+//! A chain coder takes a piece of 12 bits from the words for each symbol, whatever the models are. The symbol's model
+//! selects the symbol that the piece stands for. The rest of the piece's information goes to a second stack, the
 //! remainders. So if the model of the first symbol is replaced, that symbol and the remainders may change, and no other
 //! symbol changes. If symbols are samples, as in bits-back coding, a small change of one model then has a small effect.
 //! The price is that encoding needs the remainders.

@@ -83,9 +83,10 @@ pub fn words_so_far(alloc: Global, coder: &mut DefaultAnsCoder) -> Option<Vec<u3
 
 /// Decodes one symbol for each table of `tables`, from a position in a coder's words.
 ///
-/// Suppose that one symbol was encoded with each table, from last to first, and that the position was recorded right
-/// afterwards. If the coder still has all words that were below its head at the recording, the call returns these
-/// symbols in order. The coder may have encoded any symbols after the recording.
+/// `position` consists of the number of words below the head, and the head. Suppose that one symbol was encoded with
+/// each table, from last to first, and that the position was recorded right afterwards. If the coder still has all
+/// words that were below its head at the recording, the call returns these symbols in the order of `tables`. The coder
+/// may have encoded any symbols after the recording.
 ///
 /// # Errors
 ///

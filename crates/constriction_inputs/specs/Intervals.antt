@@ -1,4 +1,4 @@
--- Intervals of the numbers below 2 ^ precision, without the table that they belong to.
+-- Symbols that a caller gives as intervals of the numbers below 2 ^ precision, without a table.
 use Rattle.std.specs.Prelude.{◌≡◌, ℕ, ◌+◌, ◌-◌, ◌<◌, ◌≤◌, ◌^◌, List, [], ◌∷◌, length, map}
 use Rattle.std.specs.List.{AllByRecursion, zip}
 use Rattle.constriction_base.specs.Models.{Item, item_of}

@@ -1,4 +1,4 @@
--- Mixtures of a family's distributions, cut halfway between symbols. Each symbol has its own row of components.
+-- Quantized mixtures of a family's distributions, with a row of components for each symbol.
 use Rattle.std.specs.Prelude.{◌≡◌, ℕ, ℤ, ◌*◌, ◌<◌, ◌≤◌, List, length, map, sum, take, drop, Option}
 use Rattle.std.specs.List.{range_with_len, zip}
 use Rattle.constriction_base.specs.Models.{Item, pairs_of}

@@ -1,4 +1,4 @@
--- Models of a family of distributions, cut halfway between symbols. Each symbol has its own location and scale.
+-- Quantized distributions of a family, with a location and a scale for each symbol.
 use Rattle.std.specs.Prelude.{◌≡◌, ℕ, zero, suc, ℤ, pos, ◌+◌, ◌^◌, ◌<◌, ◌+ℤ◌, ◌-ℤ◌, ◌<ℤ◌, List, [], ◌∷◌, length, map, unsigned_abs, Option, Some, None, IsSome}
 use Rattle.std.specs.List.{AllByRecursion, zip}
 use Rattle.constriction_base.specs.Models.{Item, pairs_of}

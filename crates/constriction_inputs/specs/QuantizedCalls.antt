@@ -1,4 +1,5 @@
--- Contracts of two calls that fill a caller's buffers: with intervals of a family's symbols, or with weights of counts.
+-- Contracts of two calls that fill a caller's buffers: with intervals of a family's symbols, or with weights from
+-- counts.
 use Rattle.std.specs.Prelude.{◌≡◌, ◌↔◌, ℕ, ◌<◌, ◌≤◌, ◌^◌, List, Result, OnErr, OnOk, length, map, slice_index}
 use Rattle.std.specs.List.{sum, sum_by}
 use Rattle.constriction_base.specs.Models.{AreKnown}

@@ -1,5 +1,5 @@
--- The refusal that a call returns. The call checks its requirements in order, and returns the refusal of the first that
--- fails. If all hold, another refusal can come, such as a lack of memory.
+-- Which refusal (error) a call returns. The call checks its requirements in order, and the first one that fails
+-- determines the refusal. If all hold, the call can still return another refusal, for example for lack of memory.
 use Rattle.std.specs.Prelude.{◌≡◌, ℕ, ◌⊎◌, Result, Err, IfErr}
 use Rattle.constriction_inputs.specs.declared.refusal.Refusal.{Refusal}
 use Rattle.constriction_inputs.specs.declared.refusal.Refusal.TheVariants.{InvalidData, NoMemory, NoSpace, OutOfData}

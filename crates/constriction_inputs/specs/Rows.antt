@@ -1,4 +1,4 @@
--- A row of weights for each symbol, one row after another.
+-- Models given as a row of weights for each symbol, one row after another.
 use Rattle.std.specs.Prelude.{◌≡◌, ℕ, zero, suc, ◌*◌, List, [], ◌∷◌, ⊤, length, take, drop}
 use Rattle.constriction_base.specs.Tables.{table_of}
 use Rattle.constriction_base.specs.Models.{Item, item_of}

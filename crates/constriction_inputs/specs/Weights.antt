@@ -1,4 +1,4 @@
--- One table of weights for all symbols.
+-- One model for all symbols, given as a list of weights.
 use Rattle.std.specs.Prelude.{◌≡◌, ℕ, ◌^◌, List, sum}
 use Rattle.constriction_base.specs.Tables.{table_of}
 use Rattle.constriction_base.specs.Models.{Model, items_of}

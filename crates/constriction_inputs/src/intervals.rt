@@ -1,6 +1,6 @@
-//! Turns each interval that a caller passes without the rest of its model into a row of three weights.
+//! Rows of three weights, made from intervals that a caller passes without the rest of their models.
 //!
-//! In the row's table, symbol 1 has the interval, symbol 0 has the quantiles below the interval, and symbol 2 has the
+//! In each row's table, symbol 1 has the interval, symbol 0 has the quantiles below the interval, and symbol 2 has the
 //! quantiles above the interval. A coder encodes the interval when it encodes symbol 1 with the row as the model.
 
 ghost use Rattle.std.specs.Prelude.{◌≡◌, ◌≢◌, ◌↔◌, ◌⊎◌, ◌*◌, ◌+◌, ◌^◌, ◌≤◌, length, map, IsTrue, IfOk, IfErr, OnOk};

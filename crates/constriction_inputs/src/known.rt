@@ -1,6 +1,7 @@
 //! Checks whether the symbols to encode have weights above 0.
 //!
-//! A symbol is impossible if its weight is 0, or if the list of weights is too short for it. No coder can encode it.
+//! A symbol is impossible if its weight is 0, or if the list of weights is too short for it. No coder can encode an
+//! impossible symbol.
 
 ghost use Rattle.std.specs.Prelude.{◌≡◌, ◌↔◌, ◌*◌, length, map, IsTrue};
 ghost use Rattle.constriction_base.specs.Models.{AreKnown, Knows};

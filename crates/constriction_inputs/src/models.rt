@@ -29,7 +29,7 @@ pub use weights::Weights;
 ///
 /// A caller selects an index of the list with `turn_to`, and `model` then returns the model at that index. So an
 /// implementor can keep a single model in memory, and change it at each `turn_to`. The implementor defines the list of
-/// the models' tables (`tables`). It proves that the model that `model` returns has the table at the selected index.
+/// the models' tables (`tables`). It proves that `model` returns a model with the table at the selected index.
 pub trait ModelList<P: BitArray, const PRECISION: usize>: Drop {
     /// The type of the models.
     type Model: EncoderModel<PRECISION, Symbol = usize, Probability = P>

@@ -24,16 +24,18 @@ pub enum Refusal {
     /// - A Huffman tree has more than `2^62 - 1` weights for encoding, or more than `2^63 - 1` weights for decoding.
     #[error("wrong weights")]
     WrongWeights,
-    /// An interval is empty or ends past `2 ^ PRECISION`. Or a family's range of integers has fewer than two or more
-    /// than `2 ^ PRECISION` symbols.
+    /// An interval or a family's range of integers is wrong. The cases are:
+    ///
+    /// - An interval is empty or ends past `2 ^ PRECISION`.
+    /// - A family's range of integers has fewer than two symbols, or more than `2 ^ PRECISION` symbols.
     #[error("wrong interval")]
     WrongInterval,
     /// A length or a position doesn't match the caller's other arguments. The cases are:
     ///
     /// - A number of words in use, or a position in words or bits, is past the end of its buffer.
     /// - The lengths of two lists don't match.
-    /// - An index of the weights doesn't fit the type of the decoded symbols.
-    /// - The words of a bit coder have `2^64` bits or more, or the symbols of a store are too many.
+    /// - There are more weights than the type of the decoded symbols has values.
+    /// - The words of a bit coder have `2^64` bits or more, or a store would have more than 1048576 symbols.
     #[error("wrong length")]
     WrongLength,
     /// The buffer is too short. The number in the variant is the number of words that the buffer has to hold.
@@ -44,13 +46,15 @@ pub enum Refusal {
     NoMemory,
     /// The words or the numbers that the caller passed aren't a state of the coder.
     ///
-    /// A call also returns this error in two other cases:
+    /// A call also returns this error in three other cases:
     ///
-    /// - It finds that the words don't encode as many symbols as the caller asks for.
+    /// - The words don't encode the requested number of symbols under the caller's models. For example, the next bits
+    ///   don't begin with a codeword.
     /// - The state has no export in the form that the caller asks for, such as the binary form.
+    /// - A range encoder's number of pending words plus the number of symbols to encode is above `2^64 - 18`.
     #[error("invalid data")]
     InvalidData,
-    /// The words end before the call has decoded all symbols.
+    /// The words that the call reads end before it has decoded or encoded all symbols.
     #[error("out of data")]
     OutOfData,
 }

@@ -1,7 +1,7 @@
--- Bounds on the number of words that a list of steps needs, as inequalities between whole numbers. k = s - w - P is the
--- number of spare bits: a head has s bits, a word w, and a table P. A step of probability p / 2 ^ P multiplies a
--- coder's number by at most two factors. 2 ^ P / p is the step's information content. (2 ^ k + 1) / 2 ^ k is due to
--- rounding.
+-- Upper bounds on the number of words that a list of steps takes, as inequalities between integers. k = s - w - P is
+-- the number of spare bits: a head has s bits, a word has w bits, and a table has a precision of P bits. Encoding a
+-- step of probability p / 2 ^ P multiplies the bound by two factors. The factor 2 ^ P / p accounts for the step's
+-- information content. The factor (2 ^ k + 1) / 2 ^ k accounts for rounding.
 use Rattle.std.specs.Prelude.{◌≡◌, ℕ, ◌+◌, ◌-◌, ◌*◌, ◌<◌, ◌≤◌, ◌^◌, List, [], ◌∷◌, ⊤, length}
 use Rattle.std.specs.List.{AllByRecursion}
 use Rattle.constriction_base.specs.Steps.{Step, IsStep}

@@ -55,14 +55,15 @@ StopsExchange low impossible refused LowHead = low
 StopsExchange low impossible refused ImpossibleSymbol = impossible
 StopsExchange low impossible refused Refused = refused
 
--- a decode by the steps of a coder over this backend
+-- A stack coder over this backend decodes a symbol under this model, or fails with an error of the backend.
 abbrev pub DecodesBySteps : {W B K E S : Type 0} → (W → ℕ) → holding.Ghosts B W K → reading.Ghosts B W K E → ℕ → ℕ
     → Model S → AnsValue B → Result S (CoderError Infallible E) → AnsValue B → Type 0
 DecodesBySteps number holds reads w s model old answer new =
     DecodesSymbol (ByBackend (DecodeCall number holds reads w s))
     (λ old error new. ⊥) model.precision model.table old answer new
 
--- an encode by the steps of a coder over this backend
+-- A stack coder over this backend encodes the symbol under this model, or fails. The error is an error of the backend,
+-- or `ImpossibleSymbol` if the symbol has no entry.
 abbrev pub EncodesBySteps : {W B K E S : Type 0} → (W → ℕ) → holding.Ghosts B W K → writing.Ghosts B W E → ℕ → ℕ
     → Model S → S → AnsValue B → Result (Unit {0}) (CoderError DefaultEncoderFrontendError E) → AnsValue B → Type 0
 EncodesBySteps number holds writes w s model symbol old answer new =
@@ -71,21 +72,23 @@ EncodesBySteps number holds writes w s model symbol old answer new =
 
 -- ---- the exchange, by tables of one precision
 
--- one symbol was taken off, and then the other put on
+-- Decoding `taken` and then encoding `symbol` leads from the old state to the new state. The head is low neither before
+-- nor after the decode.
 abbrev pub Exchanges : {S T : Type 0} → ℕ → ℕ → ℕ → List (S × ℕ × ℕ) → List (T × ℕ × ℕ) → S → T → AnsState → AnsState
     → Type 0
 Exchanges w s precision off on taken symbol old new =
     (mid : AnsState) × TakenHigh w s (model_at precision off) taken old mid
     × Encodes w s (model_at precision on) symbol mid new
 
--- the words that it added are bounded by the entries of both symbols
+-- Both symbols have entries in their tables. These entries bound the number of words that the exchange adds
+-- (`IsNetBounded`).
 abbrev pub IsExchangeBounded : {S T : Type 0} → ℕ → ℕ → ℕ → List (S × ℕ × ℕ) → List (T × ℕ × ℕ) → S → T → AnsState
     → AnsState → Type 0
 IsExchangeBounded w s precision off on taken symbol old new = (out put : Step)
     × AtEntry precision off taken (λ step. step ≡ out) × AtEntry precision on symbol (λ step. step ≡ put)
     × IsNetBounded w s (Decode out ∷ Encode put ∷ []) old new
 
--- why it ended early, of a coder with these sizes over this backend
+-- The exchange stops with the error `e`: the head is low, `symbol` has no entry, or the backend refuses a word.
 abbrev pub NotExchanged : {W B K E F S T : Type 0} → (W → ℕ) → holding.Ghosts B W K → reading.Ghosts B W K E
     → writing.Ghosts B W F → ℕ → ℕ → ℕ → List (S × ℕ × ℕ) → List (T × ℕ × ℕ) → T → AnsValue B → AnsValue B
     → ExchangeError → Type 0

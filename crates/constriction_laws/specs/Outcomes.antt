@@ -1,4 +1,4 @@
--- The reasons why lists of symbols weren't encoded or decoded.
+-- The outcomes of encoding and decoding lists of symbols: the symbols returned, or the reason for an error.
 use Rattle.std.specs.Prelude.{◌≡◌, ℕ, ◌<◌, ◌≤◌, ⊤, List, ◌∷◌, ◌++◌, Result, Ok, Err, IfOk, Vec, length, drop}
 use Rattle.std.specs.List.{zip}
 use Rattle.constriction_base.specs.Steps.{Step, InTurn}
@@ -10,7 +10,7 @@ use Rattle.constriction_laws.specs.declared.errors.Stopped.TheVariants.{Refused,
 use Rattle.constriction_laws.specs.declared.errors.RoundTripError.{RoundTripError}
 use Rattle.constriction_laws.specs.declared.errors.RoundTripError.TheVariants as trip
 
--- decodes of the symbols, each under its own model, lead from one decoder to another
+-- Decoding the symbols in order, each under its own model, leads from the old decoder to the new decoder.
 abbrev pub DecodesPairs : {C S M E : Type 0} → (C → Step → Result (Unit {0}) E → C → Type 0) → (C → E → C → Type 0) → ℕ
     → (M → List (S × ℕ × ℕ)) → List S → List M → C → C → Type 0
 DecodesPairs {S = S} {M = M} decodes halts precision table symbols models old new =
@@ -28,7 +28,7 @@ StopsAmong {C} {S} {M} {E} decodes halts precision table models taken old (Refus
 StopsAmong {C} {S} {M} decodes halts precision table models taken old NoMemory new = (given : List S) × (length given ≤ length models)
     × InTurn (λ (pair : S × M) old new. DecodesByModel decodes halts precision table old pair.1 (Ok pair.0) new) (zip given models) old new
 
--- one of the symbols has no entry in the table of its own model
+-- At least one item has an impossible symbol: the table of the item's model has no entry for the symbol.
 abbrev pub HasImpossibleItem : {S : Type 0} → List (Item S) → Type 0
 HasImpossibleItem {S} items = (before after : List (Item S)) × (item : Item S) × (items ≡ before ++ item ∷ after) × Impossible item.model.table item.symbol
 
@@ -61,39 +61,43 @@ UnlessInvalid invalid e = Reasons ⊥ ⊥ invalid (λ taken. ⊥) e
 
 -- ---- symbols that a call returned
 
--- the model of this precision and table
+-- Returns the model with this precision and this table.
 abbrev pub model_at : {S : Type 0} → ℕ → List (S × ℕ × ℕ) → Model S
 model_at precision table = record { precision = precision; table = table }
 
--- if the call succeeded, its symbols, each under its own model, are items with this property
+-- If the call succeeds, the property `holds` is true for the items of the returned symbols and these models, in order.
 abbrev pub IfItems : {S M A E : Type 0} → ℕ → (M → List (S × ℕ × ℕ)) → List M → Result (Vec S A) E
     → (List (Item S) → Type 0) → Type 0
 IfItems precision table models result holds = IfOk result (λ again. holds (pairs_of precision table again.items models))
 
--- the same of the first part of what the call returned, together with the other part
+-- A successful call returns symbols and another value. The property `holds` is then true for the items of the symbols
+-- and these models, in order, and for the other value.
 abbrev pub IfItemsWith : {S M A T E : Type 0} → ℕ → (M → List (S × ℕ × ℕ)) → List M → Result (Vec S A × T) E
     → (List (Item S) → T → Type 0) → Type 0
 IfItemsWith precision table models result holds =
     IfOk result (λ back. holds (pairs_of precision table back.0.items models) back.1)
 
--- if there is one symbol for each model and the call succeeded, it returned these symbols
+-- If there are as many symbols as models and the call succeeds, the call returns these symbols.
 abbrev pub GivesBack : {S M A E : Type 0} → List M → List S → Result (Vec S A) E → Type 0
 GivesBack models symbols result = length symbols ≡ length models → IfOk result (λ again. again.items ≡ symbols)
 
--- if there is one symbol for each model and the call succeeded, it returned these symbols, and this holds
+-- If there are as many symbols as models and the call succeeds, the call returns these symbols, and the statement
+-- `holds` is true.
 abbrev pub GivesBackAnd : {S M A E : Type 0} → List M → List S → Result (Vec S A) E → Type 0 → Type 0
 GivesBackAnd models symbols result holds =
     length symbols ≡ length models → IfOk result (λ again. (again.items ≡ symbols) × holds)
 
--- if there is one symbol for each model and the call succeeded, these symbols are the first part of what it returned
+-- If there are as many symbols as models and the call succeeds, the first part of the returned pair is the list of
+-- these symbols.
 abbrev pub GivesBackWith : {S M A T E : Type 0} → List M → List S → Result (Vec S A × T) E → Type 0
 GivesBackWith models symbols result = length symbols ≡ length models → IfOk result (λ back. back.0.items ≡ symbols)
 
--- the same, and the other part of what it returned has this property
+-- If there are as many symbols as models and the call succeeds, the first part of the returned pair is the list of
+-- these symbols. In that case, the property `holds` is true for the second part.
 abbrev pub GivesBackWithOne : {S M A T E : Type 0} → List M → List S → Result (Vec S A × T) E → (T → Type 0) → Type 0
 GivesBackWithOne models symbols result holds =
     length symbols ≡ length models → IfOk result (λ back. (back.0.items ≡ symbols) × holds back.1)
 
--- values that have the property are the same
+-- If both values have the property `holds`, they are equal.
 abbrev pub AreOne : {A : Type 0} → (A → Type 0) → A → A → Type 0
 AreOne holds one other = holds one → holds other → one ≡ other

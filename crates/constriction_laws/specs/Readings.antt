@@ -1,4 +1,4 @@
--- Functions that list the words of a backend or of an iterator.
+-- Functions that list the words left in a backend or in an iterator.
 use Rattle.std.specs.Prelude.{◌≡◌, List, [], ◌∷◌, Bool, Option, None, Some, Result, Ok, Err, cond}
 use Rattle.constriction_base.specs.Backends.{Reads}
 

@@ -5,18 +5,18 @@
 pub enum Stopped<E> {
     /// The decoder returned this error for a symbol.
     Refused(E),
-    /// There was no memory for the decoded symbols.
+    /// There is no memory for the decoded symbols.
     NoMemory,
 }
 
-/// The reason why encoding a list of symbols, or decoding a list of symbols from words, failed.
+/// The reason why a call failed to encode a list of symbols, or to decode a list of symbols from words.
 ///
 /// Each function documents which of these errors it returns, and when.
 #[derive(Debug, Clone, Copy, PartialEq, Eq)]
 pub enum RoundTripError {
     /// A model has no entry for its symbol.
     ImpossibleSymbol,
-    /// There are more symbols than a range encoder can still encode. `symbols_left` returns that number of symbols.
+    /// There are more symbols than a range encoder can still encode (`symbols_left`).
     TooManySymbols,
     /// The call can't use the words, the position or the coder's state.
     ///
@@ -24,6 +24,6 @@ pub enum RoundTripError {
     InvalidData,
     /// The words ended after this number of decoded symbols.
     OutOfData(usize),
-    /// There was no memory, or a read or a write of a backend failed.
+    /// There is no memory, or a read or a write of a backend failed.
     Refused,
 }

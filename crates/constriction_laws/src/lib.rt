@@ -6,7 +6,7 @@
 //! Laws list words in reading order: the word that the next read returns comes first.
 //!
 //! Other public functions make the coders' calls, and their contracts describe the combined effect of these calls.
-//! These are all functions of the modules `round_trips` and `costs`, and the functions `flagged::decode_flagged` and
+//! They are the functions of the modules `round_trips` and `costs`, and two more: `flagged::decode_flagged` and
 //! `bounds::words::exchange`.
 //!
 //! - [`bounds`]: upper bounds on the number of words, and sealed words that any words may follow.

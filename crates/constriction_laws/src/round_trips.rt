@@ -15,7 +15,7 @@ use std::alloc::Global;
 /// # Errors
 ///
 /// - `(count, Refused(error))`: the decoder returned `count` symbols, and then `error` for the next symbol.
-/// - `(0, NoMemory)`: there was no memory for the symbols. The number 0 doesn't count the symbols decoded.
+/// - `(0, NoMemory)`: there was no memory for the symbols. The count is then always 0, even if symbols were decoded.
 pub fn decode_by_models<C, M, const PRECISION: usize>(
     alloc: Global,
     decoder: &mut C,

@@ -5,7 +5,7 @@
 //! - [`lists`]: decoding exported words returns the encoded symbols, last symbol first.
 //! - [`binary`]: encoding the symbols decoded from any words restores the words, in binary form.
 //! - [`positions`]: a recorded position leads back to its state.
-//! - [`readings`]: the same laws over backends without a list of words, such as iterators.
+//! - [`readings`]: importing and decoding over backends that don't behave as a fixed list of words, such as iterators.
 //! - [`guards`]: a guard lends the words of the export, and the guard's drop restores the coder.
 //! - [`round_trips`]: functions that make the coder's calls for one half of a round trip: encoding or decoding.
 //! - [`sizes`]: the numbers of words and bits of a state.

@@ -1,8 +1,8 @@
-//! Tests of the callers of the chain coder, with 8-bit words and 16-bit states.
+//! Tests of the chain coder's round-trip functions, with 8-bit words and 16-bit states.
 //!
-//! The last word, 9, begins the remainders. At 8 bits of precision each symbol is decoded from its own word, from the
-//! last word to the first. 30 is a quantile of symbol 1 under the first table, and 20 is a quantile of symbol 0 under
-//! the second.
+//! The coder imports the words 20, 30 and 9. The last word, 9, begins the remainders. At 8 bits of precision, the first
+//! symbol is decoded from the word 30, and the second symbol from the word 20. 30 is a quantile of symbol 1 under the
+//! first table, and 20 is a quantile of symbol 0 under the second table.
 
 use crate::given::{SYMBOLS, Table, are_back, tables_of, words_of};
 use constriction_chain::ChainCoder;

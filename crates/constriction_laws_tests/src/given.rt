@@ -23,7 +23,7 @@ pub(crate) fn words_of(alloc: Global, words: &[u8]) -> Option<Vec<u8>> {
     words.to_vec(alloc).ok()
 }
 
-/// Returns whether `again` has exactly the symbols of `SYMBOLS`.
+/// Returns whether `again` equals `SYMBOLS`.
 pub(crate) fn are_back(again: &[usize]) -> bool {
     again == SYMBOLS.as_slice()
 }

@@ -1,8 +1,8 @@
-//! Tests of the laws' callers, each caller once, at a concrete type.
+//! Tests of the round-trip functions of `constriction_laws` at concrete types. These functions make a coder's calls.
 //!
-//! The contracts of the callers are proved in `constriction_laws` for all values. These tests check what no contract
-//! can state: the calls succeed if there is memory, and return the values that a reader expects. Calls that cost more
-//! to prove are in `tests/cases/constriction_laws_tests`.
+//! The contracts of these functions are proved in `constriction_laws` for all values. The tests check what no contract
+//! can state: the calls succeed if there is memory, and return the values written in the tests. Tests whose
+//! calls take longer to prove are in `tests/cases/constriction_laws_tests`. `tests/unproved` runs them without a proof.
 #![tactic(auto)]
 
 #[cfg(test)]

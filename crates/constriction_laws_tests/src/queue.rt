@@ -1,4 +1,4 @@
-//! Tests of the callers of the range coder, with 8-bit words and 16-bit states.
+//! Tests of the range coder's round-trip functions, with 8-bit words and 16-bit states.
 
 use crate::given::{SYMBOLS, Table, are_back, tables_of, words_of};
 use constriction_base::backends::Pos;

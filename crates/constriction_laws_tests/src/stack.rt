@@ -1,4 +1,4 @@
-//! Tests of the callers of the stack coder, with 8-bit words and 16-bit heads.
+//! Tests of the stack coder's round-trip functions, with 8-bit words and 16-bit heads.
 
 use crate::given::{SYMBOLS, Table, are_back, tables_of, words_of};
 use constriction_laws::stack::round_trips::binary::{

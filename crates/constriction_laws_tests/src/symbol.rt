@@ -1,4 +1,4 @@
-//! Tests of the callers of the bit coders, with Exp-Golomb codewords, and of a tree of least cost.
+//! Tests of the bit coders' round-trip functions, with Exp-Golomb codewords, and of a tree of least cost.
 
 use constriction_base::backends::Stack;
 use constriction_laws::symbol::costs::tree_of_least_cost;

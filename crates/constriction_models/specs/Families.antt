@@ -1,4 +1,4 @@
--- The distribution function of a family that is chosen at run time.
+-- Distribution functions of a family (Gaussian, Laplace or logistic) that is chosen at run time.
 use Rattle.std.specs.Prelude.{ℕ, ℤ}
 use Rattle.constriction_models.specs.Interpolation.{scaled}
 use Rattle.constriction_models.specs.Normal.{normal_values}

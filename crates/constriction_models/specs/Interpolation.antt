@@ -1,4 +1,4 @@
--- Distribution functions with a table of values, interpolated linearly between them.
+-- Distribution functions given by a table of values, with linear interpolation between the values.
 use Rattle.std.specs.Prelude.{◌≡◌, ℕ, ◌+◌, ◌-◌, ◌*◌, ◌/◌, ◌%◌, List, [], ◌∷◌, length, slice_index, Bool, true, ◌&&◌, nat_le, nat_lt, cond, ℤ, pos, negsuc, ◌+ℤ◌, ◌-ℤ◌}
 
 -- No number of the list is below the number before it, and the first number isn't below `low`.

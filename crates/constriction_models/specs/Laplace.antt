@@ -1,4 +1,4 @@
--- The table of the Laplace distribution function.
+-- The 2049 tabulated values of the Laplace distribution function.
 use Rattle.std.specs.Prelude.{ℕ, ◌≤◌, ◌^◌, List, map}
 use Rattle.std.proofs.Common.{refl, arith}
 use Rattle.constriction_models.specs.Interpolation.{AreValues, rises_from}

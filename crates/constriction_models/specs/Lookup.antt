@@ -1,4 +1,4 @@
--- The rows of a lookup table, with one row for each quantile.
+-- The rows of a lookup table, one for each quantile, and tables with and without a symbol above 65535.
 use Rattle.std.specs.Prelude.{◌≡◌, ℕ, ◌<◌, List, length, slice_index_or}
 use Rattle.constriction_base.specs.Tables.{Has, Covers}
 use Rattle.constriction_models.specs.declared.lookup.Row.{Row}

@@ -1,4 +1,4 @@
--- Mixtures: the weighted mean of distribution functions, rounded down once.
+-- Mixtures: weighted means of distribution functions, with each value rounded down once.
 use Rattle.std.specs.Prelude.{ℕ, ℤ, ◌*◌, ◌/◌, List, map}
 use Rattle.std.specs.List.{sum_by}
 use Rattle.constriction_models.specs.declared.mixture.Component.{Component}

@@ -1,4 +1,4 @@
--- The table of the normal distribution function.
+-- The 2049 tabulated values of the normal distribution function.
 use Rattle.std.specs.Prelude.{ℕ, ◌≤◌, zero, suc, ◌+◌, ◌-◌, ◌*◌, ◌/◌, ◌^◌, List, [], ◌∷◌, map, slice_index}
 use Rattle.std.proofs.Common.{refl, arith}
 use Rattle.constriction_models.specs.Interpolation.{AreValues, rises_from}

@@ -1,4 +1,5 @@
--- The integer rules by which the tables of distribution functions are computed. A large number, `one`, stands for 1.
+-- The integer arithmetic that computes the tabulated values of distribution functions. A large number, `one`, stands
+-- for 1.
 use Rattle.std.specs.Prelude.{ℕ, zero, suc, ◌+◌, ◌-◌, ◌*◌, ◌/◌, List, [], ◌∷◌, ◌++◌, map, reverse, drop}
 
 -- Adds the terms 1 / (d ^ n * n!) to `sum`, from the given term on. The sum of all terms is exp (1 / d).

@@ -1,4 +1,4 @@
--- The number of a scale, for use in contracts.
+-- The value of a `Scale`, as a multiple of 2 ^ -16.
 use Rattle.std.specs.Prelude.{ℕ}
 use Rattle.constriction_models.specs.declared.location_scale.scale.Scale.{Scale}
 

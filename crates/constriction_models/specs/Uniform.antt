@@ -1,4 +1,4 @@
--- The table of symbols with equal weights. The last symbol also gets the remainder.
+-- The table of a uniform model: all weights are equal, but the last symbol also gets the remainder.
 use Rattle.std.specs.Prelude.{ℕ, ◌*◌, ◌/◌, ◌^◌, List, cond, nat_lt}
 use Rattle.constriction_models.specs.Cuts.{entries_from}
 

@@ -1,7 +1,7 @@
 //! Functions given by a table of values, and interpolated linearly between the values.
 //!
-//! A lookup multiplies by the `rate` that `Scale::new` computes, so it never divides by the scale. The values of the
-//! Gaussian are 1/128 of a standard deviation apart. A distance of 1/32 would cost 2e-6 more bits per symbol.
+//! A lookup multiplies by the `rate` that `Scale::new` computes, so it never divides by the scale. The tabulated places
+//! of the Gaussian are 1/128 of a standard deviation apart. A spacing of 1/32 would cost 2e-6 more bits per symbol.
 
 ghost use Rattle.std.specs.Prelude.{◌≡◌, ◌+◌, ◌-◌, ◌*◌, ◌/◌, ◌<◌, ◌≤◌, length, ℤ, pos, ◌+ℤ◌, ◌-ℤ◌};
 ghost use Rattle.constriction_models.specs.Interpolation.{AreValues, value_at, located};
@@ -32,7 +32,7 @@ fn far_above(wide: u64, middle: i64, place: i64) -> i128
     place as i128 - middle as i128 + (wide / 2) as i128
 }
 
-/// Interpolates a table of width `wide` around `middle` linearly, and returns the value at `place`.
+/// Interpolates linearly in a table of width `wide` around `middle`, and returns the value at `place`.
 ///
 /// `wide`, `middle` and `place` are in units of `2^-16`. Multiplying a distance by `rate / 2^36` converts it from these
 /// units to 65536ths of the table's spacing. The value is 0 below the table, and `2^32` above it.

@@ -48,8 +48,8 @@ type Rows<P> = Vec<Row<P, <P as BitArray>::NonZero>>;
 /// A model of the symbols `0`, `1`, .. with a row for each quantile, so that one look-up finds a quantile's symbol.
 ///
 /// The lookup model has the same table as the model from which it is built. It stores the symbol and the interval of
-/// each quantile, in 6 bytes if probabilities are `u16`, and in 10 bytes if probabilities are `u32`. At a precision of
-/// 12 bits, the lookup model takes 24 or 40 KiB.
+/// each quantile. This takes 6 bytes per quantile if probabilities are `u16`, and 10 bytes if they are `u32`. At a
+/// precision of 12 bits, which has 4,096 quantiles, the lookup model thus takes 24 or 40 KiB.
 ///
 /// # Examples
 ///

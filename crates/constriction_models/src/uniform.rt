@@ -1,8 +1,8 @@
 //! `UniformModel`: a model of equally likely symbols.
 //!
-//! Each weight is rounded down, and the last symbol gets the rest. An encode therefore needs no division, and a decode
-//! needs one division. The last symbol's weight exceeds the weight of each other symbol by less than the number of
-//! symbols.
+//! Each weight is rounded down, and the last symbol also gets the remainder. An encode therefore needs no division, and
+//! a decode needs one division. The last symbol's weight exceeds the weight of each other symbol by less than the
+//! number of symbols.
 
 ghost use Rattle.std.specs.Prelude.{◌≡◌, ◌+◌, ◌/◌, ◌^◌, ◌<◌, ◌≤◌, ◌↔◌, IfOk, IsErrOf};
 ghost use Rattle.constriction_models.specs.Uniform.{even_start, uniform};
@@ -14,9 +14,10 @@ use constriction_base::model::{DecoderModel, EncoderModel, EntropyModel};
 use constriction_words::{BitArray, WordOf};
 use std::marker::PhantomData;
 
-/// A model of `count` symbols `0`, `1`, .. with equal weights: each weight is `2 ^ PRECISION / count`, rounded down.
+/// A model of the symbols `0`, `1`, .. with equal weights, except that the last symbol also gets the remainder.
 ///
-/// The weight of the last symbol also includes the remainder of the division.
+/// Each weight is `2 ^ PRECISION / count`, rounded down, where `count` is the number of symbols. The last weight also
+/// includes the remainder of this division.
 ///
 /// # Examples
 ///

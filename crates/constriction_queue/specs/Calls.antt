@@ -57,15 +57,16 @@ pub record EncodeCall {Word B E S : Type 0} (number : Word → ℕ) (holds : hol
   -- An error comes only if there are words to write, from `prepare` or from a write.
   pub error : IfErr answer (λ e. IsRefused number holds writes w s old step e new)
 
--- an encode of a step onto an interval, pending words and a backend: what it answers and leaves
+-- A call encodes a step at this interval, with these pending words, over this backend. The call returns the new
+-- interval and the new pending words, or an error.
 pub record EncodesAtInterval {Word State B E S : Type 0} (number : Word → ℕ) (state : State → ℕ) (holds : holding.Ghosts B Word S) (writes : writing.Ghosts B Word E)
     (w s : ℕ) (lower range : State) (situation : EncoderSituation Word) (step : Step) (old : B) (answer : Result (Shifted Word State) E) (new : B) : Type 0 where
   pub ok : IfOk answer (λ after. EncodeCall number holds writes w s
       (encoder_of number holds w (state lower) (state range) old situation) step (Ok tt) (shifted_over number state holds w after new))
-  -- the new interval is long enough, and its pending words fit it
+  -- The new interval has at least the length `2 ^ (s - w)`, and the new pending words fit it.
   pub wide : IfOk answer (λ after. 2 ^ (s - w) ≤ state after.range)
   pub fit : IfOk answer (λ after. PartsFit number w s after.situation (state after.lower) (state after.range))
-  -- an error leaves the interval and the pending words
+  -- An error leaves the interval and the pending words unchanged.
   pub err : IfErr answer (λ e. EncodeCall number holds writes w s
       (encoder_of number holds w (state lower) (state range) old situation) step (Err e)
       (encoder_of number holds w (state lower) (state range) new situation))

@@ -1,4 +1,4 @@
--- The value of a range decoder in contracts, and the quantile that it reads.
+-- The abstract value of a range decoder, its invariant, and the quantile that it reads.
 use Rattle.std.specs.Prelude.{◌≡◌, ℕ, ◌+◌, ◌-◌, ◌*◌, ◌/◌, ◌%◌, ◌<◌, ◌≤◌, ◌^◌, ◌⊎◌, Bool, true, false, IsTrue, List, [], ◌∷◌, ◌++◌, Some, None, Result, Ok, Err, map, drop, length, IfOk, IfErr, OnErr}
 use Rattle.constriction_base.specs.Steps.{Step, IsSizes}
 use Rattle.constriction_base.specs.declared.backends.reading.Holds as holding
@@ -27,7 +27,7 @@ decoder_at number holds s lower range distance bulk = decoder_of number holds lo
 abbrev pub placed_over : {Word State B S : Type 0} → (Word → ℕ) → (State → ℕ) → holding.Ghosts B Word S → ℕ → Placed State → B → Decoder B
 placed_over number state holds s placed bulk = decoder_at number holds s (state placed.lower) (state placed.range) (state placed.distance) bulk
 
--- an interval, and how far the point lies above its low end
+-- Returns the interval with this lower end and range, together with the distance of the point from the lower end.
 abbrev pub placed_at : {State : Type 0} → State → State → State → Placed State
 placed_at lower range distance = record { lower = lower; range = range; distance = distance }
 
@@ -53,7 +53,7 @@ quantile_read s precision d = distance s d / (d.range / 2 ^ precision)
 abbrev pub StandsAt : {B : Type 0} → ℕ → ℕ → List ℕ → Run → Decoder B → Type 0
 StandsAt w s words r d = IsAt w s words r d.lower d.range d.point d.words
 
--- a decoder stands at the beginning of the words
+-- The decoder stands at the initial run of the words, before the first symbol.
 abbrev pub StandsAtStart : {B : Type 0} → ℕ → ℕ → List ℕ → Decoder B → Type 0
 StandsAtStart w s words d = StandsAt w s words (initial s) d
 
@@ -124,27 +124,30 @@ ReadsOn number reads w s next owes old new =
 abbrev pub ReadsStep : {Word E B S : Type 0} → (Word → ℕ) → reading.Ghosts B Word S E → ℕ → ℕ → Step → Decoder B → Decoder B → Type 0
 ReadsStep number reads w s step old new = ReadsOn number reads w s (narrowed_by w s step) (OwesRead w s step old.range) old new
 
--- an interval and a point change over a backend: what the call answers and leaves
+-- A call applies the change `next` of the run to an interval and a distance, over this backend. The call makes exactly
+-- one read if `owes` holds, and otherwise no read.
 pub record ChangesByReading {Word State B S E : Type 0} (number : Word → ℕ) (state : State → ℕ) (holds : holding.Ghosts B Word S) (rules : reading.Ghosts B Word S E)
     (w s : ℕ) (next : Run → Run) (owes : Type 0) (old : Placed State) (bulk : B) (answer : Result (Placed State) E) (bulk' : B) : Type 0 where
-  -- the new interval is long enough
+  -- The new interval has at least the length `2 ^ (s - w)`.
   pub wide : IfOk answer (λ now. 2 ^ (s - w) ≤ state now.range)
-  -- over a backend that knows its words, each moment of reading leads to the next
+  -- If `is_list` holds and the decoder stands at a run in the words, it stands at the changed run after the call.
   pub list : holds.is_list → IfOk answer (λ now. Follows w s next (placed_over number state holds s old bulk) (placed_over number state holds s now bulk'))
-  -- and an error leaves them
+  -- If `is_list` holds, an error leaves the words unchanged.
   pub kept : holds.is_list → OnErr answer (holds.words bulk' ≡ holds.words bulk)
-  -- by the reads: just one word was read, where one is owed, and none else
+  -- In terms of reads, the call makes exactly one read if `owes` holds, and otherwise no read.
   pub reads : IfOk answer (λ now. ReadsOn number rules w s next owes (placed_over number state holds s old bulk) (placed_over number state holds s now bulk'))
-  -- an error is that of the one read that is owed
+  -- An error is the error of this one read.
   pub err : IfErr answer (λ e. owes × rules.reads bulk (Err e) bulk')
 
--- the interval grows by a word where it is short
+-- A call renormalizes the interval (`grown`). The call makes one read if the range is below `2 ^ (s - w)`, and
+-- otherwise no read.
 abbrev pub GrowsByReading : {Word State B S E : Type 0} → (Word → ℕ) → (State → ℕ) → holding.Ghosts B Word S → reading.Ghosts B Word S E → ℕ → ℕ
     → Placed State → B → Result (Placed State) E → B → Type 0
 GrowsByReading number state holds rules w s old bulk answer bulk' =
     ChangesByReading number state holds rules w s (grown w s) (state old.range < 2 ^ (s - w)) old bulk answer bulk'
 
--- it is narrowed by a step
+-- A call narrows the interval by the step (`narrowed_by`). The call makes one read if the decoder has to read a word
+-- (`OwesRead`), and otherwise no read.
 abbrev pub NarrowsByReading : {Word State B S E : Type 0} → (Word → ℕ) → (State → ℕ) → holding.Ghosts B Word S → reading.Ghosts B Word S E → ℕ → ℕ
     → Step → Placed State → B → Result (Placed State) E → B → Type 0
 NarrowsByReading number state holds rules w s step old bulk answer bulk' =

@@ -1,5 +1,5 @@
--- The value of a range encoder in contracts, and its run. Lists of words are in stack order: the word written last
--- comes first.
+-- The abstract value of a range encoder, its pending words, and its run (interval in unbounded numbers). Lists of words
+-- are in stack order: the word written last comes first.
 use Rattle.std.specs.Prelude.{◌≡◌, ℕ, ◌+◌, ◌-◌, ◌*◌, ◌<◌, ◌≤◌, ◌^◌, List, [], ◌∷◌, ◌++◌, length, map, replicate, drop, Option, None, Some, Bool, false, if◌then◌else◌}
 use Rattle.std.specs.Int.NonZero.{non_zero_usize_get}
 use Rattle.constriction_base.specs.Steps.{Step, IsSizes, AreWords}
@@ -20,7 +20,8 @@ number_of b (w ∷ ws) = number_of b ws * b + w
 abbrev pub words_held : ℕ → ℕ → ℕ → List ℕ
 words_held others count first = replicate (count - 1) others ++ first ∷ []
 
--- words that were held, with a carry added to them or without one
+-- Returns `count` pending words, the first of them `first` in writing order. A carry is added to the words if `carry`
+-- is true.
 abbrev pub words_let_go : ℕ → Bool → ℕ → ℕ → List ℕ
 words_let_go w carry count first = words_held (if carry then 0 else 2 ^ w - 1) count (if carry then first + 1 else first)
 
@@ -151,12 +152,13 @@ pub record Owes {Word B : Type 0} (number : Word → ℕ) (w s : ℕ) (step : St
   pub fits : PartsFit number w s situation lower range
   pub is : run_of w s (held_of number w situation ++ (owed ++ old.words)) lower range ≡ narrowed_by w s step (run_by w s old)
 
--- the part of a step, with the words that it lets go, means the run cut by the step
+-- Writing the part's released words and switching to the part's situation and interval cuts the run by the step.
 abbrev pub CutsRun : {Word State : Type 0} → (Word → ℕ) → (State → ℕ) → ℕ → ℕ → Step → EncoderSituation Word → State → State → Part Word State → Type 0
 CutsRun number state w s step situation lower range part =
     ChangesRun number w s (cut step) situation (state lower) (state range) (released_of number part.released) part.situation (state part.lower) (state part.range)
 
--- an interval after a shift, with the word that the shift writes, means the grown run
+-- Writing the shift's word, if there is a word, and switching to the shift's situation and interval renormalizes the
+-- run (`grown`).
 abbrev pub GrowsRun : {Word State : Type 0} → (Word → ℕ) → (State → ℕ) → ℕ → ℕ → EncoderSituation Word → State → State → Shifted Word State → Type 0
 GrowsRun number state w s situation lower range shifted =
     ChangesRun number w s (grown w s) situation (state lower) (state range) (word_of number shifted.top) shifted.situation (state shifted.lower) (state shifted.range)

@@ -1,4 +1,4 @@
--- Symbols with a flag: the first model applies up to and including the first flag, and the second model after it.
+-- Symbols under two models: the first model up to and including the first flag (escape symbol), and then the second.
 use Rattle.std.specs.Prelude.{◌≡◌, ℕ, ◌≤◌, ◌^◌, ◌==◌, ◌||◌, Bool, false, List, [], ◌∷◌, ◌++◌, Result, Err, MatchResult, if◌then◌else◌}
 use Rattle.constriction_base.specs.Models.{Model, Item, item_of, items_of}
 use Rattle.constriction_base.specs.declared.backends.reading.Holds as holding

@@ -1,4 +1,4 @@
--- The parts of a guard that contracts refer to.
+-- The range encoder that a guard borrows, the words that the guard lends, and the number of words that the guard wrote.
 use Rattle.std.specs.Prelude.{ℕ, ◌+◌, ◌<◌, List, length}
 use Rattle.std.specs.Borrow.{MutBor}
 use Rattle.std.specs.declared.vec.Vec.{Vec}

@@ -1,5 +1,6 @@
--- Range coding with unbounded numbers. `w` and `s` are the numbers of bits of a word and of a state. A run describes a
--- coder's interval without pending words, wraparound and carries. A coder stores the low end of its run modulo `2 ^ s`.
+-- Range coding in unbounded numbers, without carries. `w` and `s` are the numbers of bits of a word and of a state. A
+-- run describes a coder's interval without pending words, wraparound and carries. A coder stores the low end of its run
+-- modulo `2 ^ s`.
 use Rattle.std.specs.Prelude.{◌≡◌, ℕ, zero, suc, ◌+◌, ◌-◌, ◌*◌, ◌/◌, ◌%◌, ◌<◌, ◌≤◌, ◌^◌, ◌==◌, List, [], ◌∷◌, ◌++◌, nat_lt, if◌then◌else◌, slice_index, drop, ⊤}
 use Rattle.constriction_base.specs.Steps.{Step}
 use Rattle.constriction_base.specs.Digits.{fixed_digits}

@@ -1,4 +1,4 @@
--- What the seal of an encoder means behind any words.
+-- Correct seals: after any earlier words, the words of the seal complete the sealed or self-delimiting export of a run.
 use Rattle.std.specs.Prelude.{◌≡◌, ℕ, List, ◌++◌, reverse}
 use Rattle.constriction_base.specs.Steps.{AreWords}
 use Rattle.constriction_queue.specs.declared.seal.Seal.{Seal}
@@ -7,13 +7,14 @@ use Rattle.constriction_queue.specs.Encoder.{held_of, owed_of, released_of, run_
 use Rattle.constriction_queue.specs.Range.{sealed}
 use Rattle.constriction_queue.specs.SelfDelimiting.{SelfDelimits}
 
--- behind any words, a seal writes what is missing of the sealed words of the run
+-- Writing the seal's words `held`, `point` and `zero` after any earlier words gives the sealed words of the run.
 abbrev pub SealsRun : {Word : Type 0} → (Word → ℕ) → ℕ → ℕ → EncoderSituation Word → ℕ → ℕ → Seal Word → Type 0
 SealsRun number w s situation lower range seal =
     (words : List ℕ) → AreWords w words → reverse (owed_of number seal.held seal.point seal.zero ++ words)
     ≡ sealed w s (run_of w s (held_of number w situation ++ words) lower range)
 
--- with its other zero words, those of the self-delimiting ones
+-- Writing the seal's words `held`, `point`, `zero` and then `behind` after any earlier words gives a self-delimiting
+-- export of the run (`SelfDelimits`).
 abbrev pub SelfDelimitsRun : {Word : Type 0} → (Word → ℕ) → ℕ → ℕ → EncoderSituation Word → ℕ → ℕ → Seal Word → Type 0
 SelfDelimitsRun number w s situation lower range seal =
     (words : List ℕ) → AreWords w words → SelfDelimits w s (run_of w s (held_of number w situation ++ words) lower range)

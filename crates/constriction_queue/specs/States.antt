@@ -1,4 +1,4 @@
--- The interval of a range coder as two numbers, for contracts.
+-- The interval of a range coder (its lower end and its length), and the position of a run.
 use Rattle.std.specs.Prelude.{ℕ, ◌≡◌, ◌^◌, ◌%◌}
 use Rattle.constriction_queue.specs.declared.state.RangeCoderState.{RangeCoderState}
 use Rattle.constriction_queue.specs.Range.{Run}

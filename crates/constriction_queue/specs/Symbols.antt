@@ -1,11 +1,11 @@
--- How encoding and decoding symbols, each with its own model, change the run of a range coder.
+-- The effect of encoding and decoding symbols, each under its own model, on a range coder's run.
 use Rattle.std.specs.Prelude.{◌≡◌, ℕ, ◌+◌, ◌-◌, ◌*◌, ◌/◌, ◌<◌, ◌^◌, ◌⊎◌, List, [], drop}
 use Rattle.constriction_base.specs.Steps.{InTurn}
 use Rattle.constriction_base.specs.Tables.{AtEntry}
 use Rattle.constriction_base.specs.Models.{Model, Item}
 use Rattle.constriction_queue.specs.Range.{Run, Takes, narrowed_by, offset}
 
--- a model of the precision, by its table
+-- Returns the model with this precision, and with the table that the function `table` gives for `model`.
 abbrev pub model_by : {S M : Type 0} → ℕ → (M → List (S × ℕ × ℕ)) → M → Model S
 model_by precision table model = record { precision = precision; table = table model }
 

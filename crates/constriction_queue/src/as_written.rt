@@ -8,9 +8,9 @@ use std::alloc::Allocator;
 
 /// A backend that lends its words in the order in which they were written.
 ///
-/// If an encoder's backend implements this trait, [`crate::RangeEncoder::iter_compressed`] returns the words of
-/// `into_compressed`. The trait has no methods. An implementor proves that the lent words, in reverse, are the words
-/// that the backend holds as a stack.
+/// If an encoder's backend implements this trait, [`crate::RangeEncoder::iter_compressed`] iterates over the words that
+/// `into_compressed` would return. The trait has no methods. An implementor proves that the lent words, in reverse, are
+/// the words that the backend holds as a stack.
 pub trait LendsAsWritten<Word>: Holds<Word, Stack> + Words<Word> {
     // The words as a stack are the lent words in reverse.
     ghost written_law: { (b : Self) →

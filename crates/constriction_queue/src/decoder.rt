@@ -20,7 +20,7 @@ use std::marker::Model;
 ///
 /// The width of `State` is a whole number of words, at least two. The decoder narrows its interval by each symbol, as
 /// the encoder did. The last `State::BITS / Word::BITS` words read form a number, the point. A decode returns the
-/// symbol whose part of the interval holds the point. After the last word, the decoder uses zero words.
+/// symbol whose part of the interval holds the point. After the last word, each missing word counts as 0.
 ///
 /// The decoder stores the distance of the point from the lower end of the interval, modulo `2^State::BITS`. Contracts
 /// describe a decoder by a `Decoder`: the backend, the remaining words, the interval, and the point.

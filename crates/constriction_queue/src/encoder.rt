@@ -39,9 +39,9 @@ use std::marker::Model;
 /// `State` continues at 0. Then a later symbol may still add 1 to the next words to be written (a carry), so the
 /// encoder keeps these words pending.
 ///
-/// Contracts describe an encoder by an `Encoder`: the backend, the words written and pending, and the interval. The run
-/// of an encoder (`run_by`) replaces the interval's lower end by a whole number, which each renormalization makes one
-/// word longer. A run has no pending words and no carries.
+/// Contracts describe an encoder by an `Encoder`: the backend, the words written and pending, and the interval. In the
+/// run of an encoder (`run_by`), the interval's lower end is an unbounded number. Each renormalization makes this
+/// number one word longer. A run has no pending words and no carries.
 ///
 /// # Examples
 ///

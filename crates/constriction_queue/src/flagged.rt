@@ -35,7 +35,9 @@ use constriction_stream::encoding::Encode;
 use constriction_words::{BitArray, WordOf};
 use std::marker::Model;
 
-/// A decoder that uses a model of `P1` bits up to and including a flag symbol, and a model of `P2` bits after it.
+/// A decoder that uses one model up to and including a flag symbol, and another model after it.
+///
+/// The first model has a precision of `P1` bits, and the second model has a precision of `P2` bits.
 ///
 /// See the module's documentation for an example. Contracts describe a `FlagSwitch` by a `Switch`: the decoder, the
 /// flag, and whether the flag was decoded.
@@ -119,8 +121,9 @@ impl<
     ///
     /// # Errors
     ///
-    /// - `Frontend(InvalidData)`: returned if and only if the words don't encode a symbol of any model with the
-    ///   precision in use: `P1` bits up to and including the flag, and `P2` bits after it. The switch is unchanged.
+    /// - `Frontend(InvalidData)`: returned if and only if the next quantile is `2^P` or more, so that no model of
+    ///   precision `P` has a symbol for this quantile. `P` is `P1` up to and including the flag, and `P2` after it. The
+    ///   switch is unchanged.
     /// - `Backend(error)`: returned only if the decoder had to read a word and the read returned `error`. The result of
     ///   `switched` is unchanged. The decoder is in the state in which the failed `decode_symbol` left it.
     pub fn next_symbol<M1, M2>(

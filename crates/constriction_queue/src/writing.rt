@@ -124,7 +124,8 @@ fn write_parts<Word: BitArray, Backend: WriteWords<Word>>(
 
 /// Writes the words of `held`, then `top`, then `last`, then the words of `behind`. Skips each `None`.
 ///
-/// If there is any word to write, the call first asks for room for all of them.
+/// If there is any word to write, the call first asks for room for all of them. If the backend refuses room or a write,
+/// the call returns the backend's error.
 pub fn write_owed_behind<Word: BitArray, Backend: WriteWords<Word>>(
     bulk: &mut Backend,
     held: Option<HeldWords<Word>>,
@@ -153,7 +154,8 @@ pub fn write_owed_behind<Word: BitArray, Backend: WriteWords<Word>>(
 
 /// Writes the words of `held`, then `top`, then `last`. Skips each argument that is `None`.
 ///
-/// If there is any word to write, the call first asks for room for all of them.
+/// If there is any word to write, the call first asks for room for all of them. If the backend refuses room or a write,
+/// the call returns the backend's error.
 pub fn write_owed<Word: BitArray, Backend: WriteWords<Word>>(
     bulk: &mut Backend,
     held: Option<HeldWords<Word>>,
@@ -221,7 +223,8 @@ fn write_several<Word: BitArray, Backend: WriteWords<Word>>(
 /// Writes the words of a step: the words of `held`, then `top`. Skips each argument that is `None`.
 ///
 /// If there is any word to write, the call first asks for room for all of them. `held` contains the pending words that
-/// no later carry can change. If `held` is `None`, the call writes at most one word.
+/// no later carry can change. If `held` is `None`, the call writes at most one word. If the backend refuses room or a
+/// write, the call returns the backend's error.
 #[inline(always)]
 pub fn write_step<Word: BitArray, Backend: WriteWords<Word>>(
     bulk: &mut Backend,

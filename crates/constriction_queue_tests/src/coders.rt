@@ -21,7 +21,7 @@ pub type Coder = RangeEncoder<u8, u16>;
 /// The table of most tests, with a precision of 8 bits.
 pub type Table = WeightTable<u8, 8>;
 
-/// The weights of a table under which symbol 1 makes an encoder hold a word back.
+/// The weights of a table under which encoding symbol 1 with a new encoder leaves a word pending.
 pub const INVERTING: &[u8] = &[127, 1, 127, 1];
 
 /// A part of a test: the weights of a table, and the script to run with the table.

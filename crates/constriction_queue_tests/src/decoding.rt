@@ -1,6 +1,7 @@
 //! The interpreter of scripts on decoders.
 //!
-//! Besides the acts of `constriction_scripts::taking`, the interpreter runs these acts:
+//! Besides the acts of `constriction_scripts::taking`, the interpreter runs the acts below. Comparisons are with the
+//! numbers of the act.
 //!
 //! - `at` compares the interval's lower end and length.
 //! - `stands` compares the interval, the point, and the number of words left.
@@ -30,7 +31,7 @@ pub type Lent<'a, Word, State> = RangeDecoder<Word, State, Cursor<Word, &'a [Wor
 
 /// A decoder that owns its words.
 ///
-/// Scripts use this type. The checker can't prove a generic call that returns text if its decoder borrows the words.
+/// Scripts use this type. The prover can't prove a generic call that returns text if its decoder borrows the words.
 pub type Owning<Word, State> = RangeDecoder<Word, State, Cursor<Word, Vec<Word>>>;
 
 /// Returns whether the decoder's interval, point and number of words left are the numbers of `act`.

@@ -1,6 +1,7 @@
 //! The interpreter of scripts on encoders over vectors.
 //!
-//! Besides the acts of `constriction_scripts::putting`, the interpreter runs these acts:
+//! Besides the acts of `constriction_scripts::putting`, the interpreter runs the acts below. Comparisons are with the
+//! numbers of the act.
 //!
 //! - `clear` clears the encoder. `of` makes an encoder over words. `parts` makes an encoder from an interval, a number
 //!   of pending words, the first pending word, and words. `again` takes the encoder apart and puts it together again.
@@ -10,7 +11,8 @@
 //!   `into_self_delimited` returns. Both leave a new encoder.
 //! - `written` compares the words written. `held` compares the number of pending words and the first pending word. `at`
 //!   compares the position: a place and an interval. `sizes` compares the numbers of words and bits. `left` compares
-//!   the number of symbols that the encoder can still encode. `empty` checks that the encoder is empty.
+//!   the number of symbols that the encoder can still encode, and checks that `maybe_full` returns `false`. `empty`
+//!   checks that the encoder is empty.
 //! - `decoded` decodes symbols with a decoder that borrows the encoder, and `ended` also checks that the decoder may be
 //!   exhausted afterwards. `owned`, `owned-by-trait` and `owned-by-conversion` turn the encoder into a decoder in three
 //!   ways, and decode symbols.
@@ -50,7 +52,9 @@ where
     mem::replace(encoder, RangeEncoder::new(alloc))
 }
 
-/// Replaces the encoder by an encoder with the parts in `numbers`. Returns the answer.
+/// Replaces the encoder by an encoder with the parts in `numbers`.
+///
+/// Returns the answer, a word of a script ([`constriction_scripts::answers`]).
 ///
 /// The answer is `short` if the interval is too short, and `unfit` if the parts don't fit together.
 fn make_parts<Word, State>(
@@ -94,7 +98,9 @@ where
     Some(RangeEncoder::from_raw_parts(bulk, state, situation))
 }
 
-/// Runs an act that makes another encoder, and returns the answer. Returns `None` for other acts.
+/// Runs an act that makes another encoder.
+///
+/// Returns the answer, a word of a script ([`constriction_scripts::answers`]), or `None` for other acts.
 fn make_by<Word, State>(
     alloc: Global,
     encoder: &mut RangeEncoder<Word, State>,
@@ -137,7 +143,9 @@ where
     given.next().is_none()
 }
 
-/// Compares the words that a guard lends with `numbers`. Returns the answer.
+/// Compares the words that a guard lends with `numbers`.
+///
+/// Returns the answer, a word of a script ([`constriction_scripts::answers`]).
 fn shown<Word, State>(encoder: &mut RangeEncoder<Word, State>, numbers: &[u128]) -> &'static str
 where
     Word: WordOf<State> + Number,
@@ -149,7 +157,9 @@ where
     }
 }
 
-/// Compares the words that `with_compressed` lends with `numbers`. Returns the answer.
+/// Compares the words that `with_compressed` lends with `numbers`.
+///
+/// Returns the answer, a word of a script ([`constriction_scripts::answers`]).
 fn lent<Word, State>(encoder: &mut RangeEncoder<Word, State>, numbers: &[u128]) -> &'static str
 where
     Word: WordOf<State> + Number,
@@ -161,7 +171,9 @@ where
     }
 }
 
-/// Exports an encoder, and compares the words with `numbers`. Returns the answer.
+/// Exports an encoder, and compares the words with `numbers`.
+///
+/// Returns the answer, a word of a script ([`constriction_scripts::answers`]).
 ///
 /// If `is_delimited` is true, the words end with a self-delimiting seal.
 fn exported<Word, State>(
@@ -184,7 +196,9 @@ where
     }
 }
 
-/// Runs an act that compares the sealed words, and returns the answer. Returns `None` for other acts.
+/// Runs an act that compares the sealed words.
+///
+/// Returns the answer, a word of a script ([`constriction_scripts::answers`]), or `None` for other acts.
 fn show_by<Word, State>(
     alloc: Global,
     encoder: &mut RangeEncoder<Word, State>,
@@ -256,7 +270,9 @@ where
     })
 }
 
-/// Decodes with a decoder that borrows the encoder, and compares the result with `symbols`. Returns the answer.
+/// Decodes with a decoder that borrows the encoder, and compares the result with `symbols`.
+///
+/// Returns the answer, a word of a script ([`constriction_scripts::answers`]).
 ///
 /// If `is_ended` is true, the decoder must report afterwards that it may be exhausted.
 fn decoded<Word, State, Probability, const PRECISION: usize>(
@@ -276,7 +292,9 @@ where
     }
 }
 
-/// Decodes with `decoder`, compares the result with `symbols`, and drops the decoder. Returns the answer.
+/// Decodes with `decoder`, compares the result with `symbols`, and drops the decoder.
+///
+/// Returns the answer, a word of a script ([`constriction_scripts::answers`]).
 ///
 /// If `is_ended` is true, the decoder must report afterwards that it may be exhausted.
 fn decoded_by<'a, Word, State, Probability, const PRECISION: usize>(
@@ -308,7 +326,9 @@ where
     take_each(coder, model, symbols) == DONE
 }
 
-/// Decodes with the decoder that an encoder became, and compares the result with `symbols`. Returns the answer.
+/// Decodes with the decoder that an encoder became, and compares the result with `symbols`.
+///
+/// Returns the answer, a word of a script ([`constriction_scripts::answers`]).
 fn owned_by<Word, State, Probability, const PRECISION: usize>(
     became: Result<Owning<Word, State>, ReadWriteError<std::convert::Infallible, AllocError>>,
     table: &WeightTable<Probability, PRECISION>,
@@ -326,7 +346,9 @@ where
     }
 }
 
-/// Runs an act that decodes the encoder's words, and returns the answer. Returns `None` for other acts.
+/// Runs an act that decodes the encoder's words.
+///
+/// Returns the answer, a word of a script ([`constriction_scripts::answers`]), or `None` for other acts.
 fn decode_by<Word, State, Probability, const PRECISION: usize>(
     alloc: Global,
     encoder: &mut RangeEncoder<Word, State>,

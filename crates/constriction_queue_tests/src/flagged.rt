@@ -29,7 +29,10 @@ pub fn tables_of(alloc: Global, weights: &[u8]) -> Result<Tables, Fail> {
     Ok(Tables { first, second })
 }
 
-/// Encodes `symbols` with the two tables. Returns the answer, which is empty after a success.
+/// Encodes `symbols` with the two tables.
+///
+/// Returns an empty string after a success, and otherwise the text for the error in scripts. If `symbols_left` of the
+/// encoder is less than the number of symbols, the call returns `OTHER` and encodes nothing.
 pub fn put_flagged(encoder: &mut Coder, tables: &Tables, symbols: &[usize]) -> &'static str {
     if Encode::<8>::symbols_left(encoder) < symbols.len() {
         return OTHER;
@@ -70,7 +73,7 @@ pub fn come_from(words: &[u8], tables: &Tables, symbols: &[usize], switched: boo
     }
 }
 
-/// Encodes `symbols` with a new encoder. Returns whether it exports `words`, and [`come_from`] returns `true`.
+/// Encodes `symbols` with a new encoder. Returns `true` if it exports `words` and [`come_from`] returns `true`.
 pub fn come_back(
     alloc: Global,
     tables: &Tables,

@@ -1,4 +1,4 @@
-//! Intervals and pending words, as scripts write them.
+//! Intervals and pending words as lists of numbers, as test scripts give them.
 
 ghost use Rattle.constriction_base.specs.Steps.{IsSizes};
 
@@ -7,7 +7,7 @@ use constriction_scripts::numbers::Number;
 use constriction_words::{BitArray, WordOf};
 use std::num::NonZeroUsize;
 
-/// Returns whether the two numbers from `numbers[at]` on are the interval's lower end and length.
+/// Returns whether `numbers[at]` and `numbers[at + 1]` are the lower end and the length of the interval `state`.
 pub fn is_interval<Word, State>(
     state: RangeCoderState<Word, State>,
     numbers: &[u128],
@@ -40,7 +40,7 @@ where
 
 /// Returns the situation of an encoder with `numbers[0]` pending words, the first of which is `numbers[1]`.
 ///
-/// If `numbers[0]` is 0 or a number is missing, no words are held.
+/// If `numbers[0]` is 0 or a number is missing, no words are pending.
 pub fn situation_of<Word: Number>(numbers: &[u128]) -> EncoderSituation<Word> {
     match (numbers.first(), numbers.get(1)) {
         (Some(count), Some(first)) => {
@@ -55,7 +55,7 @@ pub fn situation_of<Word: Number>(numbers: &[u128]) -> EncoderSituation<Word> {
 
 /// Returns whether `numbers` are the number of pending words and the first pending word.
 ///
-/// If no words are held, `numbers` must be empty.
+/// If no words are pending, `numbers` must be empty.
 pub fn is_situation<Word: Number + Drop>(
     situation: EncoderSituation<Word>,
     numbers: &[u128],

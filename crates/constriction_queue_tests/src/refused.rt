@@ -1,12 +1,14 @@
 //! Tests of calls over a vector, where one request for memory is refused.
 //!
-//! `tests/refused-memory` runs these tests once for each request for memory that they make, and refuses this request. A
-//! test passes if no request is refused. It fails with `Memory` if the test itself made the refused request. It fails
-//! with the name of a call if all of this is true:
+//! `tests/refused-memory` runs these tests once per memory request that they make, and refuses that request. If a call
+//! makes the refused request, the test checks three facts:
 //!
-//! - The call made the refused request, and reported that there was no memory.
-//! - The call left the coder as the test expects.
-//! - The same call succeeded when the test made it again.
+//! - The call reports that there is no memory.
+//! - The call consumes the coder, or leaves the coder as the test expects.
+//! - The call, or the rest of the call, succeeds when the test makes it again.
+//!
+//! If all three hold, the test fails with the call's name, as `tests/refused-memory` expects. If the test itself makes
+//! the request, it fails with `Memory`. If no request is refused, a test passes.
 
 use crate::coders::{Coder, INVERTING, Table};
 use crate::encoding::{encode_by, follow};

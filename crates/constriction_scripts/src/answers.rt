@@ -1,4 +1,4 @@
-//! Answers of calls, as words of a script. The empty word stands for success.
+//! Answers: the texts that stand for the results of calls in a script. The empty text stands for success.
 
 use constriction_base::errors::{BoundedWriteError, CoderError, DefaultEncoderFrontendError};
 use constriction_chain::{BackendError, EncoderFrontendError};

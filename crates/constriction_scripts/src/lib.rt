@@ -1,9 +1,13 @@
-//! Scripts: texts that say what a test does with a coder, and what it expects of the coder.
+//! Scripts: texts that list the calls that a test makes on a coder, and the results that the test expects.
 //!
-//! A crate of tests has one interpreter for each kind of coder. This crate has what the interpreters share: reading a
-//! script ([`script`]), words and states as numbers ([`numbers`]), answers of calls ([`answers`]), and the calls of the
-//! coder traits ([`putting`], [`taking`]). No function here has a contract, so that the proof of a test doesn't use the
-//! contracts of the calls.
+//! A test crate has one interpreter for each kind of coder. This crate provides the parts that the interpreters share:
+//!
+//! - [`script`] reads a script.
+//! - [`numbers`] converts words and states to and from numbers.
+//! - [`answers`] names the results of calls, as scripts expect them.
+//! - [`putting`] and [`taking`] make the calls of the coder traits, to encode and to decode.
+//!
+//! No function of this crate has a contract. This keeps the clauses of the coders' calls out of a test's proof.
 #![tactic(auto)]
 
 pub mod answers;

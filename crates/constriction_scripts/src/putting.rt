@@ -8,7 +8,9 @@ use constriction_stream::encoding::{Encode, EncodeReverse};
 use constriction_words::WordOf;
 use std::alloc::{AllocError, Global};
 
-/// Encodes `symbols` one by one, up to the first refusal. Returns the answer of the last call.
+/// Encodes `symbols` one by one, up to the first error. Returns the answer of the last `encode_symbol`.
+///
+/// If `symbols_left` is 0 before a symbol, the call encodes no further symbol and returns [`OTHER`].
 pub fn put_each<C, M, const PRECISION: usize>(
     coder: &mut C,
     model: &M,

@@ -2,7 +2,7 @@
 //!
 //! A script is a text of acts. An act is a verb and the numbers after it. The verb names a call that uses the numbers,
 //! or a check that expects them. `put 1 head 255` encodes the symbol 1, and then expects the head 255. If an act
-//! expects a refusal, the answer follows the verb after a `!`, as in `list!full 1 1`. Among the items of a list, `bad7`
+//! expects an error, the answer follows the verb after a `!`, as in `list!full 1 1`. Among the items of a list, `bad7`
 //! stands for the error 7. Spaces and line ends separate the words of a script.
 
 use std::alloc::{AllocError, Global};
@@ -41,7 +41,7 @@ pub struct Script {
 /// The number that stands for the error 0. The error `k` has the number `BAD + k`.
 const BAD: u128 = 1 << 64;
 
-/// Returns `k` if `numbers[at]` exists and stands for the error `k`, and `None` otherwise.
+/// Returns `Some(k)` if `numbers[at]` exists and stands for the error `k`, and `None` otherwise.
 pub fn error_at(numbers: &[u128], at: usize) -> Option<u8> {
     match numbers.get(at) {
         Some(number) if *number >= BAD => u8::try_from(*number - BAD).ok(),
@@ -57,7 +57,7 @@ fn number_of(word: &str) -> Option<u128> {
     }
 }
 
-/// Returns the meaning of `word` in the table `verbs`, or `None` if the table doesn't have it.
+/// Returns the meaning of `word` in the table `verbs`, or `None` if `word` isn't in the table.
 pub fn find<Verb: Copy>(verbs: &[(&str, Verb)], word: &str) -> Option<Verb> {
     for (name, verb) in verbs {
         if *name == word {

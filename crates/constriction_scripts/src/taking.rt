@@ -8,7 +8,9 @@ use constriction_stream::decoding::Decode;
 use constriction_words::WordOf;
 use std::alloc::{AllocError, Global};
 
-/// Decodes symbols one by one, up to the first that differs from `symbols`. Returns the answer of the last decode.
+/// Decodes symbols one by one, and compares them with `symbols`. Returns the answer of the last decode.
+///
+/// The call stops after the first decode that fails, or that returns another symbol.
 pub fn take_each<C, M, const PRECISION: usize>(
     coder: &mut C,
     model: &M,

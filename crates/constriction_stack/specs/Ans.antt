@@ -1,5 +1,6 @@
--- The stack coder: range asymmetric numeral systems (rANS), invented by Jarek Duda, as in the Rust crate's `AnsCoder`.
--- All definitions are about numbers and lists. `w` and `s` are the numbers of bits of a word and of a head.
+-- The stack coder: range asymmetric numeral systems (rANS, by Jarek Duda), as in `AnsCoder` of the Rust crate
+-- `constriction`. All definitions are about numbers and lists. `w` and `s` are the numbers of bits of a word and of a
+-- head.
 use Rattle.std.specs.Prelude.{◌≡◌, ℕ, ◌+◌, ◌-◌, ◌*◌, ◌/◌, ◌%◌, ◌<◌, ◌≤◌, ◌^◌, ◌⊎◌, List, [], ◌∷◌, ◌++◌, Option, Some, None, Result, Ok, Err, MatchResult, OnOk, OnErr, IfErr, map, nat_lt, if◌then◌else◌, length}
 use Rattle.std.specs.Int.Digits.{digits_of}
 use Rattle.constriction_base.specs.Steps.{Step, IsSizes, AreWords}
@@ -118,14 +119,16 @@ RefillsBy {W} {E} {B} number reads w s head old new_head new =
     ⊎ ((head < 2 ^ (s - w)) × (new_head ≡ head) × reads old (Ok None) new)
     ⊎ ((head < 2 ^ (s - w)) × ((word : W) × (new_head ≡ head * 2 ^ w + number word) × reads old (Ok (Some word)) new))
 
--- a refill of a head over a backend that knows its words: one moves in where it has to, and an error leaves them
+-- Suppose that `is_list` holds for the backend. A successful refill leads to the `refilled` state of the old head and
+-- words, and a failed refill leaves the words unchanged.
 abbrev pub RefillsList : {W V E B S : Type 0} → (W → ℕ) → (V → ℕ) → holding.Ghosts B W S → ℕ → ℕ → V → B → Result V E → B → Type 0
 RefillsList number head_number holds w s head old result new =
     holds.is_list → MatchResult result
     (λ new_head. refilled w s (head_number head) (map number (holds.words old)) ≡ state_of number holds (head_number new_head) new)
     (λ _. holds.words new ≡ holds.words old)
 
--- and by its reads
+-- A successful call refills the head by at most one read (`RefillsBy`). An error is the error of this read, and comes
+-- only if the head is below `2 ^ (s - w)`.
 abbrev pub RefillsByReads : {W V E B : Type 0} → (W → ℕ) → (V → ℕ) → (B → Result (Option W) E → B → Type 0) → ℕ → ℕ → V → B → Result V E → B → Type 0
 RefillsByReads number head_number reads w s head old result new =
     MatchResult result
@@ -161,7 +164,7 @@ EncodesOnto number holds writes w s head_number head old step result new =
     (λ new_head. EncodeCall number holds writes w s (value_of number holds (head_number head) old) step (Ok tt) (value_of number holds (head_number new_head) new))
     (λ e. EncodeCall number holds writes w s (value_of number holds (head_number head) old) step (Err e) (value_of number holds (head_number head) new))
 
--- the same of the step at a precision that has these numbers
+-- `EncodesOnto` holds for the step with this precision, and with the numbers of `left` and `p`.
 abbrev pub PushesOnto : {W B E S H : Type 0} → (W → ℕ) → (H → ℕ) → holding.Ghosts B W S → writing.Ghosts B W E → ℕ → ℕ → ℕ → H → H → H → B → Result H E → B → Type 0
 PushesOnto number head_number holds writes w s precision left p head old result new =
     EncodesOnto number holds writes w s head_number head old

@@ -1,5 +1,5 @@
--- Binary forms of the stack coder's states: the words below the head's leading 1, which isn't written. The Rust crate's
--- `AnsCoder::from_binary` and `into_binary` use this form.
+-- Binary forms of the stack coder's states: the words of the head's bits below its leading 1, and the words below the
+-- head. The Rust crate's `AnsCoder::from_binary` and `into_binary` use this form.
 use Rattle.std.specs.Prelude.{◌≡◌, ℕ, ◌-◌, ◌<◌, ◌≤◌, ◌^◌, ◌⊎◌, List, ◌++◌, Option, None, Result, Ok, Err, map}
 use Rattle.std.specs.Int.Digits.{number_from_digits_after}
 use Rattle.constriction_base.specs.Digits.{fixed_digits}

@@ -1,4 +1,5 @@
--- Failed exports of the head's words. The definitions don't describe the backend after the failure.
+-- Failed exports of a stack coder: the backend refuses room for the words of the head, or refuses a write. The
+-- definitions don't describe the backend after the failure.
 use Rattle.std.specs.Prelude.{ℕ, ◌^◌}
 use Rattle.std.specs.Int.Digits.{digits_of}
 use Rattle.constriction_base.specs.Digits.{fixed_digits}

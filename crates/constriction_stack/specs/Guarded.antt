@@ -1,4 +1,4 @@
--- The parts of a guard that contracts refer to.
+-- The stack coder that a guard borrows, and the number of words that the guard wrote.
 use Rattle.std.specs.Prelude.{ℕ}
 use Rattle.std.specs.Borrow.{MutBor}
 use Rattle.constriction_stack.specs.declared.coder.AnsCoder.{AnsCoder}

@@ -1,4 +1,5 @@
--- The words that a guard writes onto a coder's backend, and that its drop removes again.
+-- The words that a guard writes onto a stack coder's backend and removes when dropped, and the coder after a failed
+-- write.
 use Rattle.std.specs.Prelude.{◌≡◌, ◌⊎◌, ℕ, ◌^◌, List, Option, Result, drop}
 use Rattle.std.specs.Int.Digits.{digits_of}
 use Rattle.constriction_base.specs.Digits.{fixed_digits}

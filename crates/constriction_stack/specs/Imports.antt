@@ -1,4 +1,4 @@
--- The possible results of imports over a backend whose words are known only by reading.
+-- The possible results of a stack coder's imports, in terms of the backend's reads or of its words.
 use Rattle.std.specs.Prelude.{◌≡◌, ℕ, ◌-◌, ◌<◌, ◌≤◌, ◌^◌, ◌⊎◌, List, ◌∷◌, ◌++◌, Option, None, Some, Result, Ok, Err}
 use Rattle.constriction_base.specs.Readings.{Imports}
 

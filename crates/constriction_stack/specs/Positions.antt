@@ -1,4 +1,4 @@
--- Positions of the stack coder, and how a coder with more words returns to a position.
+-- Positions of the stack coder, and the state after seeking to a position.
 use Rattle.std.specs.Prelude.{◌≡◌, ℕ, ◌-◌, List, ◌++◌, length, drop}
 use Rattle.constriction_stack.specs.Ans.{AnsState}
 

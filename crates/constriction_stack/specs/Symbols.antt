@@ -1,4 +1,4 @@
--- How encoding and decoding symbols, each with its own model, change the state of a stack coder.
+-- The effect of encoding and decoding symbols, each under its own model, on a stack coder's state.
 use Rattle.std.specs.Prelude.{ℕ, List}
 use Rattle.constriction_base.specs.Steps.{InTurn}
 use Rattle.constriction_base.specs.Tables.{AtEntry}

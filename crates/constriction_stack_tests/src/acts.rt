@@ -48,7 +48,9 @@ const SHOWS: &[(&str, Shows)] = &[
     ("exhausted", Shows::Exhausted),
 ];
 
-/// Compares the words that a guard lends with `numbers`. Returns the answer.
+/// Compares the words that a guard lends with `numbers`.
+///
+/// Returns the answer, a word of a script ([`constriction_scripts::answers`]).
 fn shown<Word, State, Backend>(
     coder: &mut AnsCoder<Word, State, Backend>,
     numbers: &[u128],
@@ -66,7 +68,9 @@ where
     }
 }
 
-/// Compares the words in binary form that a guard lends with `numbers`. Returns the answer.
+/// Compares the words in binary form that a guard lends with `numbers`.
+///
+/// Returns the answer, a word of a script ([`constriction_scripts::answers`]).
 fn shown_in_binary<Word, State, Backend>(
     coder: &mut AnsCoder<Word, State, Backend>,
     numbers: &[u128],
@@ -106,7 +110,9 @@ fn has_no_limit<C: Encode<PRECISION>, const PRECISION: usize>(coder: &C) -> bool
     !coder.maybe_full() && coder.symbols_left() == usize::MAX
 }
 
-/// Runs an act that checks a coder, and returns the answer. Returns `None` for other acts.
+/// Runs an act that checks a coder.
+///
+/// Returns the answer, a word of a script ([`constriction_scripts::answers`]), or `None` for other acts.
 fn show_by<Word, State, Backend, const PRECISION: usize>(
     coder: &mut AnsCoder<Word, State, Backend>,
     act: &Act<'_>,
@@ -132,7 +138,9 @@ where
     Some(answer_if(is_so))
 }
 
-/// Runs an act with a coder, and returns the answer.
+/// Runs an act with a coder.
+///
+/// Returns the answer, a word of a script ([`constriction_scripts::answers`]).
 pub fn act_by<Word, State, Backend, Probability, const PRECISION: usize>(
     alloc: Global,
     coder: &mut AnsCoder<Word, State, Backend>,

@@ -1,4 +1,4 @@
-//! Tests of each public call, once. The heads and words were computed separately, from the coder's definition.
+//! Tests that make each public call of the stack coder. The expected heads and words are computed from its definition.
 
 use crate::coders::small;
 use std::test::Fail;

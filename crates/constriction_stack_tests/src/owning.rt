@@ -1,4 +1,4 @@
-//! The interpreter of scripts on coders over vectors, which can also be made, taken apart and exported.
+//! The interpreter of scripts on coders over vectors. It also makes coders, takes them apart and exports them.
 
 ghost use Rattle.constriction_base.specs.Steps.{IsSizes};
 
@@ -77,7 +77,9 @@ const VERBS: &[(&str, Owned)] = &[
     ("seek", Owned::Seek),
 ];
 
-/// Replaces the coder by a coder with the head and the words in `numbers`. Returns the answer.
+/// Replaces the coder by a coder with the head and the words in `numbers`.
+///
+/// Returns the answer, a word of a script ([`constriction_scripts::answers`]).
 fn make_of<Word, State>(
     alloc: Global,
     coder: &mut AnsCoder<Word, State>,
@@ -100,7 +102,9 @@ where
     }
 }
 
-/// Replaces the coder by a coder that imports the words `numbers`. Returns the answer.
+/// Replaces the coder by a coder that imports the words `numbers`.
+///
+/// Returns the answer, a word of a script ([`constriction_scripts::answers`]).
 ///
 /// The answer is `none` if the import is refused, and the error has all words except the last.
 fn import<Word, State>(
@@ -126,7 +130,9 @@ where
     }
 }
 
-/// Replaces the coder by a coder that imports the words `numbers` in binary form. Returns the answer.
+/// Replaces the coder by a coder that imports the words `numbers` in binary form.
+///
+/// Returns the answer, a word of a script ([`constriction_scripts::answers`]).
 fn import_binary<Word, State>(
     alloc: Global,
     coder: &mut AnsCoder<Word, State>,
@@ -170,7 +176,9 @@ where
     AnsCoder::from_raw_parts(bulk, state)
 }
 
-/// Replaces the coder by another coder, in the way that `make` names. Returns the answer.
+/// Replaces the coder by another coder, in the way that `make` names.
+///
+/// Returns the answer, a word of a script ([`constriction_scripts::answers`]).
 fn make_by<Word, State>(
     alloc: Global,
     coder: &mut AnsCoder<Word, State>,
@@ -192,7 +200,9 @@ where
     DONE
 }
 
-/// Exports a coder's words, and compares them with `numbers`. Returns the answer.
+/// Exports a coder's words, and compares them with `numbers`.
+///
+/// Returns the answer, a word of a script ([`constriction_scripts::answers`]).
 pub fn export<Word, State, Backend>(
     coder: AnsCoder<Word, State, Backend>,
     numbers: &[u128],
@@ -209,7 +219,9 @@ where
     }
 }
 
-/// Exports a coder's words in binary form, and compares them with `numbers`. Returns the answer.
+/// Exports a coder's words in binary form, and compares them with `numbers`.
+///
+/// Returns the answer, a word of a script ([`constriction_scripts::answers`]).
 pub fn export_binary<Word, State, Backend>(
     coder: AnsCoder<Word, State, Backend>,
     numbers: &[u128],
@@ -319,7 +331,9 @@ where
     }
 }
 
-/// Runs an act with a coder over a vector, and returns the answer.
+/// Runs an act with a coder over a vector.
+///
+/// Returns the answer, a word of a script ([`constriction_scripts::answers`]).
 pub fn own_by<Word, State, Probability, const PRECISION: usize>(
     alloc: Global,
     coder: &mut AnsCoder<Word, State>,

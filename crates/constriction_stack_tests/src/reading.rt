@@ -88,7 +88,9 @@ where
     act.symbols.first() == Some(&place) && act.numbers.get(1) == Some(&head.shown())
 }
 
-/// Runs an act with a coder that can only decode, and returns the answer.
+/// Runs an act with a coder that can only decode.
+///
+/// Returns the answer, a word of a script ([`constriction_scripts::answers`]).
 pub fn read_by<State, Backend>(
     coder: &mut AnsCoder<u8, State, Backend>,
     table: &WeightTable<u8, 8>,

@@ -1,4 +1,4 @@
--- Chunks of symbols, and the first symbol that a model doesn't know.
+-- Chunks of symbols, and the first symbol that has no entry in a model.
 use Rattle.std.specs.Prelude.{ℕ, ◌+◌, ◌<◌, List, [], ◌∷◌, length, map, slice_index, slice_index_or, take}
 use Rattle.std.specs.declared.vec.Vec.{Vec}
 use Rattle.std.specs.List.{AllByRecursion}

@@ -1,4 +1,4 @@
--- The possible results of look-ups.
+-- The possible results of looking up chunks in a store.
 use Rattle.std.specs.Prelude.{◌≡◌, ◌⊎◌, ℕ, ◌<◌, ◌≤◌, ⊤, List, [], ◌∷◌, Result, MatchResult, length, map, slice_index, take}
 use Rattle.std.specs.declared.vec.Vec.{Vec}
 use Rattle.constriction_base.specs.Models.{Model, items_of}

@@ -1,4 +1,4 @@
--- What a store holds: its index, its words, and the chunks at its entries.
+-- The index and the words of a store, and the chunks that the words hold at the index's entries.
 use Rattle.std.specs.Prelude.{◌≡◌, ℕ, ◌+◌, ◌/◌, ◌^◌, ◌<◌, ◌≤◌, List, [], ◌∷◌, length, slice_index, slice_index_or}
 use Rattle.std.specs.List.{AllByRecursion}
 use Rattle.constriction_base.specs.Models.{Model, items_of}

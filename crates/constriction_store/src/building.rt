@@ -37,9 +37,9 @@ pub enum BuildError {
     /// The model has no entry for a symbol.
     #[error("Impossible symbol.")]
     ImpossibleSymbol {
-        /// The number of the chunk, counted from 0.
+        /// The position of the chunk in the list of chunks, counted from 0.
         chunk: usize,
-        /// The number of the symbol in the chunk, counted from 0.
+        /// The position of the symbol in the chunk, counted from 0.
         index: usize,
     },
     /// There is no memory for the words or the index.

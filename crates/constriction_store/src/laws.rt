@@ -17,9 +17,9 @@ use std::alloc::Global;
 
 /// At any entry, a list of words holds at most one chunk.
 ///
-/// An entry states a position, an interval and a number of symbols. Words hold a chunk at an entry if decoding this
-/// number of symbols from there returns the chunk (`HoldsChunk`). If words hold a chunk at an entry, this decoding
-/// can't also fail (`HoldsNoChunk`).
+/// An entry states a position, an interval and a number of symbols. Words hold a chunk at an entry if decoding that
+/// number of symbols from that position and interval returns the chunk (`HoldsChunk`). If words hold a chunk at an
+/// entry, this decoding can't also fail (`HoldsNoChunk`).
 pub fn one_chunk_at_entry()
     ensures one { (w s : ℕ) (model : Model ℕ) (words : List ℕ) (entry : Entry) (symbols others : List ℕ) →
         IsModel w model → HoldsChunk w s model words entry symbols → HoldsChunk w s model words entry others →
@@ -28,7 +28,7 @@ pub fn one_chunk_at_entry()
         IsModel w model → HoldsChunk w s model words entry symbols → HoldsNoChunk w s model words entry → ⊥ }
 {}
 
-/// A look-up depends only on the words of its chunk, and on the `s / w` words after them.
+/// A look-up uses no words except the words of its chunk and the `s / w` words after the chunk.
 ///
 /// Here a word has `w` bits, and a state has `s` bits. If another list has the same words at these positions, decoding
 /// that list from the chunk's entry returns the same symbols.
@@ -92,7 +92,7 @@ pub enum ThroughStore {
 
 /// Builds a store of `chunks`, and looks up the chunks with the numbers in `places`.
 ///
-/// `places` may list the numbers in any order. The call returns the store, and the chunks looked up in the order of
+/// `places` may list the numbers in any order. The call returns the store, and the looked-up chunks in the order of
 /// `places`. Each chunk looked up equals the chunk of `chunks` with the same number.
 ///
 /// # Errors
@@ -134,7 +134,7 @@ where
 /// Builds a store, takes it apart, and looks up chunks in a store built from the parts.
 ///
 /// The function calls `build`, `into_parts` and `from_parts`, and then `chunk` for each number in `places`. It returns
-/// the store built from the parts, and the chunks looked up in the order of `places`. Each chunk looked up equals the
+/// the store built from the parts, and the looked-up chunks in the order of `places`. Each chunk looked up equals the
 /// chunk of `chunks` with the same number.
 ///
 /// # Errors

@@ -6,7 +6,7 @@ use constriction_store::{BuildError, ChunkError, Store};
 use std::alloc::{AllocError, Global};
 use std::test::Fail;
 
-/// The type of the table of most tests.
+/// The table type that most tests use.
 pub type Table = WeightTable<u32, 24>;
 
 /// The store type that most tests use.
@@ -44,7 +44,7 @@ pub fn store_of_lists(alloc: Global, lists: &[&[usize]]) -> Result<Halves, Fail>
     store_of(alloc, chunks.as_slice())
 }
 
-/// Builds the store of the test `store_program`, which has three chunks.
+/// Builds the store with three chunks that the test `store_program` uses.
 pub fn three(alloc: Global) -> Result<Halves, Fail> {
     store_of_lists(alloc, &[&[1, 0], &[], &[1]])
 }
@@ -89,7 +89,7 @@ pub fn entry_of((place, lower, range, len): Numbers) -> Option<Entry> {
     }
 }
 
-/// Returns an index of `entries`, without the entries in which the interval is too short.
+/// Returns an index of `entries`, without the entries whose interval is too short.
 pub fn index_of(alloc: Global, entries: &[Numbers]) -> Result<Vec<Entry>, AllocError> {
     let mut index = Vec::new(alloc);
     for numbers in entries {
@@ -101,7 +101,7 @@ pub fn index_of(alloc: Global, entries: &[Numbers]) -> Result<Vec<Entry>, AllocE
     Ok(index)
 }
 
-/// Makes a store from words and an index, or returns `None` if they make no store.
+/// Makes a store from words and an index, or returns `None` if [`Store::from_parts`] refuses the index.
 pub fn from_parts(
     alloc: Global,
     words: &[u32],

@@ -1,4 +1,4 @@
--- List calls of a coder, by the rules that an `Encode` has for one symbol.
+-- Definitions of calls that encode the symbols of an iterator, by the rules of the trait `Encode` for one symbol.
 use Rattle.std.specs.Prelude.{ℕ, List, Option, Result}
 use Rattle.std.specs.Iterator.{Count}
 use Rattle.constriction_base.specs.Steps.{Step}

@@ -1,4 +1,4 @@
--- List calls and iterators: one step at each item, in order.
+-- Calls over the items of an iterator, and iterators that decode: the coder makes one step for each item, in order.
 use Rattle.std.specs.Prelude.{◌≡◌, ℕ, ◌+◌, ◌≤◌, List, Option, None, Some, Result, Ok, Err, MatchOption, MatchResult}
 use Rattle.std.specs.Iterator.{Count, IsFinite, size, Drains, YieldsThen}
 use Rattle.constriction_base.specs.Steps.{InTurn}

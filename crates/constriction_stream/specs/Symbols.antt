@@ -1,4 +1,4 @@
--- A step call and a model's table: the call makes the step of one entry.
+-- Encoding and decoding one symbol: the coder makes the step of an entry of the model's table.
 use Rattle.std.specs.Prelude.{◌≡◌, ℕ, List, ◌⊎◌, Result, Ok, Err, MatchResult}
 use Rattle.constriction_base.specs.Steps.{Step}
 use Rattle.constriction_base.specs.Tables.{AtEntry, Impossible}

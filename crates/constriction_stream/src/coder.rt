@@ -4,8 +4,8 @@ use constriction_words::BitArray;
 
 /// A coder: it holds words of compressed data, and a state besides these words.
 ///
-/// An implementor chooses the ghost member `shows`, which relates the coder to each value that `state` may return. It
-/// proves that `state` returns one of these values.
+/// An implementor chooses the ghost member `shows`, which relates the coder to each value that `state` may return. The
+/// implementor proves that `state` returns one of these values.
 pub trait Code {
     /// The word type of the compressed data.
     type Word: BitArray;

@@ -25,7 +25,7 @@ pub trait IntoDecoder<const PRECISION: usize>: Encode<PRECISION> {
 
     /// Relates the encoder to each error that `into_decoder` may return instead of a decoder.
     ///
-    /// An implementor chooses this relation freely. If every encoder turns into a decoder, the relation never holds.
+    /// An implementor chooses this relation freely. If every encoder turns into a decoder, choose one that never holds.
     ghost fails: { Self → Self.Error → Type 0 };
 
     /// Turns the encoder into a decoder of the data that it holds.
@@ -42,7 +42,7 @@ pub trait IntoDecoder<const PRECISION: usize>: Encode<PRECISION> {
 /// An encoder that lends the data that it holds to a decoder.
 ///
 /// The encoder keeps its data. An implementor chooses the ghost member `reads`, which relates the encoder to each
-/// decoder that `as_decoder` may return. It proves that `as_decoder` returns one of these decoders.
+/// decoder that `as_decoder` may return. The implementor proves that `as_decoder` returns one of these decoders.
 pub trait AsDecoder<'a, const PRECISION: usize>: Encode<PRECISION> {
     /// The type of the decoder, which borrows the data that it reads.
     type AsDecoder: Decode<PRECISION, Word = Self::Word, State = Self::State> + Drop;

@@ -39,7 +39,7 @@ pub trait Decode<const PRECISION: usize>: Code {
 
     /// Relates the coder before a call, an error returned before any use of the model, and the coder after the call.
     ///
-    /// An implementor chooses this relation freely. If every call uses the model, the relation never holds.
+    /// An implementor chooses this relation freely. If every call uses the model, choose a relation that never holds.
     ghost halts: { Self → CoderError Self.FrontendError Self.BackendError → Self → Type 0 };
 
     /// Holds whenever `maybe_exhausted` returns `false`. An implementor chooses this property freely.
@@ -60,9 +60,9 @@ pub trait Decode<const PRECISION: usize>: Code {
     /// The call returns `Frontend(error)` or `Backend(error)` in two cases:
     ///
     /// - The coder or its backend refuses the call before the coder uses the model. The implementor states in `halts`
-    ///   which errors are possible.
+    ///   which errors are possible and how they change the coder.
     /// - The coder or its backend refuses the step of an entry. The implementor states in `decodes` which errors are
-    ///   possible.
+    ///   possible and how they change the coder.
     ///
     /// # Examples
     ///

@@ -41,8 +41,8 @@ impl<Symbol> Lent<Symbol> for &Symbol {
 ///
 /// The models guarantee that `PRECISION` is at least 1 and at most the number of bits of a word.
 ///
-/// An implementor chooses the ghost members and proves that each call obeys them. It also proves two laws about the
-/// errors that mean an impossible symbol:
+/// An implementor chooses the ghost members and proves that each call obeys them. The implementor also proves two laws
+/// about the errors that mean an impossible symbol:
 ///
 /// - `encodes` allows none of these errors, because `encodes` describes only the steps of symbols with an entry.
 /// - None of these errors means lack of room.
@@ -88,13 +88,13 @@ pub trait Encode<const PRECISION: usize>: Code {
 
     /// Holds if `maybe_full` can determine whether there is room.
     ///
-    /// An implementor chooses freely when `tells_room` holds. If `tells_room` doesn't hold, `maybe_full` guarantees
-    /// nothing.
+    /// An implementor freely chooses the states in which `tells_room` holds. If `tells_room` doesn't hold, `maybe_full`
+    /// guarantees nothing.
     ghost tells_room: { Self → Type 0 };
 
     /// Returns the number of symbols that the caller may still encode.
     ///
-    /// Encoding a symbol lowers this number by at most 1. Coders without a limit return `usize::MAX`.
+    /// Encoding a symbol lowers this number by at most 1. A coder without a limit can return `usize::MAX`.
     fn symbols_left(&self) -> usize
         ensures { result ≡ symbols_left self.now };
 
@@ -256,7 +256,7 @@ pub trait Encode<const PRECISION: usize>: Code {
     /// Returns whether the coder may refuse the next symbol for lack of room.
     ///
     /// Suppose that the coder can determine whether there is room (`tells_room`). If the call then returns `false`, the
-    /// coder doesn't refuse the next symbol for lack of room.
+    /// coder doesn't refuse the next symbol for lack of room. The default method always returns `true`.
     fn maybe_full(&self) -> bool
         ensures room { OnFalse result (tells_room self.now → HasRoom encodes is_lack_of_room self.now) }
     {

@@ -1,14 +1,15 @@
 //! Iterators over the symbols that a decoder returns.
 //!
 //! The iterators are lazy: they decode a symbol only when the caller calls `next`. They return one result for each
-//! model. An error doesn't end an iterator. After the caller drops an iterator, the decoder is positioned after the
-//! symbols returned so far.
+//! model, or a given number of results under one model. An error doesn't end an iterator. After the caller drops an
+//! iterator, the decoder is positioned after the symbols returned so far.
 //!
 //! The fields are public, because contracts name the decoder and the models that are left. The methods of `Decode` that
 //! return the iterators are `final`: if they were plain default methods, no impl of `Decode` could be proved.
 //!
 //! - [`decode_symbols`]: one symbol for each model.
-//! - [`try_decode_symbols`]: one symbol for each model, where an item may be an error instead of a model.
+//! - [`try_decode_symbols`]: one symbol for each model. If the caller's iterator returns an error in place of a model,
+//!   the iterator returns this error.
 //! - [`decode_iid_symbols`]: a given number of symbols under one model.
 
 pub mod decode_iid_symbols;

@@ -59,7 +59,7 @@ where
     coder.encode_iid_symbols(symbols, model)
 }
 
-/// Decodes one symbol with an iterator over three symbols, and leaves the other two on the coder.
+/// Decodes one symbol with an iterator over three symbols, and leaves the other two undecoded.
 ///
 /// Returns the iterator's first item, which is never `None`.
 pub fn first_of_three<C, M>(
@@ -115,7 +115,8 @@ where
 
 /// Encodes the items of a list in which the second item is the error 7.
 ///
-/// The call stops at this error, after one symbol, and returns the error.
+/// The call encodes one symbol, stops at this error and returns it. If the first symbol fails, the call returns that
+/// symbol's error instead.
 pub fn encode_one<C, M>(
     coder: &mut C,
     symbol: &M::Symbol,
@@ -189,7 +190,9 @@ where
     coder.encode_iid_symbols_reverse(symbols, model)
 }
 
-/// Encodes a symbol. Returns the error for an impossible symbol if and only if the model has no entry for `symbol`.
+/// Encodes a symbol.
+///
+/// Returns an error that means an impossible symbol if and only if the model has no entry for `symbol`.
 pub fn encode_exactly<C, M>(
     coder: &mut C,
     symbol: &M::Symbol,

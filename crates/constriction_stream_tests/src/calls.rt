@@ -21,11 +21,11 @@ pub enum Put {
     Done,
     /// A symbol was impossible.
     Impossible,
-    /// There was no memory.
+    /// There is no memory.
     Refused,
     /// The list had this error in place of a symbol and its model.
     Bad(u8),
-    /// The pile takes no more symbols, so the call was not made.
+    /// The pile takes fewer symbols than the list has, so the call was not made.
     Full,
 }
 

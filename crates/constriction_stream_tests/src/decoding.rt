@@ -1,4 +1,4 @@
-//! Tests that decode symbols from a pile, one by one and with iterators.
+//! Tests that decode symbols from a `Pile`, the coder of these tests, one by one and with iterators.
 
 use crate::callers::{
     decode_all, decode_unless_exhausted, encode_some, first_is_bad, first_of_models,

@@ -1,14 +1,19 @@
 //! Tests of the coder traits, with a pile of quantiles as the coder, and with callers that are generic over coders.
 //!
-//! The contracts of `constriction_stream` are proved there for all coders. These tests check what no contract can
-//! state: list calls and iterators stop and go on where a reader expects, and they can succeed. The tests are a
-//! separate crate, so that `constriction_stream` is proved once.
+//! The contracts are proved in `constriction_stream`, for all coders. The tests check what no contract can state:
 //!
-//! `tests/cases/constriction_stream_tests` has tests that run without a proof, with `tests/unproved`. They cover lists
-//! and iterators that stop at a fault, and the items that they request from their callers' iterators.
+//! - Calls that encode a list, and iterators that decode, can succeed.
+//! - After an error, each of them stops or continues as expected.
 //!
-//! [`calls`] wraps calls whose contracts are expensive in proofs, in functions without a contract. So the proof of a
-//! helper doesn't use these contracts.
+//! The tests are a separate crate, so that `constriction_stream` is proved once. `tests/unproved` runs the tests of
+//! `tests/cases/constriction_stream_tests` without a proof. They cover three things:
+//!
+//! - Which items the calls and iterators request from the caller's iterator.
+//! - The size hints.
+//! - The texts of errors.
+//!
+//! [`calls`] wraps calls whose contracts are expensive in proofs. The wrappers have no contract, so the proofs of
+//! their callers don't use the contracts of these calls.
 #![tactic(auto)]
 
 #[cfg(test)]

@@ -27,9 +27,9 @@ impl<'a, T> Iterator for Ones<'a, T> {
     }
 }
 
-/// An iterator of `count` items: the reference `one` again and again, and one error.
+/// An iterator of `count` items: the reference `one` again and again, and the error 7 once.
 ///
-/// The error is the item after which `bad` items are left.
+/// The error is the item after which `bad` items are left. If `bad` is at least `count`, there is no error.
 #[derive(Drop)]
 pub struct Mixed<'a, T> {
     pub count: usize,

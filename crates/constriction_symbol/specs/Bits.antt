@@ -1,4 +1,4 @@
--- The bits of words, and what a bit coder holds, writes and reads.
+-- The words that hold the bits of a queue or a stack, and reads and writes of bits.
 use Rattle.std.specs.Prelude.{◌≡◌, ℕ, zero, suc, ◌/◌, ◌%◌, ◌^◌, ◌<◌, ◌≤◌, ◌+◌, ◌-◌, Bool, true, false, List, [], ◌∷◌, ◌++◌, ◌==◌, ◌⊎◌, flat_map, map, replicate, reverse, length, Result, Ok, Err, Option, Some, None}
 use Rattle.constriction_base.specs.Backends.{IsWrite}
 

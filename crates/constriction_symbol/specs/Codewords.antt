@@ -1,4 +1,4 @@
--- What codebooks emit and read, and what streams of bits write.
+-- Codewords as codebooks emit and read them, and as bit streams write them.
 use Rattle.std.specs.Prelude.{◌≡◌, ℕ, ◌<◌, ◌^◌, reverse, Bool, List, [], ◌∷◌, ◌++◌, ◌⊎◌, Option, Some, None, Result, Ok, Err, map, ⊤}
 use Rattle.std.specs.Iterator.{Yields}
 use Rattle.constriction_symbol.specs.Bits.{bits_of, top_bits}

@@ -1,4 +1,4 @@
--- Decoding trees: a list of pairs of children as a tree, and its decoding table.
+-- Huffman trees for decoding: a tree as a list of pairs of children, and its decoding table.
 use Rattle.std.specs.Prelude.{◌≡◌, ◌+◌, ◌*◌, ◌<◌, ◌≤◌, ◌^◌, ◌⊎◌, Bool, List, Some, ℕ, get_or, length, map, take}
 use Rattle.constriction_symbol.specs.Bits.{top_bits}
 use Rattle.constriction_symbol.specs.EncoderTree.{HasBelowOne}

@@ -1,4 +1,4 @@
--- Encoding trees: a list of parents as a tree, and its codewords as numbers.
+-- Huffman trees for encoding: a tree as a list of parents, and its codewords as numbers.
 use Rattle.std.specs.Prelude.{◌≡◌, ◌+◌, ◌-◌, ◌*◌, ◌/◌, ◌^◌, ◌<◌, ◌≤◌, ◌⊎◌, Bool, List, Some, None, ℕ, get_or, length, reverse}
 use Rattle.constriction_symbol.specs.Bits.{bits_of}
 use Rattle.constriction_symbol.specs.Huffman.{GoesUp, Tree, climbed, leaves, path, tree_in}

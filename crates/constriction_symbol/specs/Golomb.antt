@@ -1,4 +1,4 @@
--- The Exp-Golomb codewords, and the bits that a reader accepts.
+-- The Exp-Golomb codewords, and the bits after which a reader reads on or stops with an error.
 use Rattle.std.specs.Prelude.{◌≡◌, ℕ, ◌+◌, ◌-◌, ◌<◌, ◌≤◌, ◌==◌, ◌⊎◌, Bool, true, false, List, ◌++◌, length, map, replicate, ◌*◌, [], ◌∷◌, if◌then◌else◌}
 use Rattle.std.specs.Int.Digits.{digits_of}
 

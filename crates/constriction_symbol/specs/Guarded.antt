@@ -1,4 +1,4 @@
--- The coder that a guard borrows, and the number of words it wrote, for readers of its contracts.
+-- The bit coder that a guard borrows, and the number of words that the guard wrote.
 use Rattle.std.specs.Prelude.{ℕ, Vec}
 use Rattle.std.specs.Borrow.{MutBor}
 use Rattle.constriction_symbol.specs.declared.coder.SymbolCoder.{SymbolCoder}

@@ -1,4 +1,4 @@
--- The words that a guard writes onto a coder's vector and removes again.
+-- The words that a guard writes onto a bit coder's vector and removes again.
 use Rattle.std.specs.Prelude.{◌≡◌, ◌-◌, ◌<◌, ◌≤◌, ℕ, List, Bool, [], Vec, drop, length, reverse, vec_capacity, vec_len}
 use Rattle.constriction_symbol.specs.Bits.{BitsValue, bits_above}
 

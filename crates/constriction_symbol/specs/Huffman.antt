@@ -91,7 +91,7 @@ occurrences symbol (s ∷ symbols) = (if s == symbol then 1 else 0) + occurrence
 abbrev pub IsWithoutRepeats : List ℕ → Type 0
 IsWithoutRepeats symbols = (symbol : ℕ) → occurrences symbol symbols ≤ 1
 
--- n symbols, from `symbol` on.
+-- Returns the list of `n` symbols from `symbol` on. Each symbol is the previous symbol plus 1.
 abbrev pub symbols_from : ℕ → ℕ → List ℕ
 symbols_from symbol zero = []
 symbols_from symbol (suc n) = symbol ∷ symbols_from (symbol + 1) n

@@ -1,4 +1,4 @@
--- Laws of Huffman codebooks: no codeword begins another one, or bits that lead to an inner node.
+-- Laws of Huffman codebooks: no codeword is a prefix of another one, or of bits that lead to an inner node.
 use Rattle.std.proofs.Common.{◌≡◌, ◌==◌, ℕ, Bool, true, false, List, [], ◌∷◌, ◌++◌, Option, Some, None, ap, sym, inl, inr, refl, ◌∙◌, ◌⊎◌}
 use Rattle.std.proofs.lemmas.Bool.{eqb-true}
 use Rattle.std.proofs.lemmas.Option.{cond_some, same_Some}

@@ -1,4 +1,4 @@
--- Lists of symbols as concatenated codewords, and decodes of them.
+-- Lists of symbols as concatenated codewords, and the decoding of such lists.
 use Rattle.std.specs.Prelude.{◌≡◌, Bool, List, [], ◌∷◌, ◌++◌, Option, Some, Result, Ok, ⊤}
 use Rattle.std.specs.List.{zip}
 use Rattle.constriction_base.specs.Steps.{InTurn}

@@ -1,4 +1,4 @@
--- Which weights make a Huffman tree, which errors the others give, and which pairs a merge joins.
+-- The weights that make a Huffman tree, the errors for other weights, and the pairs that merging joins.
 use Rattle.std.specs.Prelude.{◌≡◌, ℕ, ◌<◌, ◌≤◌, ◌^◌, ◌⊎◌, List, [], ◌++◌, get_or, length, map, sum_by, Option, Some, Result, Ok, Err}
 use Rattle.std.specs.Iterator.{Drains, YieldsThen}
 use Rattle.constriction_symbol.specs.Huffman.{IsHuffman, IsMerged, Tree, book_of}

@@ -1,4 +1,4 @@
--- The two queues of a merge, leaves and unions, as weights and indices.
+-- The two sorted queues of Huffman's algorithm (leaves and unions), as pairs of a weight and an index.
 use Rattle.std.specs.Prelude.{ℕ, ◌<◌, ◌≤◌, List, [], ◌∷◌, All, ⊤}
 use Rattle.constriction_symbol.specs.Huffman.{IsPairLe}
 

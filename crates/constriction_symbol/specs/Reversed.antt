@@ -1,4 +1,4 @@
--- Encoding reversed codewords, and writing suffix forms to a stack.
+-- Emitting reversed codewords, and pushing codewords in suffix form onto a stack of bits.
 use Rattle.std.specs.Prelude.{◌≡◌, ℕ, ◌<◌, Bool, List, length, reverse, Option, Some, None, Result, Ok, Err}
 use Rattle.std.specs.Fn.{Mut}
 use Rattle.constriction_base.specs.declared.errors.CoderError.TheVariants.{Frontend, Backend}

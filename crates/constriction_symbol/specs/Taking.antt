@@ -1,4 +1,4 @@
--- Zeros and numbers that a reader takes from an iterator of `Result`s of bits.
+-- Reading zeros and numbers from an iterator over `Result`s of bits, for Exp-Golomb codewords.
 use Rattle.std.specs.Prelude.{◌≡◌, ℕ, ◌+◌, ◌≤◌, Bool, true, false, List, [], ◌∷◌, ◌++◌, length, replicate, Option, Result, MatchOption}
 use Rattle.constriction_symbol.specs.Codewords.{GivesBits}
 use Rattle.constriction_symbol.specs.Golomb.{number_after}

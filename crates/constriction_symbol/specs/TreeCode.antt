@@ -1,4 +1,5 @@
--- A code of trees as lists of numbers, by which contracts see a struct as a tree.
+-- An invertible code of Huffman trees as lists of numbers, in postorder. With this code, contracts describe a struct
+-- by its tree.
 use Rattle.std.proofs.Common.{◌≡◌, ℕ, zero, suc, List, [], ◌∷◌, ◌++◌, ap, sym, refl, ◌∙◌, append_assoc, append-nil}
 use Rattle.std.specs.Coded.{Coded, code_by, coded_list, coded_ℕ}
 use Rattle.constriction_symbol.specs.Huffman.{Tree}

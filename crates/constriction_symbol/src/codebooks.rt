@@ -42,8 +42,9 @@ pub trait Codebook: Drop {
 
 /// A codebook for encoding, which passes the bits of a codeword to a function, one by one.
 ///
-/// An implementor proves that the bits passed are the codeword. The implementor also defines for which symbols a call
-/// may need memory (`prefix_wants`, `suffix_wants`).
+/// An implementor proves that a call without an error passes exactly the bits of the codeword, in the order of the
+/// call's form. The implementor also defines for which symbols a call may need memory (`prefix_wants`,
+/// `suffix_wants`).
 pub trait EncoderCodebook: Codebook {
     /// Holds if emitting the symbol's codeword from the first bit to the last (the prefix form) may need memory.
     ghost prefix_wants: { Self → Self.Symbol → Type 0 };
@@ -204,11 +205,11 @@ impl<InvalidCodeword> SymbolCodeError<InvalidCodeword> {
 /// A codebook for decoding, which reads symbols from bits.
 ///
 /// An implementor defines after which bits the codebook reads another bit (`reads_on`), and which bits are invalid
-/// (`is_invalid`). The implementor proves two laws. The codebook reads on only while no codeword is complete. Invalid
-/// bits don't begin with a codeword, whatever bits follow them.
+/// (`is_invalid`). The implementor proves two laws. The codebook reads on only while no codeword is complete. Bits
+/// that begin with invalid bits don't begin with a codeword.
 ///
 /// Suppose that the bits begin with a codeword, and that the source returns no error. Then a decode reads exactly this
-/// codeword, and returns a symbol that has it.
+/// codeword, and returns a symbol with this codeword.
 pub trait DecoderCodebook: Codebook {
     /// The error of a decode that reads bits with which no codeword begins.
     type InvalidCodeword;

@@ -1,4 +1,4 @@
-//! Equality of `WordBits` and `TopBits`, the lists of bits that are stored in one word.
+//! Equality of two `WordBits`, and of two `TopBits`. Both types store a list of bits in one word.
 
 ghost use Rattle.std.specs.Prelude.{IsTrue, ◌↔◌, ◌≡◌};
 

@@ -161,7 +161,7 @@ impl<N: BitArray> EncoderCodebook for ExpGolomb<N> {
     }
 }
 
-/// The error for bits with which no codeword of an [`ExpGolomb`] begins, such as 9 zeros for `ExpGolomb<u8>`.
+/// The error if no codeword of an [`ExpGolomb`] begins with the bits read, such as 9 zeros for `ExpGolomb<u8>`.
 #[derive(Debug, Clone, PartialEq, Eq, Drop, Error)]
 #[error("Invalid Exp-Golomb codeword.")]
 pub struct InvalidCodeword;

@@ -19,7 +19,7 @@ use std::marker::PhantomData;
 /// An iterator that decodes one symbol with each codebook of the iterator `I`.
 ///
 /// The iterator is lazy: each call of `next` decodes one symbol. After an error, the iterator continues with the next
-/// codebook. Dropping the iterator leaves the stream positioned after the symbols returned so far.
+/// codebook. Dropping the iterator leaves the stream positioned after the last bit read.
 /// [`ReadBitStream::decode_symbols`] and [`ReadBitStream::decode_iid_symbols`] return this iterator.
 ///
 /// # Examples
@@ -31,7 +31,7 @@ use std::marker::PhantomData;
 /// ```
 #[derive(Debug, Drop)]
 pub struct DecodeSymbols<'a, Stream, I, S: Semantics> {
-    /// The stream, positioned after the symbols returned so far.
+    /// The stream, positioned after the last bit read.
     pub bit_stream: &'a mut Stream,
     /// The codebooks of the symbols still to come.
     pub codebooks: I,

@@ -17,15 +17,15 @@
 //! # Modules
 //!
 //! - [`codebooks`]: the traits of codebooks, and the error of a decode.
-//! - [`coder`]: `SymbolCoder`, which is a stack of bits or a queue of bits for writing; import and export of words;
-//!   guards.
+//! - [`coder`]: `SymbolCoder`, which is either a stack of bits or the writing end of a queue of bits; import and export
+//!   of words; guards.
 //! - [`queue`]: `QueueDecoder`, which reads a queue of bits from words.
 //! - [`writing`], [`reading`]: streams of bits that encode and decode symbols, one at a time or a whole list.
 //! - [`reversed`]: emits codewords from the first bit to the last, for codebooks that find the last bit first.
 //! - [`iterators`]: iterators over decoded symbols.
 //! - [`exp_golomb`]: the Exp-Golomb codebook for numbers.
-//! - [`huffman`]: Huffman trees for encoding and decoding. No prefix-free codebook for the same weights has a lower sum
-//!   of each symbol's weight times the length of its codeword.
+//! - [`huffman`]: Huffman trees for encoding and decoding. No prefix-free codebook for the same weights costs less. The
+//!   cost is a sum over all symbols: the symbol's weight times the length of its codeword.
 //!
 //! # Definitions
 //!

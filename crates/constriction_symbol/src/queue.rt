@@ -87,8 +87,10 @@ impl<Word: BitArray, B: ReadWords<Word, Queue>> QueueDecoder<Word, B> {
 
     /// Returns whether the unread bits may all be padding (zeros that complete the last word).
     ///
-    /// Returns `true` if and only if the unread bits of the word read last are all 0, and the backend's
-    /// `maybe_exhausted` returns `true`.
+    /// Returns `true` if and only if both conditions hold:
+    ///
+    /// - The unread bits of the word read last are all 0.
+    /// - The backend's `maybe_exhausted` returns `true`.
     pub fn maybe_exhausted(&self) -> bool
         ensures { IsTrue result ↔ (AreZeros self.now.last × IsTrue (B.seems_exhausted self.now.backend)) }
     {

@@ -23,7 +23,7 @@ use std::marker::PhantomData;
 /// follow the list (`is_list`). The implementor proves that each call obeys these definitions.
 ///
 /// The implementor also proves a law for reads that follow the list: each read returns the first unread bit, `None` if
-/// no bit is unread, or an error.
+/// no bit is left, or an error.
 pub trait ReadBitStream<S: Semantics> {
     type ReadError;
 
@@ -43,7 +43,7 @@ pub trait ReadBitStream<S: Semantics> {
     /// # Errors
     ///
     /// Returns the error of the bits' source (for example a backend) if a read from the source fails. If reads follow
-    /// the list of unread bits (`is_list`), the list is then unchanged.
+    /// the list of unread bits (`is_list`), a read that fails leaves the list unchanged.
     fn read_bit(&mut self) -> Result<Option<bool>, Self::ReadError>
         ensures { gives self.old (item_of_answer result) self.new };
 

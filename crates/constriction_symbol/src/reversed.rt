@@ -58,7 +58,7 @@ fn put<Word: BitArray, B: WriteWords<Word>>(
     put_last(&mut stack.backend, &mut stack.last, bit)
 }
 
-/// Pushes `bit` onto a small stack, whose first `2 * usize::BITS` bits need no memory.
+/// Pushes `bit` onto a small stack, which holds `2 * usize::BITS` bits without allocating.
 ///
 /// # Errors
 ///

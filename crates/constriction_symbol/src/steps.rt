@@ -42,8 +42,8 @@ pub fn put_last<Word: BitArray, B: WriteWords<Word>>(
 ///
 /// If `last` has no room for all of them, the first bits fill `last`. The call then writes the full word to the
 /// backend, and the remaining bits begin the next word. If the backend refuses the word, the call returns the backend's
-/// error, and `last` stays full. The caller proves that `0 < count < Word::BITS`, and that all higher bits of `bits`
-/// are 0.
+/// error, and `last` keeps the bits that filled it. The caller proves that `0 < count < Word::BITS`, and that all
+/// higher bits of `bits` are 0.
 #[inline]
 pub fn put_bits<Word: BitArray, B: WriteWords<Word>>(
     backend: &mut B,

@@ -39,8 +39,8 @@ pub fn next_bit<V, E, I: Iterator<Item = Result<bool, E>>>(
 
 /// Reads bits up to and including the first 1, and returns the number of zeros before the 1.
 ///
-/// If more than `most` zeros come first, the call reads `most + 1` zeros and returns `None`. The caller proves that
-/// `most` is below 1000.
+/// If the bits begin with more than `most` zeros, the call reads `most + 1` zeros and returns `None`. The caller
+/// proves that `most` is below 1000.
 ///
 /// # Errors
 ///

@@ -2,7 +2,7 @@
 //!
 //! `BitArray` has no operation for these two tasks, so the functions loop over the bits. The compiler turns a loop of
 //! up to about twenty iterations into a few masks and shifts, or a move. So each function loops over one quarter
-//! of a word at a time.
+//! of a word at a time, which is 16 bits of a `u64`.
 
 ghost use Rattle.constriction_symbol.specs.Bits.{bits_of};
 ghost use Rattle.constriction_symbol.specs.Golomb.{number_after};

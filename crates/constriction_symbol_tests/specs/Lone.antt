@@ -1,4 +1,4 @@
--- The codeword of a codebook that has one.
+-- The only codeword of a codebook in the tests: a 1, and then a given number of zeros.
 use Rattle.std.specs.Prelude.{ℕ, Bool, true, false, List, [], ◌∷◌, ◌++◌, Option, Some, replicate, reverse}
 
 -- The codeword from the last bit to the first: the given number of zeros, and then a 1.

@@ -28,7 +28,10 @@ pub fn shows_stack<Word: BitArray + PartialEq, A: Allocator>(
     Ok(guard.words() == words)
 }
 
-/// Writes the bits `101` to an empty queue. Returns whether a guard lends the word 5, and its drop leaves three bits.
+/// Writes the bits `101` to an empty queue, and returns whether a guard then lends the word 5.
+///
+/// Also returns `false` if the queue isn't empty at first, or if it doesn't have three bits before the guard exists or
+/// after the guard is dropped.
 pub fn shows_five(coder: &mut DefaultQueueEncoder) -> bool {
     has_len(coder, 0)
         && writes::<Queue, _>(coder, b"101")

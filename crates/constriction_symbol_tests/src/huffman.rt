@@ -1,4 +1,4 @@
-//! Tests of Huffman trees: worked codewords and refusals.
+//! Tests of Huffman trees: the codewords of given weights, and the errors for weights that make no tree.
 
 use constriction_base::errors::CoderError;
 use constriction_symbol::codebooks::EncoderCodebook;
@@ -11,7 +11,7 @@ use std::convert::Infallible;
 
 /// The bits of a codeword that a call emitted, or the reason why the call stopped.
 ///
-/// `Bits` has the bits as a number, with the first bit highest. The last field of each variant is the number of bits
+/// `Bits` holds the bits as a number, with the first bit highest. The last field of each variant is the number of bits
 /// emitted.
 #[derive(Drop)]
 pub enum Coded {
@@ -88,7 +88,7 @@ pub fn decoder_of(
 
 /// Returns whether the trees of an encoder and a decoder both have exactly the codewords `codes`.
 ///
-/// `codes` lists each codeword's bits as a number, and the number of its bits.
+/// `codes` lists each symbol's codeword, as a binary number, and the codeword's length in bits.
 pub fn have_codes(
     alloc: Global,
     encoder: &EncoderHuffmanTree,

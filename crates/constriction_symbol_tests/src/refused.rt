@@ -2,8 +2,9 @@
 //!
 //! `tests/refused-memory` runs these tests once for each request for memory that they make, and refuses this request.
 //! The call that made the request must report that there is no memory, leave the coder as its contract says, and
-//! succeed when it is made again. The test then fails with the call's name. If no request is refused, a test passes.
-//! The expected words come from lists of bits, and not from this library.
+//! succeed when it is made again. If the call does so, the test returns an error with the call's name, which
+//! `tests/refused-memory` expects. If no request is refused, a test passes. The expected words come from lists of bits,
+//! and not from this library.
 
 use crate::bits::{gives, writes};
 use crate::codewords::Put;

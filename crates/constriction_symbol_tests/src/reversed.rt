@@ -1,6 +1,6 @@
 //! A codebook that finds its codeword from the last bit to the first, for tests of `reversed_codeword`.
 //!
-//! Reversing up to 128 bits takes no memory. Reversing more bits may fail.
+//! Reversing up to 128 bits allocates no memory. Reversing more bits fails if there is no memory.
 
 ghost use Rattle.constriction_symbol.specs.Codewords.{Emits};
 ghost use Rattle.constriction_symbol.specs.Reversed.{IsLongerThan};
@@ -89,7 +89,8 @@ fn emit_lone<E, F: FnMut(bool) -> Result<(), E>>(
 
 /// Writes a codeword of `zeros + 1` bits to a queue over a buffer, and checks the words.
 ///
-/// If there is no memory, the function checks that no bit was written, and returns an error that reports both facts.
+/// Returns an error if the words are wrong or the write fails. If there is no memory and no bit was written, the error
+/// reports both facts.
 pub fn turned_round(alloc: Global, zeros: u32) -> Result<(), Fail> {
     let mut words = [0u64; 3];
     let mut coder: QueueEncoder<u64, Cursor<u64, &mut [u64]>> = QueueEncoder::from_compressed(

@@ -1,4 +1,4 @@
-//! Tests of worked values. The words and bits were computed by hand.
+//! Tests of worked examples. The expected words and bits are computed by hand.
 
 use crate::bits::{gives, writes};
 use crate::coders::{LentQueue, exports, has_len, holds_stack, queue_goes, word_queue};

@@ -1,4 +1,4 @@
--- Two facts about numbers below a power of two, which the laws of the word traits cite.
+-- Two lemmas for the laws of the word traits: x % 2 ^ bits < 2 ^ bits, and 0 < n + 1.
 use Rattle.std.specs.Prelude.{ℕ, ◌+◌, ◌<◌, ◌%◌, ◌^◌}
 use Rattle.std.proofs.Common.{arith}
 use Rattle.std.proofs.lemmas.Nat.{pow_pos, mod_below}

@@ -1,4 +1,4 @@
--- When a multiplier, an addend and a shift divide exactly by a number.
+-- The reciprocal of a divisor: a multiplier, an addend and a shift that give the exact quotient of each 64-bit number.
 use Rattle.std.specs.Prelude.{◌≡◌, ℕ, ◌+◌, ◌*◌, ◌/◌, ◌^◌, ◌<◌}
 use Rattle.constriction_words.specs.declared.reciprocal.Reciprocal.{Reciprocal}
 

@@ -29,7 +29,7 @@ mod of_usize;
 ///
 /// - The number of a word is below `2 ^ BITS`.
 /// - The number of a `NonZero` is above 0.
-/// - `BITS` is between 8 and 128.
+/// - `BITS` is at least 8 and at most 128.
 ///
 /// No method shares its name with a method of `num_traits`. Code that needs `BitArray` and a trait of `num_traits`
 /// writes both bounds, as in `Word: BitArray + PrimInt`, and calls every method by its bare name.

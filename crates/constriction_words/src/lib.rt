@@ -11,7 +11,7 @@
 //!
 //! - A word's number is below `2 ^ BITS`.
 //! - The number of a `NonZero` is above 0.
-//! - `BITS` is between 8 and 128.
+//! - `BITS` is at least 8 and at most 128.
 //! - A word type that is `WordOf<T>` has at most `T::BITS` bits.
 //!
 //! For example, this function computes the mean of two words, rounded down. It adds the halves of the words, because

@@ -1,4 +1,4 @@
-//! `WordOf`: conversions between a word and a word type at least as wide.
+//! `WordOf`: conversions between words of a type and words of a type that is at least as wide.
 
 ghost use Rattle.std.specs.Prelude.{◌≡◌, ◌%◌, ◌^◌, ◌≤◌};
 ghost use Rattle.std.proofs.Common.{rules};
@@ -32,7 +32,7 @@ pub trait WordOf<T: BitArray>: BitArray {
     fn widen(self) -> T
         ensures { T.number result ≡ Self.number self };
 
-    /// Returns the lowest `Self::BITS` bits of `wide`, which is `wide` modulo `2 ^ Self::BITS`.
+    /// Returns `wide` modulo `2 ^ Self::BITS`, which keeps the lowest `Self::BITS` bits of `wide`.
     fn narrow(wide: T) -> Self
         ensures { Self.number result ≡ T.number wide % 2 ^ Self.BITS };
 

@@ -1,10 +1,12 @@
-//! The methods of `BitArray` with preconditions, as functions that return `None` if the precondition doesn't hold.
+//! Functions that call methods of `BitArray`.
+//!
+//! Each function that returns an `Option` returns `None` if the method's precondition doesn't hold.
 
 ghost use Rattle.std.specs.Prelude.{◌≡◌, ◌+◌, ◌-◌, ◌*◌, ◌/◌, ◌%◌, ◌^◌, ◌<◌, ◌≤◌, MatchOption};
 
 use constriction_words::{BitArray, Reciprocal};
 
-/// Returns the sum of `first` and `second`, or `None` if it doesn't fit the type.
+/// Returns the sum of `first` and `second`, or `None` if the sum doesn't fit the type.
 pub fn sum<W: BitArray>(first: W, second: W) -> Option<W>
     ensures { MatchOption result (2 ^ W.BITS ≤ W.number first + W.number second) (λ sum. W.number sum ≡ W.number first + W.number second) }
 {
@@ -22,7 +24,7 @@ pub fn difference<W: BitArray>(first: W, second: W) -> Option<W> {
     Some(first.minus(second))
 }
 
-/// Returns the product of `first` and `second`, or `None` if it doesn't fit the type.
+/// Returns the product of `first` and `second`, or `None` if the product doesn't fit the type.
 #[tactic(auto, using(crate::proofs::Fitting::fits_by_quotient))]
 pub fn product<W: BitArray>(first: W, second: W) -> Option<W> {
     if second.is_nothing() {
@@ -44,7 +46,7 @@ pub fn quotient<W: BitArray>(first: W, second: W) -> Option<W> {
 
 /// Returns `first` divided by `second`, rounded down, or `None` if `second` is 0.
 ///
-/// Uses a reciprocal if `second` has at most 64 bits.
+/// Calls the method `quotient_by` with a reciprocal if `second` is below `2^64`, and the method `quotient` otherwise.
 #[tactic(auto, using(crate::proofs::Fitting::fits_by_length))]
 pub fn quotient_by<W: BitArray>(first: W, second: W) -> Option<W> {
     if second.is_nothing() {
@@ -66,6 +68,8 @@ pub fn remainder<W: BitArray>(first: W, second: W) -> Option<W> {
 }
 
 /// Returns `number` shifted left by `by` bits, or `None` if the result doesn't fit the type.
+///
+/// The caller proves that `by` is below `W::BITS`.
 #[tactic(auto, using(crate::proofs::Fitting::fits_by_quotient))]
 pub fn shifted<W: BitArray>(number: W, by: u32) -> Option<W>
     requires { by < W.BITS }
@@ -86,7 +90,7 @@ pub fn through_nonzero<W: BitArray>(number: W) -> W
     }
 }
 
-/// Returns `number` as a `usize`, or `None` if it doesn't fit.
+/// Returns `number` as a `usize`, or `None` if `number` is `2^64` or more.
 #[tactic(auto, using(crate::proofs::Fitting::fits_by_length))]
 pub fn index<W: BitArray>(number: W) -> Option<usize> {
     if number.bit_length() > usize::BITS {

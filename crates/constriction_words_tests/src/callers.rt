@@ -1,4 +1,6 @@
-//! Generic callers without preconditions: all results fit, because each word is below `2^BITS`.
+//! Generic functions that call methods of `BitArray` and need no preconditions.
+//!
+//! Each word is below `2^BITS`, so that all results fit.
 
 ghost use Rattle.std.specs.Prelude.{◌≡◌, ◌+◌, ◌/◌, ◌^◌, ◌<◌};
 

@@ -1,13 +1,16 @@
 //! Tests of each method of `BitArray` and `WordOf` at boundary values of 8 bits.
 //!
-//! Small generic callers without preconditions are tested too. The expected values were computed separately.
+//! The tests also cover generic functions that call these methods. The expected values are computed separately.
 //!
-//! The contracts of `constriction_words` are proved there for all values. These tests check what no contract can state:
-//! the definitions have the values that a reader expects, the machine's operations return the proved values, and a
-//! caller can call each method. The tests are a separate crate, so that `constriction_words` is proved once.
+//! The contracts are proved in `constriction_words`, for all values. The tests check what no contract can state:
 //!
-//! `tests/cases/constriction_words_tests` tests the methods at the other types, and many reciprocals. These tests run
-//! without a proof, with `tests/unproved`.
+//! - The definitions give the expected values.
+//! - The machine's operations return the proved values.
+//! - A caller can call each method.
+//!
+//! The tests are a separate crate, so that `constriction_words` is proved once. `tests/unproved` runs the tests of
+//! `tests/cases/constriction_words_tests` without a proof. They cover the methods at the other types, and many
+//! reciprocals.
 #![tactic(auto)]
 
 #[cfg(test)]

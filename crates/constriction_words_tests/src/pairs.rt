@@ -7,7 +7,7 @@ use constriction_words::BitArray;
 #[derive(Drop)]
 pub struct Pair<W> {
     pub numbers: (W, W),
-    /// The sum, difference, product, quotient and remainder, each `None` if its precondition fails.
+    /// The sum, difference, product, quotient and remainder, each `None` if the precondition of its method fails.
     pub exact: [Option<W>; 5],
     pub is_below: bool,
     /// The wrapping sum and difference.

@@ -1,2 +1,3 @@
--- The condition that a chain coder fits in memory. Generic code that holds a chain coder requires it.
+-- The condition that a chain coder takes less than 2 ^ 63 bytes of memory. Generic code that holds a chain coder
+-- requires this condition.
 pub use Rattle.constriction_chain.specs.Fits.{CoderFits}

@@ -1,2 +1,2 @@
--- The chain coders that imports make from words, and the words of coders without bits left over.
+-- The chain coder that an import makes from words, and the words that a coder without bits left over exports.
 pub use Rattle.constriction_chain.specs.Imports.{compressed_words, AreBinaryWords, IsWhole, FromCompressed, FromBinary, FromRemainders}

@@ -1,2 +1,2 @@
--- Lists of decodes and precision changes on a chain coder, and the isolation of symbols between two lists.
+-- Lists of decodes and precision changes on a chain coder. Comparing two lists states that symbols are isolated.
 pub use Rattle.constriction_chain.specs.Runs.{Decoding, Event, Decode, Change, IsRun, decodings, AreIsolated}

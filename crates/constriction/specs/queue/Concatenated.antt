@@ -1,2 +1,2 @@
--- Lists of symbols in concatenated words, and the errors of encoding and decoding them.
+-- Lists of symbols as self-delimiting words, which can be concatenated.
 pub use Rattle.constriction_laws.specs.queue.Concatenated.{DelimitsItems, ReadsItems}

@@ -1,2 +1,2 @@
--- Refused writes of a list of words, after which the backend holds only a beginning of the list.
+-- Lists of words of which the backend refuses one. The words written before the refused word stay on the backend.
 pub use Rattle.constriction_base.specs.Writing.{IsBegun, NotWritten}

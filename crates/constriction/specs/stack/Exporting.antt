@@ -1,2 +1,2 @@
--- The words that a stack coder exports after encodes, and the positions recorded between encodes.
+-- The words that a stack coder exports after encoding a list of symbols, and states without a binary form.
 pub use Rattle.constriction_laws.specs.stack.Exporting.{ExportsAll, ComesFromNoWords, LeadsToNoBinary}

@@ -1,5 +1,5 @@
--- Weights make a table: the facts that the laws of `WeightTable` cite. They stand beside the definitions, because a
--- law may not cite the proofs of its own crate.
+-- Proofs that weights with the sum 2 ^ precision make a table, for the laws of `WeightTable`. They stand beside the
+-- definitions, because a law may not cite the proofs of its own crate.
 use Rattle.std.specs.Prelude.{sum}
 use Rattle.std.proofs.Common.{◌≡◌, ℕ, zero, suc, ◌+◌, ◌-◌, ◌<◌, ◌≤◌, ◌^◌, List, [], ◌∷◌, inl, inr, length, get_or, map, refl, sym, ap, arith, add-one, pow_pos}
 use Rattle.std.proofs.lemmas.Bool.{cases_lt}

@@ -18,8 +18,8 @@ use crate::backends::writing::WriteWords;
 /// in the order in which they were written.
 ///
 /// Coders require this trait of a backend that they write to as a stack and then pass to a decoder as a queue. Vectors
-/// and slices implement the trait. A cursor doesn't, because its position separates the words of its stack from the
-/// words of its queue.
+/// and immutable slices implement the trait. A cursor doesn't, because its position separates the words of its stack
+/// from the words of its queue.
 ///
 /// An implementor proves one law: the list of the queue is the reverse of the list of the stack.
 pub trait BothWays<Word>: Holds<Word, Stack> + Holds<Word, Queue> {

@@ -28,8 +28,8 @@ pub trait Holds<Word, S: Semantics> {
 ///
 /// - The calls obey these choices.
 /// - `maybe_exhausted` returns `true` if the next read may return `Ok(None)`.
-/// - If reads follow the list of words (`is_list`), a read that succeeds takes the first word off the list. If the list
-///   is empty, the read returns `Ok(None)`. A read that fails leaves the list unchanged.
+/// - If reads follow the list of words (`is_list`), a read that returns a word takes the first word off the list. A
+///   read returns `Ok(None)` only if the list is empty. A read that fails leaves the list unchanged.
 /// - If reads follow the list of words, `maybe_exhausted` returns `true` if the list is empty.
 ///
 /// # Examples
@@ -53,7 +53,8 @@ pub trait ReadWords<Word, S: Semantics>: Holds<Word, S> {
 
     /// Reads the next word, or returns `Ok(None)` if no word is left.
     ///
-    /// If reads follow the list of words (`is_list`), a read that returns a word takes the first word off the list.
+    /// If reads follow the list of words (`is_list`), a read that returns a word takes the first word off the list. A
+    /// read returns `Ok(None)` only if the list is empty.
     ///
     /// # Errors
     ///

@@ -1,9 +1,10 @@
 //! Positions in a backend or in a coder: recording a position, and seeking to it.
 //!
-//! Contracts describe seeks by three ghost members of [`Seek`]:
+//! Contracts describe seeks by four ghost members of [`Seek`]:
 //!
 //! - `can_seek` holds for each position to which a seek may succeed.
 //! - `seek_fails` holds for each position to which a seek may be refused.
+//! - `sought` states how a successful seek may change the value.
 //! - `stays` states how a refused seek may change the value.
 //!
 //! For vectors and cursors, `can_seek` and `seek_fails` exclude each other: a seek succeeds if and only if `can_seek`

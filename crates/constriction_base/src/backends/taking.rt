@@ -1,4 +1,4 @@
-//! Taking written words off a backend.
+//! Removing words that were written to a backend.
 
 ghost use Rattle.std.specs.Prelude.{◌≡◌, drop};
 ghost use Rattle.constriction_base.specs.Readings.{NeverRefused};

@@ -83,8 +83,8 @@ pub trait WriteWords<Word>: Holds<Word, Stack> {
 
     /// Returns whether the backend may be full.
     ///
-    /// If the call returns `false`, the backend refuses neither the next write nor a `prepare` for one word for lack of
-    /// room. A vector always returns `false`, because it grows as long as there is memory.
+    /// If the call returns `false`, neither the next write nor a `prepare` for one word fails because the backend is
+    /// full. A vector always returns `false`, because it grows as long as there is memory.
     fn maybe_full(&self) -> bool
         ensures value { result ≡ seems_full self.now }
         ensures room_left { result ≡ false → (e : Self.WriteError) → is_lack_of_room e → write_fails self.now e → ⊥ };

@@ -4,9 +4,9 @@
 //! begins at the hint of the quantile's bucket. It ends at the hint of the next bucket, or at the last symbol if there
 //! is no next bucket.
 //!
-//! The number of buckets is a power of two, and never above `2 ^ PRECISION` or 2^63. Let `n` be the number of symbols
-//! up to the last symbol with a weight above 0. There are at most `4 * n` buckets, and more than `2 * n` unless the
-//! number of buckets is `2 ^ PRECISION` or 2^63.
+//! The number of buckets is a power of two. It is at most `2 ^ PRECISION`, and at most 2^63. Let `n` be the number of
+//! symbols up to and including the last symbol with a weight above 0. There are at most `4 * n` buckets. There are more
+//! than `2 * n` buckets, unless the number of buckets is `2 ^ PRECISION` or 2^63.
 
 ghost use Rattle.std.specs.Prelude.{◌≡◌, ◌+◌, ◌-◌, ◌*◌, ◌^◌, ◌<◌, ◌≤◌, ◌⊎◌, length, map, slice_index, IfOk};
 ghost use Rattle.constriction_base.specs.Tables.{IsRising};

@@ -1,5 +1,5 @@
 // Written by tools/sizes from large_kinds.rt.
-//! The same calls with other kinds of models, codewords and words.
+//! More C functions of the stack coder: other models, symbols of 8 and 16 bits, and words in binary form.
 
 ghost use Rattle.constriction_c.specs.Small.{AnsExportsU16, AnsPutsU16, AnsTakesU16, intervals_from_u16, narrow_from_u16};
 ghost use Rattle.constriction_c.specs.Words.{lowest};

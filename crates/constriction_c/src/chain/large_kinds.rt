@@ -1,5 +1,5 @@
 // Written by tools/sizes from large.rt.
-//! The same calls with other kinds of models, codewords and words.
+//! More C functions of the chain coder: other models, symbols of 8 and 16 bits, binary form, and words of remainders.
 
 ghost use Rattle.constriction_c.specs.Large.{ChainBeginsU32, ChainEndsU32, ChainPutsU32, ChainTakesU32, intervals_from_u32, large_chain, narrow_from_u32};
 ghost use Rattle.constriction_c.specs.Words.{lowest};
@@ -354,7 +354,7 @@ pub extern "C" fn constriction_chain_encode_shorts_reverse_u32(
 
 /// Imports a coder from compressed words in binary form. The coder has no words of remainders below its heads.
 ///
-/// Sets `heads`, and sets `count` to the number of words that stay in `words` below the heads.
+/// Sets `heads`, and sets `count` to the number of words that stay in `words`, below the compressed head.
 ///
 /// Calls [`from_binary`] and returns the code of its result ([`code_of`]).
 #[unsafe(no_mangle)]
@@ -392,7 +392,7 @@ pub extern "C" fn constriction_chain_into_binary_u32(
 
 /// Imports a coder from the words of remainders. The coder has no compressed words below its heads.
 ///
-/// Sets `heads`, and sets `rest` to the number of words that stay in `words` below the heads.
+/// Sets `heads`, and sets `rest` to the number of words that stay in `words`, below the compressed head.
 ///
 /// Calls [`from_remainders`] and returns the code of its result ([`code_of`]).
 #[unsafe(no_mangle)]

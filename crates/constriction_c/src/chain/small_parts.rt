@@ -1,5 +1,5 @@
 // Written by tools/sizes from large_parts.rt.
-//! The structs as the types that the calls of `constriction_calls` take.
+//! Converts the C functions' structs to the types that the calls of `constriction_calls` take, and back.
 
 ghost use Rattle.constriction_c.specs.Small.{small_heads};
 ghost use Rattle.std.specs.Prelude.{◌≡◌};
@@ -8,7 +8,7 @@ use crate::chain::small::ChainHeadsU16;
 use constriction_calls::chain::ChainHeads;
 
 impl ChainHeadsU16 {
-    /// Returns the numbers as the type that the calls of `constriction_calls` take.
+    /// Returns the struct's fields as the type that the calls of `constriction_calls` take.
     #[inline]
     pub fn parts(&self) -> ChainHeads<u16, u32>
         ensures { result ≡ small_heads self.now }

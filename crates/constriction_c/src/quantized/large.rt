@@ -1,4 +1,4 @@
-//! Intervals in the models of a family of distributions, and weights from counts, at a precision of 24 bits.
+//! Symbols' intervals under a family of distributions, and weights from counts, at a precision of 24 bits.
 //!
 //! The interval starts, the interval lengths and the weights are 32-bit words.
 
@@ -14,7 +14,7 @@ use constriction_inputs::quantized::counts::put_weights_of_counts;
 use constriction_inputs::quantized::intervals::intervals_of_quantized;
 use std::alloc::Global;
 
-/// Writes the interval of each symbol in the model with the symbol's location and scale, at a precision of 24 bits.
+/// Writes the interval of each symbol under the family's distribution with that symbol's location and scale.
 ///
 /// The interval of `symbols[i]` begins at quantile `lefts[i]` and has length `ps[i]`.
 ///

@@ -1,5 +1,5 @@
 // Written by tools/sizes from large.rt.
-//! Intervals in the models of a family of distributions, and weights from counts, at a precision of 12 bits.
+//! Symbols' intervals under a family of distributions, and weights from counts, at a precision of 12 bits.
 //!
 //! The interval starts, the interval lengths and the weights are 16-bit words.
 
@@ -15,7 +15,7 @@ use constriction_inputs::quantized::counts::put_weights_of_counts;
 use constriction_inputs::quantized::intervals::intervals_of_quantized;
 use std::alloc::Global;
 
-/// Writes the interval of each symbol in the model with the symbol's location and scale, at a precision of 12 bits.
+/// Writes the interval of each symbol under the family's distribution with that symbol's location and scale.
 ///
 /// The interval of `symbols[i]` begins at quantile `lefts[i]` and has length `ps[i]`.
 ///

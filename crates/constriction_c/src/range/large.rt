@@ -75,7 +75,7 @@ pub extern "C" fn constriction_range_encode_u32(
     code_of(answer, needed)
 }
 
-/// Writes the words that the encoder holds back, and a seal, after the first `len` words of `words`.
+/// Writes the encoder's pending words, and a seal, after the first `len` words of `words`.
 ///
 /// Calls [`into_compressed`] and returns the code of its result ([`code_of`]).
 #[unsafe(no_mangle)]

@@ -1,5 +1,5 @@
 // Written by tools/sizes from large.rt.
-//! The structs as the types that the calls of `constriction_calls` take.
+//! Converts the C functions' structs to the types that the calls of `constriction_calls` take, and back.
 
 ghost use Rattle.constriction_c.specs.Large.{large_decoder, large_encoder};
 ghost use Rattle.std.specs.Prelude.{◌≡◌};
@@ -8,7 +8,7 @@ use crate::range::large::{RangeDecoderU32, RangeEncoderU32};
 use constriction_calls::range::parts::{DecoderParts, EncoderParts};
 
 impl RangeEncoderU32 {
-    /// Returns the numbers as the type that the calls of `constriction_calls` take.
+    /// Returns the struct's fields as the type that the calls of `constriction_calls` take.
     #[inline]
     pub fn parts(&self) -> EncoderParts<u32, u64>
         ensures { result ≡ large_encoder self.now }
@@ -36,7 +36,7 @@ impl RangeEncoderU32 {
 }
 
 impl RangeDecoderU32 {
-    /// Returns the numbers as the type that the calls of `constriction_calls` take.
+    /// Returns the struct's fields as the type that the calls of `constriction_calls` take.
     #[inline]
     pub fn parts(&self) -> DecoderParts<u64>
         ensures { result ≡ large_decoder self.now }

@@ -1,5 +1,5 @@
 // Written by tools/sizes from large_kinds.rt.
-//! The same calls with other kinds of models, codewords and words.
+//! More C functions of the range coder: other models, symbols of 8 and 16 bits, and self-delimiting words.
 
 ghost use Rattle.constriction_c.specs.Small.{RangeEndsU16, RangePutsU16, RangeTakesU16, intervals_from_u16, narrow_from_u16};
 ghost use Rattle.constriction_c.specs.Words.{lowest};
@@ -285,7 +285,7 @@ pub extern "C" fn constriction_range_decode_shorts_u16(
     code_without_space(answer)
 }
 
-/// Writes the words that the encoder holds back, and a self-delimiting seal, after the first `len` words of `words`.
+/// Writes the encoder's pending words, and a self-delimiting seal, after the first `len` words of `words`.
 ///
 /// A state is two words wide, so this function writes the same words as `constriction_range_into_compressed_u16`.
 ///

@@ -1,5 +1,5 @@
 // Written by tools/sizes from large_parts.rt.
-//! The structs as the types that the calls of `constriction_calls` take.
+//! Converts the C functions' structs to the types that the calls of `constriction_calls` take, and back.
 
 ghost use Rattle.constriction_c.specs.Small.{small_decoder, small_encoder};
 ghost use Rattle.std.specs.Prelude.{◌≡◌};
@@ -8,7 +8,7 @@ use crate::range::small::{RangeDecoderU16, RangeEncoderU16};
 use constriction_calls::range::parts::{DecoderParts, EncoderParts};
 
 impl RangeEncoderU16 {
-    /// Returns the numbers as the type that the calls of `constriction_calls` take.
+    /// Returns the struct's fields as the type that the calls of `constriction_calls` take.
     #[inline]
     pub fn parts(&self) -> EncoderParts<u16, u32>
         ensures { result ≡ small_encoder self.now }
@@ -36,7 +36,7 @@ impl RangeEncoderU16 {
 }
 
 impl RangeDecoderU16 {
-    /// Returns the numbers as the type that the calls of `constriction_calls` take.
+    /// Returns the struct's fields as the type that the calls of `constriction_calls` take.
     #[inline]
     pub fn parts(&self) -> DecoderParts<u32>
         ensures { result ≡ small_decoder self.now }

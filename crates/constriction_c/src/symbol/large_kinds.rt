@@ -1,5 +1,5 @@
 // Written by tools/sizes from large.rt.
-//! The same calls with other kinds of models, codewords and words.
+//! More C functions for codewords: Exp-Golomb on a stack, and Huffman on a queue, on a stack and at a given bit.
 
 ghost use Rattle.constriction_c.specs.Large.{PutsAtBitU32, PutsCodewordsU32, TakesAtBitU32, TakesCodewordsU32};
 ghost use Rattle.constriction_c.specs.Words.{lowest};

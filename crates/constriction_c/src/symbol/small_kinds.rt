@@ -1,5 +1,5 @@
 // Written by tools/sizes from large_kinds.rt.
-//! The same calls with other kinds of models, codewords and words.
+//! More C functions for codewords: Exp-Golomb on a stack, and Huffman on a queue, on a stack and at a given bit.
 
 ghost use Rattle.constriction_c.specs.Small.{PutsAtBitU16, PutsCodewordsU16, TakesAtBitU16, TakesCodewordsU16};
 ghost use Rattle.constriction_c.specs.Words.{lowest};

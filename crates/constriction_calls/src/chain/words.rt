@@ -38,8 +38,8 @@ type Bare<Word, State, const PRECISION: usize> = ChainCoder<
 ///
 /// # Errors
 ///
-/// The call returns `InvalidData` if and only if the last word is 0, or there are too few words to fill the remainders
-/// head.
+/// The call returns `InvalidData` in exactly two cases: the last word is 0, or there are too few words to fill the
+/// remainders head.
 pub fn from_compressed<Word: WordOf<State>, State: BitArray, const PRECISION: usize>(
     alloc: Global,
     words: &[Word],
@@ -111,8 +111,8 @@ pub fn from_binary<Word: WordOf<State>, State: BitArray, const PRECISION: usize>
 ///
 /// # Errors
 ///
-/// The call returns `InvalidData` if and only if one of the last two words is 0, or there are too few words to fill
-/// both heads.
+/// The call returns `InvalidData` in exactly two cases: one of the last two words is 0, or there are too few words to
+/// fill both heads.
 pub fn from_remainders<Word: WordOf<State>, State: BitArray, const PRECISION: usize>(
     alloc: Global,
     words: &[Word],
@@ -151,7 +151,7 @@ pub fn from_remainders<Word: WordOf<State>, State: BitArray, const PRECISION: us
 /// The call returns the first of these errors that applies, but it may return `NoMemory` in place of `NoSpace`:
 ///
 /// - `WrongLength`: `compressed_len` is past the buffer's end.
-/// - `InvalidData`: no coder has these heads, or the compressed head isn't 1, so it has bits left over.
+/// - `InvalidData`: `heads` aren't the heads of any coder, or the compressed head isn't 1, so it has bits left over.
 /// - `NoSpace(needed)`: the buffer is too short. `needed` is the number of words that the buffer has to hold.
 /// - `NoMemory`: there is no memory.
 pub fn into_compressed<Word: WordOf<State>, State: BitArray, const PRECISION: usize>(
@@ -190,8 +190,8 @@ pub fn into_compressed<Word: WordOf<State>, State: BitArray, const PRECISION: us
 ///
 /// # Errors
 ///
-/// The call returns the errors of [`into_compressed`]. It also returns `InvalidData` if the number of bits below that
-/// leading 1 isn't a multiple of `Word::BITS`.
+/// The call returns the errors of [`into_compressed`]. It also returns `InvalidData` if the number of bits below the
+/// remainders head's leading 1 isn't a multiple of `Word::BITS`.
 pub fn into_binary<Word: WordOf<State>, State: BitArray, const PRECISION: usize>(
     alloc: Global,
     heads: &ChainHeads<Word, State>,

@@ -23,7 +23,7 @@ use std::alloc::Global;
 ///
 /// # Errors
 ///
-/// - `InvalidData` if the words that start at the decoder's position don't encode `count` symbols.
+/// - `InvalidData` if `decoder.point` and the words from `decoder.pos` on don't encode `count` symbols.
 /// - `NoMemory` if there is no memory.
 #[inline(never)]
 pub(crate) fn take_list<
@@ -69,9 +69,9 @@ pub(crate) fn take_list<
 ///
 /// # Errors
 ///
-/// The call returns the errors of [`crate::range`], and then:
+/// The call first checks for the errors of [`crate::range`]. Then it can return these:
 ///
-/// - `InvalidData` if the words that start at the decoder's position don't encode `symbols.len()` symbols.
+/// - `InvalidData` if `decoder.point` and the words from `decoder.pos` on don't encode `symbols.len()` symbols.
 /// - `NoMemory` if there is no memory.
 pub fn decode<
     Word: WordOf<State>,

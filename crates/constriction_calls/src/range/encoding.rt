@@ -231,7 +231,7 @@ fn end_putting<Word: WordOf<State>, State: BitArray>(
 ///
 /// # Errors
 ///
-/// The call returns the errors of [`crate::range`], and then:
+/// The call first checks for the errors of [`crate::range`]. Then it can return these:
 ///
 /// - `ImpossibleSymbol` if and only if a model has no entry for its symbol.
 /// - `NoSpace(needed)` if the buffer is too short. `needed` is the number of words that the buffer has to hold. There

@@ -13,7 +13,7 @@ use constriction_words::{BitArray, WordOf};
 use std::alloc::Global;
 use std::num::NonZeroUsize;
 
-/// A range encoder between two calls: its interval, and the words that it holds back.
+/// A range encoder between two calls: its interval and its pending words.
 ///
 /// `lower` is the lower end of the interval, modulo `2^State::BITS`, and `range` is the interval's length. The encoder
 /// has `held` pending words. The first of them is `first`, and in every later one all bits are 1. Without pending
@@ -35,7 +35,7 @@ pub struct EncoderParts<Word, State> {
     pub first: Word,
 }
 
-/// A range decoder between two calls: its interval, its point, and the number of words that it read from the buffer.
+/// A range decoder between two calls: its interval, its point and its position.
 ///
 /// `lower` is the lower end of the interval, modulo `2^State::BITS`, and `range` is the interval's length. `point` is
 /// the number made of the last `State::BITS / Word::BITS` words that the decoder read. Past the end of the buffer, each
@@ -56,10 +56,10 @@ pub struct DecoderParts<State> {
     pub pos: usize,
 }
 
-/// Creates an encoder over an empty vector from the caller's numbers. The call needs no memory.
+/// Creates an encoder over an empty vector from `parts`. The call needs no memory.
 ///
-/// The caller can then encode at least `count` symbols. Returns `None` if and only if no encoder has the numbers, or
-/// `parts.held + count` is above `2^64 - 18`.
+/// The encoder can encode at least `count` symbols. Returns `None` in exactly two cases: no encoder can have the values
+/// in `parts`, or `parts.held + count` is above `2^64 - 18`.
 pub fn encoder_for<Word: WordOf<State>, State: BitArray>(
     alloc: Global,
     parts: EncoderParts<Word, State>,
@@ -74,9 +74,9 @@ pub fn encoder_for<Word: WordOf<State>, State: BitArray>(
     encoder_over(Vec::new(alloc), parts, count)
 }
 
-/// Creates an encoder over an empty backend from the caller's numbers.
+/// Creates an encoder over an empty backend from `parts`.
 ///
-/// The caller can then encode at least `count` symbols. Returns `None` if and only if [`encoder_for`] does.
+/// The encoder can encode at least `count` symbols. Returns `None` if and only if [`encoder_for`] does.
 #[inline]
 pub(crate) fn encoder_over<
     Word: WordOf<State>,
@@ -111,7 +111,7 @@ pub(crate) fn encoder_over<
     Some(RangeEncoder::from_raw_parts(bulk, state, situation))
 }
 
-/// Returns the words that an encoder wrote, and the numbers from which [`encoder_for`] creates the encoder again.
+/// Splits an encoder into the words that it wrote and its [`EncoderParts`].
 pub fn parts_of<Word: WordOf<State>, State: BitArray>(
     encoder: RangeEncoder<Word, State, Vec<Word>>,
 ) -> (Vec<Word>, EncoderParts<Word, State>)
@@ -122,7 +122,7 @@ pub fn parts_of<Word: WordOf<State>, State: BitArray>(
     parts_over(encoder)
 }
 
-/// Returns the backend of an encoder, and the numbers from which [`encoder_over`] creates the encoder again.
+/// Splits an encoder into its backend and its [`EncoderParts`].
 #[inline]
 pub(crate) fn parts_over<Word: WordOf<State>, State: BitArray, Backend: Holds<Word, Stack>>(
     encoder: RangeEncoder<Word, State, Backend>,
@@ -148,10 +148,10 @@ pub(crate) fn parts_over<Word: WordOf<State>, State: BitArray, Backend: Holds<Wo
 /// A range decoder that reads borrowed words.
 pub type Reading<'a, Word, State> = RangeDecoder<Word, State, Cursor<Word, &'a [Word]>>;
 
-/// Creates a decoder from the caller's numbers. The decoder next reads the word of `words` at the position `parts.pos`.
+/// Creates a decoder from `parts`. The decoder next reads the word of `words` at the position `parts.pos`.
 ///
-/// Returns `None` if and only if no decoder has the numbers. The caller proves that the position isn't past the end of
-/// `words`.
+/// Returns `None` in exactly two cases: the interval is shorter than `2^(State::BITS - Word::BITS)`, or the point isn't
+/// in the interval. The caller proves that the position isn't past the end of `words`.
 pub fn decoder_of<'a, Word: WordOf<State>, State: BitArray>(
     words: &'a [Word],
     parts: DecoderParts<State>,
@@ -175,7 +175,7 @@ pub fn decoder_of<'a, Word: WordOf<State>, State: BitArray>(
     }
 }
 
-/// Returns the numbers from which [`decoder_of`] creates the decoder again.
+/// Returns the [`DecoderParts`] of a decoder.
 ///
 /// `count` is the length of the decoder's buffer in words.
 pub fn decoder_parts<'a, Word: WordOf<State>, State: BitArray>(

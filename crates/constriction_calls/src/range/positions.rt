@@ -1,4 +1,4 @@
-//! Decoders at the beginning of words or at a recorded position, and whether the words may have ended.
+//! Placing a decoder at the first symbol or at a recorded position, and testing for the end of the encoded symbols.
 
 ghost use Rattle.std.specs.Prelude.{map};
 ghost use Rattle.constriction_base.specs.Steps.{IsSizes};

@@ -12,13 +12,13 @@ use constriction_inputs::refusal::Refusal;
 use constriction_words::{BitArray, WordOf};
 use std::alloc::Global;
 
-/// Writes the words that an encoder holds back, and a seal, after the first `len` words of `buffer`.
+/// Writes an encoder's pending words, and a seal, after the first `len` words of `buffer`.
 ///
 /// The call increases `len` by the number of words that it writes. Pass the buffer's first `len` words to a decoder.
 ///
 /// # Errors
 ///
-/// The call returns the errors of [`crate::range`], and then:
+/// The call first checks for the errors of [`crate::range`]. Then it can return these:
 ///
 /// - `NoSpace(needed)` if and only if the buffer is too short. `needed` is the number of words that the buffer has to
 ///   hold. The call checks the buffer's length before it asks for memory.
@@ -66,10 +66,10 @@ fn sealed_count<Word: WordOf<State>, State: BitArray>(
     parts.held - held + encoder.num_words()
 }
 
-/// Writes the words that an encoder holds back, and a self-delimiting seal, after the first `len` words of `buffer`.
+/// Writes an encoder's pending words, and a self-delimiting seal, after the first `len` words of `buffer`.
 ///
 /// The call increases `len` by the number of words that it writes. A decoder of the buffer's first `len` words returns
-/// the encoded symbols, and any words may follow these words.
+/// the encoded symbols, even if any other words follow.
 ///
 /// The caller proves that `State` is two words wide. Then this call writes the same words as [`into_compressed`]. It
 /// counts these words without memory, so it checks the length of the buffer before it asks for memory.

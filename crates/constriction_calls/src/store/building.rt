@@ -78,8 +78,10 @@ fn stored<Word: WordOf<State>, State: BitArray, P: WordOf<Word>, const PRECISION
 /// The call returns the first of these errors that applies, but it may return `NoMemory` in place of `NoSpace`. A call
 /// that fails changes nothing.
 ///
-/// - `WrongLength`: a list of the index isn't as long as `lengths`, or the sum of `lengths` isn't the number of
-///   symbols, or there are more than 1048576 symbols.
+/// - `WrongLength` in one of these cases:
+///   - A list of the index isn't as long as `lengths`.
+///   - The sum of `lengths` isn't the number of symbols.
+///   - There are more than 1048576 symbols.
 /// - `WrongWeights`: the weights don't add up to `2 ^ PRECISION`.
 /// - `ImpossibleSymbol`: a symbol's weight is 0, or the symbol isn't below the number of weights.
 /// - `NoSpace(needed)`: `words` is too short. `needed` is the number of words of the store.

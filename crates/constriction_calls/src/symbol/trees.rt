@@ -1,4 +1,4 @@
-//! [`Tree`]: selects the codebook of the Huffman tree of a caller's weights.
+//! [`Tree`]: selects a Huffman codebook, built from the caller's weights.
 
 ghost use Rattle.std.specs.Prelude.{◌↔◌, ◌<◌, All, IsTrue, map};
 ghost use Rattle.constriction_calls.specs.SymbolCalls.{MakesCode, OfWeights};

@@ -1,10 +1,10 @@
 //! The two steps of the coder: decoding a symbol from the compressed words, and encoding it back.
 //!
-//! The other methods of the trait `Encode` encode lists of symbols from first to last. The methods of `EncodeReverse`
-//! encode lists from last to first.
+//! The traits `Encode` and `EncodeReverse` also have methods that encode lists of symbols. The methods of `Encode` go
+//! from first to last, and the methods of `EncodeReverse` go from last to first.
 //!
-//! A decode may write a word without reading one. It then doesn't ask for room, because the write is its only call of a
-//! backend.
+//! A decode may write a word without reading one. Such a decode doesn't ask for room, because the write is its only
+//! call to a backend.
 
 ghost use Rattle.constriction_base.specs.Steps.{Step};
 ghost use Rattle.constriction_chain.specs.Steps.{DecodeCall, EncodeCall, Halted, IsEndOfData, IsLackOfRoom};

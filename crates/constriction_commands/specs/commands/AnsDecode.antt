@@ -1,4 +1,4 @@
--- The output of the command `ans-decode` for an input text, and the condition under which each fault comes.
+-- The output of the command `ans-decode` for an input text, and the condition for each fault.
 use Rattle.std.specs.Prelude.{◌≡◌, ℕ, List, length, reverse}
 use Rattle.constriction_base.specs.Models.{items_of}
 use Rattle.constriction_base.specs.Readings.{BeginsHigh}

@@ -1,4 +1,4 @@
--- The output of the command `golomb` for an input text, and the condition under which each fault comes.
+-- The output of the command `golomb` for an input text, and the condition for each fault.
 use Rattle.std.specs.Prelude.{◌≡◌, ℕ, ◌-◌, ◌^◌, Some, List, [], ◌∷◌, ◌++◌, map, flat_map, ⊤}
 use Rattle.std.specs.List.{join_with_byte}
 use Rattle.constriction_base.specs.Steps.{AreWords}

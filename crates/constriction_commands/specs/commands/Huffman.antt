@@ -1,4 +1,4 @@
--- The output of the command `huffman` for an input text, and the condition under which each fault comes.
+-- The output of the command `huffman` for an input text, and the condition for each fault.
 use Rattle.std.specs.Prelude.{◌≡◌, ℕ, ◌-◌, ◌/◌, ◌<◌, ◌≤◌, ◌^◌, Option, Some, None, Bool, List, [], ◌∷◌, ◌++◌, length, map, sum, ⊤}
 use Rattle.std.specs.List.{join_with_byte}
 use Rattle.constriction_symbol.specs.Huffman.{huffman, symbols_from}

@@ -1,4 +1,4 @@
--- The output of the command `store` for an input text, and the condition under which each fault comes.
+-- The output of the command `store` for an input text, and the condition for each fault.
 use Rattle.std.specs.Prelude.{◌≡◌, ℕ, ◌<◌, ◌≤◌, List, ◌++◌, ⊤, flat_map, length}
 use Rattle.std.specs.List.{AllByRecursion, Any}
 use Rattle.constriction_base.specs.Models.{items_of}

@@ -72,8 +72,11 @@ fn line_of_codewords(alloc: Global, tree: &EncoderHuffmanTree) -> Result<Vec<u8>
 ///
 /// # Errors
 ///
-/// Returns `BadNumber` if line 1 isn't a list of 64-bit numbers, `OutOfMemory` if there is no memory, or a fault of
-/// [`make_tree`].
+/// - `BadNumber` if line 1 isn't a list of 64-bit numbers.
+/// - `NoWeights` if there is no weight.
+/// - `TooManySymbols` if there are more than `2^62 - 1` weights.
+/// - `WeightOverflow` if the sum of the weights has more than 64 bits.
+/// - `OutOfMemory` if there is no memory.
 pub fn answer(alloc: Global, text: &[u8]) -> Result<Vec<u8>, Fault>
     ensures ok { IfOk result (λ answer. IsHuffmanLine text.now answer.items) }
     ensures err { IfErr result (HuffmanFails text.now) }

@@ -80,7 +80,12 @@ fn push_chunks(
 ///
 /// # Errors
 ///
-/// Returns the faults of [`table_and_chunks`], of [`store_of`] and of [`push_chunks`].
+/// Returns the faults of [`table_and_chunks`], and these faults:
+///
+/// - `TooManySymbols` if the chunks have more than `2^20` symbols in total.
+/// - `Encoder` if a symbol's weight is 0, or if there is no weight for a symbol.
+/// - `NoSuchChunk` if an index in line 2 is at least the number of chunks.
+/// - `OutOfMemory` if there is no memory.
 pub fn answer(alloc: Global, text: &[u8]) -> Result<Vec<u8>, Fault>
     ensures ok { IfOk result (λ answer. IsStored text.now answer.items) }
     ensures err { IfErr result (StoreFails text.now) }

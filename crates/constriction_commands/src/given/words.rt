@@ -46,7 +46,7 @@ fn take_count(numbers: &mut Vec<u32>) -> Result<u32, Fault>
 ///
 /// - `BadNumber` if a line isn't a list of 32-bit numbers.
 /// - `NoCount` if line 2 has no numbers.
-/// - `BadNumber` if the number of symbols is above [`MOST`].
+/// - `BadNumber` if the number of symbols is above `2^24` ([`MOST`]).
 /// - `NoWeights` if there is no weight.
 /// - `WrongTotal` if the weights don't add up to `2^24`.
 pub fn table_and_words(alloc: Global, text: &[u8]) -> Result<(Table, u32, Vec<u32>), Fault>

@@ -1,4 +1,4 @@
-//! The calls of the chain coder with concrete types: 32-bit words, 64-bit heads and tables of weights.
+//! Calls of the chain coder with concrete types: 32-bit words, a 64-bit remainders head and tables of weights.
 
 use anyhow::{Result, bail};
 use constriction::stream::chain::DefaultChainCoder;

@@ -1,7 +1,8 @@
-//! The calls of the range coder with concrete types: 32-bit words, 64-bit states and tables of weights.
+//! Calls of the range coder with concrete types: 32-bit words, 64-bit states and tables of weights.
 //!
-//! An encoder counts its pending words in a `usize`. So an encoder that a function gets as an argument may be unable to
-//! encode a whole list. `symbols_left` returns how many symbols the encoder can still encode.
+//! An encoder counts its pending words in a `usize`, and this count must not overflow. A function that gets an encoder
+//! as an argument doesn't know how many words are pending. `symbols_left` returns how many symbols the encoder can
+//! still encode.
 
 use anyhow::{Result, bail};
 use constriction::stream::model::WeightTable;
@@ -64,7 +65,7 @@ fn show(rt: &impl Print, encoder: &mut DefaultRangeEncoder, table: &Table) -> Re
 
 /// Encodes four symbols, decodes the first three, seeks back to a recorded position, and decodes from there.
 ///
-/// Prints the symbols decoded, and whether a guard lends no words.
+/// Prints the symbols decoded, and whether the list of words that a guard lends is empty.
 pub fn run(rt: &impl Print, alloc: Global) -> Result<()> {
     let table = WeightTable::<u32, 24>::new(alloc, &[3, 2, 16777211])?;
     let mut encoder = DefaultRangeEncoder::new(alloc);

@@ -1,4 +1,4 @@
-//! The calls of the stack coder with concrete types: words of 32 or 16 bits, and tables of weights.
+//! Calls of the stack coder with concrete types: words of 32 or 16 bits, and tables of weights.
 
 use anyhow::{Result, bail};
 use constriction::stream::model::WeightTable;

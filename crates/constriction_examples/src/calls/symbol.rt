@@ -1,4 +1,4 @@
-//! The calls of bit coders and of stores with concrete types: 32-bit words, Exp-Golomb codewords, tables of weights.
+//! Calls of bit coders and of stores with concrete types: 32-bit words, Exp-Golomb codewords, tables of weights.
 
 use anyhow::{Result, bail};
 use constriction::store::Store;

@@ -1,6 +1,6 @@
 //! An application of a law of the range coder: a decoder reads two encoded steps from sealed words.
 //!
-//! A step is a symbol's precision, weight and interval.
+//! A step consists of a precision, and the start and length of a symbol's interval.
 
 ghost use Rattle.constriction.specs.Steps.{IsStep, Step};
 ghost use Rattle.constriction.specs.queue.Range.{ReadAs, run, sealed, initial};

@@ -1,4 +1,4 @@
--- Laws of a row of weights as a model, for the implementations of the model traits.
+-- Lemmas about a row of weights as a model, for the implementations of the model traits.
 use Rattle.std.proofs.Common.{◌≡◌, ℕ, ◌<◌, ◌≤◌, ◌^◌, ◌-◌, List, [], ◌∷◌, zero, suc, length, get_or, map, arith, pow_pos, ap}
 use Rattle.constriction_base.specs.Tables.{table_of}
 use Rattle.constriction_base.specs.laws.Weights.{at_least_two, has_only, weights_make_table}

@@ -25,9 +25,9 @@ pub type FamilyModel<P, const PRECISION: usize> = IndexedDistribution<
 
 /// Models of one family of distributions. Each symbol has its own location and scale, in multiples of `2^-16`.
 ///
-/// Item `i` of `locations` and item `i` of `scales` belong to symbol `i` of the list to encode or decode. Each scale is
-/// at least 1. The caller passes each symbol as an index into the range of integers from `min` to `max`. Index 0
-/// stands for `min`. `family` is 0 for `Gaussian`, 1 for `Laplace` and 2 for `Logistic`.
+/// Item `i` of `locations` and item `i` of `scales` belong to symbol `i` of the list to encode or decode. Each scale
+/// has to be at least 1. The caller passes each symbol as an index into the range of integers from `min` to `max`.
+/// Index 0 stands for `min`. `family` is 0 for `Gaussian`, 1 for `Laplace` and 2 for `Logistic`.
 ///
 /// # Examples
 ///
@@ -86,8 +86,8 @@ impl<'a, P: WordOf<u32>, const PRECISION: usize> Models<P, PRECISION> for Famili
 
 /// The list of the models of a family, one for each symbol. It holds the model of one symbol only.
 ///
-/// `turn_to` replaces this model by the model of the selected symbol. So the division by the symbol's scale can overlap
-/// with the coder's own division.
+/// `turn_to` replaces this model by the model of the selected symbol. To create this model, `turn_to` divides by the
+/// symbol's scale. The processor can overlap this division with the coder's own division.
 ///
 /// # Examples
 ///

@@ -25,7 +25,7 @@ use weighing::are_mixable;
 /// Mixtures of distributions of one family, with one mixture for each symbol.
 ///
 /// A mixture has `width` components, and each component has a location, a scale and a weight. The weights are in
-/// `weights`. The locations and scales are in `components`, in multiples of `2^-16`. Each of the three lists has
+/// `weights`. The locations and scales are in `components`, in multiples of `2^-16`. Each of these lists has
 /// `width` numbers for the first symbol, then `width` numbers for the second symbol, and so on. The caller passes each
 /// symbol as an index into the range of integers of `components`, as for [`Families`].
 ///

@@ -1,4 +1,4 @@
--- The reasons why symbols aren't decoded from a chain coder, or aren't encoded back.
+-- The reasons why a chain coder stops decoding symbols or encoding them back, and its state after a round trip.
 use Rattle.std.specs.Prelude.{◌≡◌, ℕ, ◌*◌, ◌+◌, ◌<◌, ◌⊎◌, ⊤, List, [], ◌∷◌, ◌++◌, Result, length}
 use Rattle.constriction_base.specs.Steps.{Step}
 use Rattle.constriction_base.specs.Models.{Item}

@@ -1,4 +1,4 @@
--- Decoded symbols with the tables and the precision of their models.
+-- Decoded symbols, each with the table and the precision of its model.
 use Rattle.std.specs.Prelude.{ℕ, List, map}
 use Rattle.std.specs.List.{zip}
 use Rattle.constriction_chain.specs.Runs.{Decoding}

@@ -1,5 +1,5 @@
--- Lists of decodes and encodes of the chain coder, as premises of the laws about them: each says what holds behind such
--- lists.
+-- Shared premises and conclusions of the laws about lists of decodes and encodes of the chain coder. The parameter
+-- `holds` is what a law concludes from the premises.
 use Rattle.std.specs.Prelude.{◌≡◌, ℕ, List, ◌++◌, reverse}
 use Rattle.constriction_base.specs.Models.{Item}
 use Rattle.constriction_chain.specs.Chain.{ChainState, IsChain, IsSized}

@@ -1,4 +1,5 @@
--- What round trips of the chain coder say of symbols, each under its own model, and of two coders, one after the other.
+-- The outcomes of decoding symbols from one chain coder or from two, each symbol with its own model, and of encoding
+-- the symbols back.
 use Rattle.std.specs.Prelude.{◌≡◌, ◌⊎◌, ℕ, ◌<◌, List, Vec, length, map, reverse}
 use Rattle.constriction_base.specs.Models.{Item, pairs_of}
 use Rattle.constriction_base.specs.declared.backends.reading.Holds as holding
@@ -74,12 +75,13 @@ EndsInTwo is_list w s precision table models old new other others same again e =
 
 module _ {W C R Q E F : Type 0} (number : W → ℕ) (holds : holding.Ghosts C W Q) (reads : reading.Ghosts C W Q E)
     (keeps : holding.Ghosts R W Q) (writes : writing.Ghosts R W F) (w s precision : ℕ) where
-  -- a backend refused the decode of one of the symbols, or memory was refused
+  -- A backend refuses the decode of one of the symbols, or a request for memory is refused.
   abbrev pub PairsRefused : {S M : Type 0} → (M → List (S × ℕ × ℕ)) → List M → ChainValue C R → ChainValue C R → Type 0
   PairsRefused {S} table models old new = RefusedAmong {S = S} (DecodeCall number holds reads keeps writes w s)
       (Halted number holds reads keeps writes w s precision) precision table models old new
 
-  -- the one coder was refused, and the other didn't change; or the one took off its symbols, and the other was refused
+  -- Either the first coder is refused and the second coder doesn't change, or the first coder decodes its symbols and
+  -- the second coder is refused.
   abbrev pub RefusedInTwo : {S M L : Type 0} → (M → List (S × ℕ × ℕ)) → List M → ChainValue C R → ChainValue C R
       → (L → List (S × ℕ × ℕ)) → List L → ChainValue C R → ChainValue C R → Type 0
   RefusedInTwo table models old new other others same again = (PairsRefused table models old new × (again ≡ same))

@@ -1,4 +1,4 @@
--- Lists of symbols in concatenated words.
+-- Lists of symbols as self-delimiting words, which can be concatenated.
 use Rattle.std.specs.Prelude.{ℕ, List}
 use Rattle.constriction_base.specs.Models.{Item}
 use Rattle.constriction_queue.specs.Range.{Run, initial}

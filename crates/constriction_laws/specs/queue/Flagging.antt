@@ -1,4 +1,4 @@
--- Symbols that a switch returns before and after its flag, and the reasons why it stops.
+-- Symbols that a `FlagSwitch` decodes before and after its flag, and the reasons why it stops.
 use Rattle.std.specs.Prelude.{◌≡◌, ◌≤◌, ◌<◌, ◌||◌, ℕ, Bool, List, Result, Ok, Err, Vec, IfOk, IfErr, MatchResult}
 use Rattle.std.specs.Prelude.{length, if◌then◌else◌}
 use Rattle.constriction_base.specs.Models.{Model, Item, items_of}
@@ -41,20 +41,23 @@ module _ {W B E Q : Type 0} (number : W → ℕ) (holds : holding.Ghosts B W Q) 
 
 -- ---- a list of decodes
 
--- the symbols that a switch gave are read from the words at which its decoder stood, up to where it stands
+-- Suppose that the old decoder has reached a run in a list of words. If the call succeeds, the returned symbols are
+-- decoded from the words at that run, and the new decoder has reached the run after the symbols.
 abbrev pub ReadsFlagged : {A E B : Type 0} → ℕ → ℕ → Model ℕ → Model ℕ → Switch B → Result (Vec ℕ A) E → Switch B
     → Type 0
 ReadsFlagged w s first second old result new = (words : List ℕ) (from : Run) → StandsAt w s words from old.decoder
     → IfOk result (λ again.
     ReadTo w s words (flagged_behind old.switched old.flag first second again.items) from new.decoder)
 
--- where its decoder refused, the words hold no list of so many symbols
+-- Suppose that the old decoder has reached a run in a list of words. If the decoder itself refuses a decode, no list of
+-- `amt` symbols is decoded from the words at that run.
 abbrev pub HoldNoneFlagged : {T F E B : Type 0} → ℕ → ℕ → Model ℕ → Model ℕ → ℕ → Switch B
     → Result T (Stopped (CoderError F E)) → Type 0
 HoldNoneFlagged w s first second amt old result = (words : List ℕ) (from : Run) → StandsAt w s words from old.decoder
     → IfErr result (InvalidWhere (HoldNone w s words (flagged_behind old.switched old.flag first second) amt from))
 
--- a switch gave symbols, which are those returned, and then came to its new state, or stopped
+-- A switch decodes at most `amt` symbols (`GivesFlagged`). The call returns these symbols and leaves the decoder after
+-- the last decode, or the switch stops with an error (`StopsFlagged`).
 abbrev pub StepsFlagged : {W B E Q A : Type 0} → (W → ℕ) → holding.Ghosts B W Q → reading.Ghosts B W Q E → ℕ → ℕ
     → Model ℕ → Model ℕ → ℕ → Switch B → Result (Vec ℕ A) (Stopped (CoderError DecoderFrontendError E)) → Switch B
     → Type 0

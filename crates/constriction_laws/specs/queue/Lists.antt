@@ -1,4 +1,5 @@
--- Lists of encodes of the range coder, as premises of the laws about them: each says what holds behind such lists.
+-- Shared premises and conclusions of the laws about lists of encodes and decodes of the range coder. The parameter
+-- `holds` is what a law concludes from the premises.
 use Rattle.std.specs.Prelude.{◌≡◌, ℕ, List, ◌++◌, drop}
 use Rattle.constriction_base.specs.Models.{Item, AreModels, models}
 use Rattle.constriction_base.specs.Steps.{Step, AreWords, IsSizes}

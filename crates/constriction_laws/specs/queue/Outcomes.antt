@@ -1,4 +1,4 @@
--- The errors of encoding and decoding symbols with range coders, and the answers of a decoder's test for the end.
+-- The errors of encoding and decoding symbols with range coders, and the results of a decoder's end-of-data test.
 use Rattle.std.specs.Prelude.{◌≡◌, ◌<◌, ℕ, ⊤, List, Bool, IsTrue, length}
 use Rattle.constriction_base.specs.Models.{Item}
 use Rattle.constriction_base.specs.declared.errors.CoderError.{CoderError}

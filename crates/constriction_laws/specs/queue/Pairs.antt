@@ -1,4 +1,4 @@
--- What round trips of the range coder say of symbols, each under its own model.
+-- The outcomes of round trips with the range coder, in which each symbol has its own model.
 use Rattle.std.specs.Prelude.{◌≡◌, ℕ, ◌/◌, Bool, IsTrue, List, ◌++◌, Result, Vec, IfOk, length, map}
 use Rattle.constriction_base.specs.Models.{Item, pairs_of}
 use Rattle.constriction_queue.specs.Decoder.{Decoder, StandsAt}
@@ -87,22 +87,22 @@ GivesFound {S} w s precision table models old result new =
 -- A call that decoded words by a new decoder returned the symbols, and whether the words may have ended.
 pub record GivesSymbolsOf {S M A E : Type 0} (w s precision : ℕ) (table : M → List (S × ℕ × ℕ)) (words : List ℕ)
     (models : List M) (result : Result (Vec S A × Bool) E) : Type 0 where
-  -- any symbols that a new decoder of the words reads
+  -- If a new decoder finds symbols in the words, the call returns these symbols.
   pub back : (symbols : List S) (last : Run)
       → FindsAll w s words (pairs_of precision table symbols models) (initial s) last
       → GivesBackWith models symbols result
-  -- those of whose items these are the sealed words
+  -- If the words are the sealed words of items, the call returns the items' symbols, and that the words may have ended.
   pub sealed : (symbols : List S) → SealsAll w s (pairs_of precision table symbols models) (initial s) words
       → GivesBackWithOne models symbols result IsTrue
-  -- those of whose items the first of these words are sealed, if a state is two words wide
+  -- If a state is two words wide and the words begin with the sealed words of items, the call returns the items' symbols.
   pub followed : (symbols : List S) (own rest : List ℕ) → s / w ≡ 2
       → SealsAll w s (pairs_of precision table symbols models) (initial s) own → words ≡ own ++ rest
       → GivesBackWith models symbols result
-  -- those of whose items the first of these words are sealed so that any words may follow
+  -- If the words begin with self-delimiting words of items, the call returns the items' symbols.
   pub delimited : (symbols : List S) (own rest : List ℕ)
       → DelimitsItems w s (pairs_of precision table symbols models) own → words ≡ own ++ rest
       → GivesBackWith models symbols result
-  -- those within whose run the words lie
+  -- If the words lie within the run of items, the call returns the items' symbols.
   pub lying : (symbols : List S) → length symbols ≡ length models
       → LieWithin w s words (pairs_of precision table symbols models)
       → IfOk result (λ back. back.0.items ≡ symbols)

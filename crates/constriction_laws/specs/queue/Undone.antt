@@ -1,4 +1,6 @@
--- Proof that a decode undoes one step of taking encodes back, as the trait `StepsUndo` requires.
+-- Proof that one decode of the range coder returns the symbol of one encode, as the trait `StepsUndo` requires. The
+-- inverse steps of the trait come in reverse order, but the range coder decodes symbols in the order of encoding. So
+-- here each step takes back one encode, the last encode first, and the inverse step is a decode.
 use Rattle.std.proofs.Common.{ℕ, List}
 use Rattle.constriction_base.specs.Steps.{IsSizes, AreWords}
 use Rattle.constriction_base.specs.Models.{Item, IsModel}

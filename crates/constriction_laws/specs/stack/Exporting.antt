@@ -1,4 +1,4 @@
--- The words that a stack coder exports after encodes, and states without a binary form.
+-- The words that a stack coder exports after encoding a list of symbols, and states without a binary form.
 use Rattle.std.specs.Prelude.{◌≡◌, ℕ, List, Result, Vec, reverse}
 use Rattle.constriction_base.specs.Models.{Item, pairs_of}
 use Rattle.constriction_base.specs.Steps.{AreWords}

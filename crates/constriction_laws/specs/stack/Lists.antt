@@ -1,5 +1,5 @@
--- Lists of encodes and decodes of the stack coder, as premises of the laws about them: each says what holds behind such
--- lists.
+-- Shared premises and conclusions of the laws about lists of encodes and decodes of the stack coder. The parameter
+-- `holds` is what a law concludes from the premises.
 use Rattle.std.specs.Prelude.{◌≡◌, ◌⊎◌, ℕ, ◌%◌, ◌^◌, List, ◌∷◌, reverse}
 use Rattle.constriction_base.specs.Models.{Item, Model, IsModel, AreModels, models}
 use Rattle.constriction_base.specs.Steps.{Step, InTurn, AreSteps, AreWords, IsSizes}

@@ -1,4 +1,4 @@
--- Stack coders over backends without a list of words, such as iterators: imports and decodes in terms of reads.
+-- Imports and decodes of a stack coder in terms of its backend's reads, for backends such as iterators.
 use Rattle.std.specs.Prelude.{◌≡◌, ℕ, ◌<◌, ◌^◌, Bool, false, List, Option, Result, Vec, map}
 use Rattle.constriction_base.specs.Iterators.{FusedRead}
 use Rattle.constriction_base.specs.Steps.{InTurn}

@@ -1,4 +1,4 @@
--- The cost of codewords under weights, and prefix-free codewords.
+-- The cost of codewords (the sum of weight times length), and prefix-free codebooks of least cost.
 use Rattle.std.specs.Prelude.{◌≡◌, ℕ, ◌+◌, ◌*◌, ◌<◌, ◌≤◌, Bool, List, [], ◌∷◌, ◌++◌, length, map, get_or, Option, Some}
 use Rattle.std.specs.Prelude.{AllPairs}
 use Rattle.constriction_symbol.specs.Huffman.{symbols_from}

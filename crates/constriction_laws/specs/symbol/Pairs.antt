@@ -1,4 +1,4 @@
--- Lists of symbols that are written and read, all under one codebook or each under its own.
+-- The outcomes of writing and reading lists of symbols, all with one codebook or each with its own.
 use Rattle.std.specs.Prelude.{◌≡◌, ℕ, Bool, List, ◌++◌, Option, Result, Vec, IfOk, length, reverse}
 use Rattle.std.specs.List.{zip}
 use Rattle.constriction_base.specs.declared.errors.CoderError.{CoderError}

@@ -1,4 +1,4 @@
--- The reasons why codewords weren't written or read, and why weights make no Huffman tree.
+-- The reasons why codewords aren't written or read, and why weights make no Huffman tree.
 use Rattle.std.specs.Prelude.{◌≡◌, ℕ, ◌<◌, ◌≤◌, ◌⊎◌, ⊤, Bool, List, ◌∷◌, ◌++◌, Option, None, Result, Err, length, drop}
 use Rattle.std.specs.List.{zip}
 use Rattle.constriction_base.specs.declared.errors.CoderError.{CoderError}

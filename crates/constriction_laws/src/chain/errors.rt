@@ -11,6 +11,6 @@ pub enum PutBackError {
     ImpossibleSymbol,
     /// The coder needs a word of the remainders, and none is left.
     OutOfRemainders,
-    /// There was no memory.
+    /// There is no memory.
     NoMemory,
 }

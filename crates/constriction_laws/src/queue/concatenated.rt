@@ -7,6 +7,6 @@ pub enum DecodeError {
     NoSuchPlace,
     /// Starting at the position, the words don't encode one symbol for each model.
     InvalidData,
-    /// There was no memory.
+    /// There is no memory.
     NoMemory,
 }

@@ -1,7 +1,8 @@
 //! Lists of symbols on the range coder. Decoding returns the first symbol first.
 //!
-//! Each symbol has its own table, with any allowed precision. The laws follow from the laws of one step by
-//! [`lists_undo`]. The steps of that law undo encodes, from the last to the first.
+//! Each symbol has its own table, with any allowed precision. The function [`lists_undo`] extends the laws of one step
+//! to lists. Each step in the list passed to [`lists_undo`] undoes one encode. The list goes from the last encode to
+//! the first.
 //!
 //! An interval (`Run`) has a lower end, which is an unbounded number, and a range. It also has the number `n` of words
 //! that the encoder has moved out of its state. Words lie within an interval if the number that they form lies in the
@@ -18,7 +19,7 @@ ghost use Rattle.constriction_laws.specs.queue.Undone.{Reading, TakesBack, read_
 use crate::lists::{StepsUndo, lists_undo};
 use std::marker::PhantomData;
 
-/// Implements [`StepsUndo`] for the range coder: each step takes back an encode, and the inverse step is a decode.
+/// Implements [`StepsUndo`] for the range coder: each step undoes an encode, and the inverse step is a decode.
 ///
 /// [`decodes_undo_encodes`] passes this type to [`lists_undo`].
 pub struct Encoding<Symbol> {

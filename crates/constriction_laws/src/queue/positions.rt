@@ -1,8 +1,8 @@
-//! Positions of the range coder. Seeking to a recorded position leads a decoder to the encoder's interval at that time.
+//! Positions of the range coder. Seeking to a recorded position leads a decoder to the interval recorded there.
 //!
-//! A position is the number of words written and pending, and the interval. A position stays usable in all words that
-//! the encoder exports later, whatever symbols the encoder encodes in between. This holds even if a carry changes the
-//! pending words.
+//! A position consists of the number of words that are written or pending, and the interval. A position stays usable in
+//! all words that the encoder exports later, until the encoder is cleared. It doesn't matter which symbols are encoded
+//! in between, or whether a carry changes the pending words.
 
 ghost use Rattle.std.specs.Prelude.{◌≡◌, ◌/◌, ◌^◌, ℕ, List, drop};
 ghost use Rattle.constriction_base.specs.Models.{Item};

@@ -141,7 +141,7 @@ pub fn words_come_back<Symbol>()
 
 /// Popping steps in reverse order undoes their pushes, and pushing steps in reverse order undoes their pops.
 ///
-/// A step is an entry of a table: a symbol's precision, weight and interval. Pushes undo pops that start from a valid
+/// A step consists of the precision of a table and the interval of a symbol. Pushes undo pops that start from a valid
 /// state. A list of steps can be pushed onto each valid state in exactly one way.
 pub fn lists_of_entries_undo()
     ensures pushes { (w s : ℕ) (steps : List Step) (old : AnsState) → FromValid w s steps old ((new : AnsState) × Pushes

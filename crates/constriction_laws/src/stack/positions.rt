@@ -1,7 +1,7 @@
-//! Positions of the stack coder. Seeking to a recorded position restores the coder's state at that time.
+//! Positions of the stack coder. If only encodes follow a recorded position, seeking to it undoes these encodes.
 //!
-//! A position is the number of words below the head, and the head. While the coder only encodes, the words that were
-//! below the head at the recording stay below the words that the coder writes.
+//! A position consists of the head and the number of words below the head. While the coder only encodes, the words that
+//! were below the head when the position was recorded stay below the words that the coder writes.
 
 ghost use Rattle.std.specs.Prelude.{◌≡◌, ◌≤◌, ℕ, List, length, reverse};
 ghost use Rattle.constriction_laws.specs.stack.Lists.{AddsOneAtMost, AfterEncodes, AfterTwo, DecodesBack, IsOneWayBack};

@@ -1,6 +1,6 @@
 //! Laws of stack coders over backends that don't behave as a fixed list of words (`is_list`), such as iterators.
 //!
-//! Suppose that a function lists the words of each value of the backend, and that reads return these words one by one.
+//! Suppose that a function lists the words of each state of a backend, and that reads return these words one by one.
 //! Then importing words from the backend equals importing the list, and decoding from the backend equals decoding from
 //! the list.
 

@@ -16,7 +16,7 @@ pub fn words_that_are_exported()
         drop (length (digits_of (2 ^ w) state.head)) (exported w state) ≡ state.words }
 {}
 
-/// The `valid_bit_count` of a state is the number of bits in the words of the state's binary form.
+/// If a state has a binary form, the state's `valid_bit_count` is the number of bits in the words of that form.
 pub fn bits_of_binary_words()
     ensures { (w m : ℕ) (state : AnsState) → IsOneAbove w m state.head →
         valid_bit_count w state ≡ w * length (binary_words w m state) }

@@ -1,8 +1,8 @@
 //! The cost of a Huffman tree that a call builds, compared with the costs of other codebooks.
 //!
 //! The cost of codewords, one for each weight, is the sum of each weight times the length of its codeword in bits.
-//! [`least_cost`](crate::symbol::huffman::least_cost) compares definitions. The function here is about the tree that
-//! `EncoderHuffmanTree::from_probabilities` builds.
+//! [`least_cost`](crate::symbol::huffman::least_cost) is about the tree that contracts define. The function here is
+//! about the tree that `EncoderHuffmanTree::from_probabilities` builds.
 
 ghost use Rattle.constriction_laws.specs.symbol.Cost.{CostsFromZero, IsNoDearer};
 ghost use Rattle.constriction_laws.specs.symbol.Refusals.{HaveNoTree};
@@ -16,11 +16,12 @@ use constriction_words::BitArray;
 use std::alloc::Global;
 use std::convert::Infallible;
 
-/// Builds a Huffman tree of `weights` for an encoder. No other codebook costs less with these weights.
+/// Builds a Huffman tree of `weights` for an encoder. No codebook of type `C` costs less with these weights.
 ///
-/// The cost of a codebook is a sum over all weights: each weight times the length of its symbol's codeword in bits. In
-/// the tree, the symbols of the weights are `0`, `1` and so on. In the other codebook, which has the type `C`, they
-/// are any symbols with codewords, one for each weight. No two of these symbols mean the same (`is_same`).
+/// The cost of a codebook is a sum over all weights: each weight times the length of its symbol's codeword in bits. The
+/// tree has the symbols `0`, `1` and so on, one for each weight. The contract compares the tree with any codebook of
+/// type `C`. The weights may belong to any symbols with codewords in that codebook. No two of these symbols mean the
+/// same (`is_same`).
 ///
 /// # Errors
 ///

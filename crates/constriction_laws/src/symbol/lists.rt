@@ -33,10 +33,10 @@ pub fn mixed_symbols_come_back<S: Semantics, R: ReadBitStream<S>, C: DecoderCode
         rest old new }
 {}
 
-/// If decoding `amt` symbols stops with a codebook's error, the bits don't begin with the codewords of `amt` symbols.
+/// If decoding `amt` symbols stops with the codebook's error, the unread bits don't begin with `amt` codewords.
 ///
-/// The law requires that the stream behaves as a fixed list of bits (`is_list`). `bits` is any prefix of the stream's
-/// unread bits, or all of them.
+/// The law requires that the stream behaves as a fixed list of bits (`is_list`). All symbols have the same codebook. In
+/// the contract, `bits` is any prefix of the unread bits.
 pub fn refused_where_none_begin<S: Semantics, R: ReadBitStream<S>, C: DecoderCodebook>()
     requires { R.is_list }
     ensures { (codebook : C) (amt : ℕ) (bits tail : List Bool) (old new : R) (e : SymbolCodeError C.InvalidCodeword) →

@@ -1,4 +1,4 @@
--- The entries of false and true make a table.
+-- Proof that the entries of a Bernoulli model make a table.
 use Rattle.std.specs.Prelude.{ℕ, ◌-◌, ◌^◌, ◌<◌, ◌≤◌, length, [], ◌∷◌, Bool, true, false}
 use Rattle.std.proofs.Common.{refl, inl, inr, arith, ap}
 use Rattle.std.proofs.lemmas.Bool.{true≢false}

@@ -1,4 +1,4 @@
--- Equal weights make a table, and a division finds the symbol whose interval holds a quantile.
+-- Proof that the entries of a uniform model make a table, and laws of the division that finds a quantile's symbol.
 use Rattle.std.specs.Prelude.{◌≡◌, ℕ, suc, ◌+◌, ◌-◌, ◌*◌, ◌/◌, ◌^◌, ◌<◌, ◌≤◌, length}
 use Rattle.std.proofs.Common.{refl, inl, inr, arith}
 use Rattle.std.proofs.Math.Nat.{div-mul-le_self, mul-div-le, lt-mul-div-succ, mul_comm, mul-le-mul_right, mul-lt-mul_of_pos_right}

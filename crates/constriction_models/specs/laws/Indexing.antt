@@ -1,4 +1,4 @@
--- A table with indices instead of symbols is a table too.
+-- Proof that a quantized table with indices in place of symbols is a table.
 use Rattle.std.specs.Prelude.{◌≡◌, ℕ, suc, ◌+◌, ◌-◌, ◌^◌, ◌<◌, ◌≤◌, length, ℤ}
 use Rattle.std.proofs.Common.{refl, ap, arith, subst, sym, ◌∙◌}
 use Rattle.constriction_base.specs.Tables.{Has, Impossible, IsTable}

@@ -1,4 +1,4 @@
--- Interpolated functions are distribution functions: they never fall and stay within 2 ^ 32.
+-- Proof that interpolated functions are distribution functions: they never fall, and no value exceeds 2 ^ 32.
 use Rattle.std.specs.Prelude.{◌≡◌, ℕ, zero, suc, ◌+◌, ◌-◌, ◌*◌, ◌/◌, ◌%◌, ◌<◌, ◌≤◌, List, [], ◌∷◌, length, slice_index, true, nat_le, ℤ, pos, negsuc, ◌+ℤ◌, ◌-ℤ◌, ◌≤ℤ◌, ◌<ℤ◌}
 use Rattle.std.proofs.Common.{refl, ap, ◌∙◌, inl, inr, arith, leb-true}
 use Rattle.std.proofs.Math.Nat.{mul-le-mul_left, mul-le-mul_right, mul-lt-mul_of_pos_right, div-mul-le_self, mul_assoc, mul_comm}

@@ -1,5 +1,5 @@
--- A mixture of distribution functions is a distribution function. A mixture of one component equals this component, and
--- a component of weight 0 changes nothing.
+-- Proof that a mixture of distribution functions is a distribution function. A mixture of one component has the
+-- component's distribution function, and a component of weight 0 changes nothing.
 use Rattle.std.specs.Prelude.{◌≡◌, ℕ, ◌+◌, ◌*◌, ◌/◌, ◌<◌, ◌≤◌, List, [], ◌∷◌, ◌++◌, ℤ, ◌≤ℤ◌}
 use Rattle.std.specs.List.{sum_by}
 use Rattle.std.proofs.Common.{refl, ap, ◌∙◌, arith}

@@ -20,8 +20,8 @@ impl<Word: WordOf<State>, State: BitArray, Backend: ReadWords<Word, Queue>> Rang
 > {
     /// Creates a decoder over a backend, and reads the first `State::BITS / Word::BITS` words.
     ///
-    /// If the backend has fewer words, the decoder stops reading at the first read that finds no word. It uses zero
-    /// words for the missing words.
+    /// If the backend has fewer words, the decoder stops reading at the first read that finds no word. Each missing word
+    /// counts as 0.
     ///
     /// # Errors
     ///
@@ -113,8 +113,8 @@ impl<Word: WordOf<State>, State: BitArray, Backend: ReadWords<Word, Queue>> Rang
 
     /// Returns whether all encoded symbols may have been decoded.
     ///
-    /// At every precision, `maybe_exhausted` of the trait `Decode` returns the same value. See its documentation for
-    /// the conditions.
+    /// At every precision, the decoder's `Decode::maybe_exhausted` returns the same value. The documentation of that
+    /// implementation states the conditions.
     #[inline]
     pub fn maybe_exhausted(&self) -> bool
         ensures { IsTrue result ↔ MayBeExhausted Word.BITS State.BITS Backend.seems_exhausted self.now }

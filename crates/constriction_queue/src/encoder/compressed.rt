@@ -109,9 +109,10 @@ impl<Word: WordOf<State>, State: BitArray, Backend: BoundedReadWords<Word, Stack
     State,
     Backend,
 > {
-    /// Returns whether the number of bits of the words that [`RangeEncoder::into_compressed`] returns fits a `usize`.
+    /// Returns whether the total number of bits in all words of the encoder's export fits a `usize`.
     ///
-    /// The caller of [`RangeEncoder::num_words`] or [`RangeEncoder::num_bits`] proves that this number fits.
+    /// The export consists of the words that [`RangeEncoder::into_compressed`] would return.
+    /// [`RangeEncoder::num_words`] and [`RangeEncoder::num_bits`] require that this number fits.
     pub fn sizes_fit(&self) -> bool
         ensures { IsTrue result ↔ SizesFit Word.BITS State.BITS self.now }
     {

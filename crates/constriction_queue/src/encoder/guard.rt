@@ -65,7 +65,8 @@ impl<Word: WordOf<State> + fmt::Debug, State: BitArray, A: Allocator> fmt::Debug
 impl<Word: WordOf<State>, State: BitArray, A: Allocator> RangeEncoder<Word, State, Vec<Word, A>> {
     /// Writes the pending words and the seal onto the vector, and returns how many words it wrote.
     ///
-    /// The interval and the pending words are unchanged. If there is no memory, the vector's words are unchanged too.
+    /// The interval and the pending words are unchanged. If there is no memory, the call returns `AllocError`, and the
+    /// vector's words are unchanged too.
     pub(crate) fn put_seal(&mut self) -> Result<usize, AllocError>
         ensures shows { OnOk result (reverse self.new.words ≡ sealed_by Word.BITS State.BITS self.old) }
         ensures back { IfOk result (λ count. drop count self.new.words ≡ self.old.words) }

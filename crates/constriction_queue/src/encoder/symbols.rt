@@ -1,4 +1,4 @@
-//! Encoding one symbol with a range encoder. Other methods of the trait `Encode` encode lists of symbols.
+//! Encoding one symbol with a range encoder. The trait `Encode` also has methods that encode lists of symbols.
 
 ghost use Rattle.std.specs.Prelude.{◌≡◌, ◌+◌, ◌≤◌, ◌<◌, []};
 ghost use Rattle.std.specs.Bool.{OnFalse};

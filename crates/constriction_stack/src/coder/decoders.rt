@@ -326,7 +326,7 @@ impl<Word: WordOf<State>, State: BitArray, Backend: IntoSeekReadWords<Word, Stac
     State,
     Backend,
 > {
-    /// Turns the coder into a decoder with the same state. The coder's backend becomes one for reading and seeking.
+    /// Turns the coder into a decoder that can also seek. The state stays the same.
     pub fn into_seekable_decoder(self) -> AnsCoder<Word, State, Backend::IntoSeekReadWords>
         ensures state { result.state ≡ self.state }
         ensures place { Backend.becomes self.backend result.backend }

@@ -4,9 +4,9 @@
 //! these words.
 //!
 //! In contracts, `lender` is the coder that a guard borrows, and `written` is how many words the call wrote (see
-//! `specs/Guarded.antt`). A guard has no `Model`, because the value of a `Model` can't say which coder the guard
-//! borrows. The contract of `backend` states that the backend holds the coder's words, so a caller who decodes lent
-//! words needs no other contract.
+//! `specs/Guarded.antt`). A guard doesn't implement Rattle's trait `Model`, because the value that `Model` gives a type
+//! in contracts couldn't identify the coder that the guard borrows. The contract of `backend` states that the backend
+//! holds the coder's words, so a caller who decodes lent words needs no other contract.
 
 ghost use Rattle.constriction_base.specs.Readings.{NeverRefused};
 ghost use Rattle.std.specs.Prelude.{◌≡◌, ◌↔◌, ◌^◌, ◌++◌, ℕ, drop, map, Ok, Err, IfOk, IfErr, OnOk};

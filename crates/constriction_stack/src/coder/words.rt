@@ -268,8 +268,8 @@ impl<Word: WordOf<State>, State: BitArray, Backend: BoundedReadWords<Word, Stack
     /// Returns the number of bits that carry information.
     ///
     /// These are the bits of the words below the head, and the bits of the head below its leading 1. For a new coder,
-    /// the number is 0. The caller proves that [`AnsCoder::num_bits`] would fit a `usize`, as [`AnsCoder::sizes_fit`]
-    /// tests.
+    /// the number is 0. The caller proves that the result of [`AnsCoder::num_bits`] fits a `usize`, as
+    /// [`AnsCoder::sizes_fit`] tests.
     pub fn num_valid_bits(&self) -> usize
         requires { SizesFit Word.BITS self.now.state }
         ensures { result ≡ valid_bit_count Word.BITS self.now.state }

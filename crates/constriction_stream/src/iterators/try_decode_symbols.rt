@@ -1,4 +1,4 @@
-//! `TryDecodeSymbols`, an iterator that decodes symbols from items that are either a model or an error.
+//! `TryDecodeSymbols`, an iterator that decodes symbols from a caller's items. Each item is a model or an error.
 
 ghost use Rattle.std.specs.Prelude.{◌≡◌};
 ghost use Rattle.constriction_stream.specs.Symbols.{DecodesByModel};
@@ -10,7 +10,7 @@ use constriction_base::errors::CoderError;
 use constriction_base::model::{DecoderModel, EntropyModel};
 use constriction_words::WordOf;
 
-/// An iterator that decodes one symbol for each model, and returns each error that takes the place of a model.
+/// An iterator that decodes one symbol for each model, and returns each error that replaces a model.
 ///
 /// [`Decode::try_decode_symbols`](crate::decoding::Decode::try_decode_symbols) returns this iterator.
 ///

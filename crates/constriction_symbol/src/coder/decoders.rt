@@ -1,6 +1,6 @@
 //! Turns bit coders into decoders and iterators of the same bits.
 //!
-//! A decoder of a queue also returns the zeros that complete the last word.
+//! A decoder or an iterator of a queue also returns the zeros that complete the last word.
 
 ghost use Rattle.constriction_symbol.specs.Bits.{PadsTo, ReadsWritten, bits_of_words};
 ghost use Rattle.std.specs.Prelude.{IfErr, IfOk, [], map, ◌≡◌};
@@ -48,7 +48,7 @@ impl<
     ///
     /// # Errors
     ///
-    /// Returns the errors of [`QueueEncoder::into_decoder`].
+    /// Returns the backend's error in the same case as [`QueueEncoder::into_decoder`].
     pub fn into_overshooting_iter(
         self,
     ) -> Result<QueueDecoder<Word, B::IntoReadWords>, B::WriteError>

@@ -28,8 +28,8 @@ fn codeword_below(above: usize, bit: usize) -> usize
 /// Returns each node's codeword, stored as one number. `nodes` is the list that `parents_of` returns.
 ///
 /// The number is a leading 1 followed by the codeword from its first bit to its last. For a codeword of `usize::BITS`
-/// bits or more, this doesn't fit a `usize`, and the number is 0. If there is no memory for the list, the call returns
-/// `AllocError`.
+/// bits or more, the number is 0, because the leading 1 and the bits don't fit a `usize`. If there is no memory for the
+/// result, the call returns `AllocError`.
 pub fn codewords_of(alloc: Global, nodes: &[usize]) -> Result<Vec<usize>, AllocError>
     requires rising { GoesUp (length nodes.now) nodes.now }
     ensures { IfOk result (λ codewords. HasCodewords nodes.now codewords.items) }

@@ -25,8 +25,8 @@ use std::marker::Model;
 
 /// A Huffman tree for decoding, with a codeword for each symbol from 0 to `num_symbols() - 1`.
 ///
-/// The cost of a codebook is the sum of each symbol's weight times the length of the symbol's codeword. No prefix-free
-/// codebook for the same weights costs less than this tree.
+/// The cost of a codebook is a sum over all symbols: the symbol's weight times the length of the symbol's codeword. No
+/// prefix-free codebook for the same weights costs less than this tree.
 ///
 /// Contracts describe a `DecoderHuffmanTree` by a tree whose leaves are the symbols. The codeword of a symbol is the
 /// path from the root to the symbol's leaf.
@@ -40,7 +40,7 @@ use std::marker::Model;
 /// ```
 #[derive(Debug, Drop)]
 pub struct DecoderHuffmanTree {
-    /// The two children of each inner node. The root is the last node.
+    /// The two children of each inner node, with the root last. A tree with one symbol has no inner node.
     ///
     /// A child is a symbol, or the number of symbols plus the index of an inner node in this list.
     nodes: Vec<[usize; 2]>,
@@ -119,10 +119,10 @@ impl DecoderHuffmanTree {
     ///
     /// Each item of `probabilities` is a reference to a weight, or another value that lends one ([`Lent`]).
     ///
-    /// At first each symbol is a tree of its own. Each merge joins the two trees of least weight, until one tree is
-    /// left. Of two trees with equal weights, the tree with the lower index is the lesser. The index of a symbol's tree
-    /// is the symbol. The tree that a merge creates gets the next free index. Of the two trees that a merge joins, the
-    /// lesser gets bit 0.
+    /// At first each symbol is a tree of its own, and the symbol is the tree's index. Each merge joins the two trees of
+    /// least weight, until one tree is left. The tree that a merge creates gets the next free index. Of two trees with
+    /// equal weights, the tree with the lower index is the lesser. Of the two trees that a merge joins, the lesser gets
+    /// bit 0.
     ///
     /// # Errors
     ///
@@ -170,8 +170,8 @@ impl DecoderHuffmanTree {
     /// - `Iterator(error)` if the item is `Err(error)`.
     /// - `Memory` if there is no memory for the item's weight.
     ///
-    /// If the call collects all weights, it returns the errors of [`DecoderHuffmanTree::from_probabilities`] for these
-    /// weights.
+    /// If the call collects all weights, the remaining errors are those of [`DecoderHuffmanTree::from_probabilities`],
+    /// in the same order.
     ///
     /// # Examples
     ///

@@ -5,8 +5,8 @@
 //! The index of an entry is a leading 1 followed by the bits, as a binary number. Entry `n` follows from entry `n / 2`
 //! and one more bit, so one loop fills the table.
 //!
-//! With equal weights, the tree's longest codeword would have `b` bits. A look-up reads `b + 1` bits, but at most 9. So
-//! a small tree has a small table.
+//! Let `b` be the length of the longest codeword if all symbols had equal weights. A look-up reads `b + 1` bits, but at
+//! most 9. So a small tree has a small table.
 
 ghost use Rattle.constriction_symbol.specs.DecoderTree.{HasPlaces, HoldsTree, IsPlace, IsTopPlace, tree_of_pairs};
 ghost use Rattle.std.specs.Prelude.{Bool, IfOk, List, [], length, ◌+◌, ◌++◌, ◌<◌, ◌==◌, ◌^◌, ◌∷◌, ◌≡◌, ◌≤◌, ℕ};
@@ -30,7 +30,8 @@ pub struct Place {
 
 /// Returns the number of bits that one look-up reads in the decoding table of a tree with `nodes` inner nodes.
 ///
-/// With equal weights, the tree's longest codeword would have `b` bits. The call returns `b + 1`, but at most `MOST`.
+/// Let `b` be the length of the longest codeword if all symbols had equal weights. The call returns `b + 1`, but at most
+/// `MOST`.
 fn most_of(nodes: usize) -> u32
     ensures some { 0 < result }
     ensures few { result ≤ 9 }

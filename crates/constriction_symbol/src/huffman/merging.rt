@@ -1,11 +1,11 @@
 //! Huffman's algorithm, which joins the two trees of least weight until one tree is left.
 //!
 //! A leaf is the tree of one symbol, and a union is a tree that a merge created. The leaves are sorted, and no union
-//! weighs less than an earlier union. So the least tree is the first leaf or the first union that is left. If both have
-//! the same weight, the leaf is the lesser, because leaves have lower indices than unions.
+//! weighs less than an earlier union. So the least tree left is either the first leaf left or the first union left. If
+//! both have the same weight, the leaf is the lesser, because leaves have lower indices than unions.
 //!
 //! The constructors of Huffman trees collect all weights before the merge, because the merge requires that the sum of
-//! the weights fits their type. Collecting may fail with `Memory` at each weight.
+//! the weights fits their type. Collecting any weight may fail with `Memory`.
 
 ghost use Rattle.constriction_symbol.specs.Huffman.{IsPairLe, keys_from};
 ghost use Rattle.constriction_symbol.specs.Merging.{ArePairs, FitTree, MakeNoTree, all_keys, key_of, keys_of};
@@ -116,7 +116,8 @@ fn merge_all<P: BitArray>(alloc: Global, weights: &[P]) -> Result<Vec<[usize; 2]
 
 /// Merges the trees of at most `most` weights, and returns the indices of the two trees of each merge, in order.
 ///
-/// The indices are those that [`merge_all`] returns. The caller proves that `2 * most` fits a `usize`.
+/// The tree of `weights[i]` has index `i`. The trees that merges create have the next indices, starting at
+/// `weights.len()`. The caller proves that `2 * most` fits a `usize`.
 ///
 /// # Errors
 ///

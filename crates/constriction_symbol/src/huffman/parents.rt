@@ -1,4 +1,4 @@
-//! The parent of each node of a Huffman tree, and the climb from a symbol to the root, which finds a codeword.
+//! The parent of each node of a Huffman tree. Climbing from a symbol's leaf to the root finds the symbol's codeword.
 
 ghost use Rattle.constriction_symbol.specs.Codewords.{Emits};
 ghost use Rattle.constriction_symbol.specs.Huffman.{AreUnions, GoesUp, IsParents, climbed};

@@ -1,7 +1,7 @@
 //! The two halves of a round trip on the chain coder: from words to symbols and remainders, and back.
 //!
 //! By the law [`words_come_back`](crate::chain::words::words_come_back), the second half restores the words that the
-//! first half decoded.
+//! first half decoded the symbols from.
 
 ghost use Rattle.std.specs.Prelude.{◌≡◌, ℕ, List, length, map, reverse, IfErr, IfOk, OnOk};
 ghost use Rattle.constriction_base.specs.Models.{pairs_of};

@@ -73,7 +73,7 @@ where
     }
 }
 
-/// Decodes one symbol for each model from any words.
+/// Decodes one symbol for each model from `words`, which need not be the words of an encoder.
 ///
 /// Returns the symbols, and whether the decoder then reports that it may be exhausted. Calls `from_compressed`,
 /// `decode_symbols` and `maybe_exhausted`.

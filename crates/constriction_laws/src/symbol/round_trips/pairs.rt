@@ -30,7 +30,8 @@ use std::alloc::{AllocError, Global};
 /// - `Frontend(ImpossibleSymbol)`: a codebook has no codeword for its symbol. The codewords of the symbols before that
 ///   symbol are written.
 /// - `Backend(error)`: the backend refused a word, or there was no memory. The codewords of the symbols before the
-///   failing symbol are written. Of the failing symbol's codeword, the bits before the refused bit are written.
+///   failing symbol are written. If the backend refused a word, the bits of the failing symbol's codeword before the
+///   refused bit are also written.
 pub fn encode_pairs<W: WriteBitStream<Queue>, C: EncoderCodebook>(
     stream: &mut W,
     symbols: &[C::Symbol],
@@ -46,15 +47,16 @@ pub fn encode_pairs<W: WriteBitStream<Queue>, C: EncoderCodebook>(
 
 /// Encodes symbols from last to first, each with its own codebook, onto a stack.
 ///
-/// Calls `encode_symbols_reverse`. After the call, the stack returns the codewords in the order of the list, and then
-/// the bits that it had before the call. The caller proves that there are as many codebooks as symbols.
+/// Calls `encode_symbols_reverse`. After the call, reads return the codewords in the order of the list, and then the
+/// bits that the stack held before the call. The caller proves that there are as many codebooks as symbols.
 ///
 /// # Errors
 ///
 /// - `Frontend(ImpossibleSymbol)`: a codebook has no codeword for its symbol. The codewords of the symbols after that
 ///   symbol in the list are written.
-/// - `Backend(error)`: the backend refuses a word, or there is no memory. The codewords of the symbols after the
-///   failing symbol in the list are written, and the bits of the failing symbol's codeword before the refusal.
+/// - `Backend(error)`: the backend refused a word, or there was no memory. The codewords of the symbols after the
+///   failing symbol in the list are written. If the backend refused a word, the bits of the failing symbol's suffix
+///   form before the refused bit are also written.
 pub fn encode_pairs_reverse<Word: BitArray, B: WriteWords<Word>, C: EncoderCodebook>(
     coder: &mut StackCoder<Word, B>,
     symbols: &[C::Symbol],
