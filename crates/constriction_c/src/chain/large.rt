@@ -78,7 +78,7 @@ pub extern "C" fn constriction_chain_encode_reverse_u32(
 
 /// Imports a coder from compressed words. The coder has no words of remainders below its heads.
 ///
-/// Sets `heads`, and sets `count` to the number of words that stay in `words`, below the compressed head.
+/// Sets `heads`, and sets `count` to the number of words that stay in `words`, below the heads.
 ///
 /// Calls [`from_compressed`] and returns the code of its result ([`code_of`]).
 #[unsafe(no_mangle)]

@@ -354,7 +354,7 @@ pub extern "C" fn constriction_chain_encode_shorts_reverse_u16(
 
 /// Imports a coder from compressed words in binary form. The coder has no words of remainders below its heads.
 ///
-/// Sets `heads`, and sets `count` to the number of words that stay in `words`, below the compressed head.
+/// Sets `heads`, and sets `count` to the number of words that stay in `words`, below the heads.
 ///
 /// Calls [`from_binary`] and returns the code of its result ([`code_of`]).
 #[unsafe(no_mangle)]
@@ -392,7 +392,7 @@ pub extern "C" fn constriction_chain_into_binary_u16(
 
 /// Imports a coder from the words of remainders. The coder has no compressed words below its heads.
 ///
-/// Sets `heads`, and sets `rest` to the number of words that stay in `words`, below the compressed head.
+/// Sets `heads`, and sets `rest` to the number of words that stay in `words`, below the heads.
 ///
 /// Calls [`from_remainders`] and returns the code of its result ([`code_of`]).
 #[unsafe(no_mangle)]
