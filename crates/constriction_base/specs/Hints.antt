@@ -2,7 +2,7 @@
 use Rattle.std.specs.Prelude.{ℕ, ◌+◌, ◌*◌, ◌<◌, ◌≤◌, List, length, slice_index}
 use Rattle.constriction_base.specs.Tables.{end_of}
 
--- The interval of `symbol` holds the quantile `place` or ends at it.
+-- The interval of `symbol` holds the number `place` or ends at it.
 pub record IsHint (starts : List ℕ) (high place symbol : ℕ) : Type 0 where
   pub known : symbol < length starts
   pub from : slice_index starts symbol ≤ place

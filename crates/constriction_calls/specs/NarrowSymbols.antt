@@ -4,7 +4,8 @@ use Rattle.constriction_base.specs.Models.{items_of}
 use Rattle.constriction_inputs.specs.Coded.{Coded}
 use Rattle.constriction_inputs.specs.Weights.{IsTotal, weights_model}
 
--- Symbols of a type with `many` values, under the weights of one table. Each index of the table is below `many`.
+-- Symbols of a type with `many` values, under the weights of one table. `lengths_fit` requires that each index of the
+-- table is below `many`.
 abbrev pub narrow_by_weights : ℕ → List ℕ → List ℕ → Coded
 narrow_by_weights many weights symbols = record {
   items_at = λ precision. items_of (weights_model precision weights) symbols;

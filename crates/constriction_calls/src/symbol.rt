@@ -18,7 +18,8 @@
 //!   - There are more than `2^62 - 1` weights for encoding, or more than `2^63 - 1` for decoding.
 //! - `ImpossibleSymbol`: a symbol has no codeword.
 //! - `NoSpace(needed)`: the buffer is too short. `needed` is the number of words that the buffer has to hold.
-//! - `InvalidData`: an Exp-Golomb codeword stands for a number that doesn't fit its type, or a stack's last word is 0.
+//! - `InvalidData`: the next bits can't begin the Exp-Golomb codeword of a number that fits its type, or a stack's last
+//!   word is 0.
 //! - `OutOfData`: the words end before all symbols are decoded.
 //!
 //! If there is no memory, the call returns `NoMemory`, unless `WrongLength`, `WrongWeights` or `ImpossibleSymbol`

@@ -11,7 +11,7 @@ use constriction_scripts::script::{Act, Script};
 use constriction_words::{BitArray, WordOf};
 use std::alloc::Global;
 
-/// Returns a copy of the coder with the precision increased to `N`, or the answer that stands for the error.
+/// Returns a copy of the coder with the precision increased to `N`, or the text for the error in scripts.
 pub fn increase<Word, State, const PRECISION: usize, const N: usize>(
     coder: &Whole<Word, State, PRECISION>,
 ) -> Result<Whole<Word, State, N>, &'static str>
@@ -29,7 +29,7 @@ where
     }
 }
 
-/// Returns a copy of the coder with the precision decreased to `N`, or the answer that stands for the error.
+/// Returns a copy of the coder with the precision decreased to `N`, or the text for the error in scripts.
 pub fn decrease<Word, State, const PRECISION: usize, const N: usize>(
     coder: &Whole<Word, State, PRECISION>,
 ) -> Result<Whole<Word, State, N>, &'static str>

@@ -1,4 +1,4 @@
--- The self-delimiting seal of a run: any words may follow it. A state may have any number of words.
+-- The self-delimiting seal of a run: any words may follow it. A state may have any number of words from two on.
 use Rattle.std.specs.Prelude.{◌≡◌, ℕ, suc, ◌+◌, ◌-◌, ◌*◌, ◌/◌, ◌<◌, ◌≤◌, ◌^◌, ◌⊎◌, List, ◌++◌, replicate}
 use Rattle.constriction_base.specs.Digits.{fixed_digits}
 use Rattle.constriction_queue.specs.Range.{Run, seal_number}

@@ -28,7 +28,7 @@ pub fn one_chunk_at_entry()
         IsModel w model → HoldsChunk w s model words entry symbols → HoldsNoChunk w s model words entry → ⊥ }
 {}
 
-/// A look-up uses no words except the words of its chunk and the `s / w` words after the chunk.
+/// The symbols of a look-up depend on no words except the words of its chunk and the `s / w` words after the chunk.
 ///
 /// Here a word has `w` bits, and a state has `s` bits. If another list has the same words at these positions, decoding
 /// that list from the chunk's entry returns the same symbols.

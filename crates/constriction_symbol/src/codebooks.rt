@@ -42,8 +42,8 @@ pub trait Codebook: Drop {
 
 /// A codebook for encoding, which passes the bits of a codeword to a function, one by one.
 ///
-/// An implementor proves that a call without an error passes exactly the bits of the codeword, in the order of the
-/// call's form. The implementor also defines for which symbols a call may need memory (`prefix_wants`,
+/// An implementor proves that a successful call passes exactly the bits of the codeword, in the order that the call
+/// states. The implementor also defines for which symbols a call may need memory (`prefix_wants`,
 /// `suffix_wants`).
 pub trait EncoderCodebook: Codebook {
     /// Holds if emitting the symbol's codeword from the first bit to the last (the prefix form) may need memory.

@@ -9,7 +9,8 @@
 //! power of two, and then `r < 2^k`.
 //!
 //! Reciprocals of 64 bits work for every coder state of at most 64 bits. On x86-64, one instruction
-//! computes the 128-bit product of two 64-bit numbers. So reciprocals of 32 bits would save no instruction there.
+//! computes the 128-bit product of two 64-bit numbers. So
+//! reciprocals of 32 bits would save no multiplication there.
 
 ghost use Rattle.std.specs.Prelude.{◌≡◌, ◌+◌, ◌*◌, ◌/◌, ◌<◌, ℕ};
 

@@ -5,7 +5,8 @@
 //! [`RoundTripError`](crate::errors::RoundTripError) and [`PutBackError`](crate::chain::errors::PutBackError). The
 //! clause `err` proves the reason that an error names, except for `Refused` and `NoMemory`.
 //!
-//! - [`isolation`]: decodes symbols from two coders, and relates the results if both coders have the same words.
+//! - [`isolation`]: decodes symbols from two coders, and relates the results if both coders have the same
+//!   compressed head and compressed words.
 //! - [`words`]: decodes symbols and returns the remainders, or encodes the symbols onto the remainders.
 
 mod coding;
