@@ -1,6 +1,6 @@
 -- Contracts of the calls that encode and decode symbols as codewords, from a given bit of a buffer on. A call that
--- succeeds sets the caller's `bit` to the index of the bit after the last codeword. Bits and words are numbered from 0, and bit 0 of a
--- word is its lowest bit. Bit i of the words is bit i % w of word i / w.
+-- succeeds sets the caller's `bit` to the index of the bit after the last codeword. Bits and words are numbered from 0,
+-- and bit 0 of a word is its lowest bit. Bit i of the words is bit i % w of word i / w.
 use Rattle.std.specs.Prelude.{◌≡◌, ℕ, ◌+◌, ◌-◌, ◌*◌, ◌/◌, ◌^◌, ◌<◌, ◌≤◌, Bool, List, ◌++◌, length, map, take, drop, Option, OnErr, OnOk, Result}
 use Rattle.constriction_symbol.specs.Bits.{IsQueueWords, bits_of_words}
 use Rattle.constriction_symbol.specs.Lists.{AreCodewords}

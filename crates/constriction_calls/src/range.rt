@@ -6,7 +6,8 @@
 //! - [`encoding`]: encoding symbols.
 //! - [`decoding`]: decoding symbols.
 //! - [`words`]: sealing an encoder's words.
-//! - [`positions`]: placing a decoder at the first symbol or at a recorded position, and testing for the end.
+//! - [`positions`]: placing a decoder at the first symbol or at a recorded position, and testing whether the encoded
+//!   symbols may have ended.
 //! - [`parts`]: the structs of the numbers that a caller keeps.
 //!
 //! # Errors

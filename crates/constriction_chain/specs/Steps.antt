@@ -1,6 +1,6 @@
 -- The possible results of a chain coder's encodes, decodes and precision changes over any backends. The definitions use
--- only the backends' ghost members: their words, the results of a read, and the errors of a write and of `prepare`. A
--- backend knows its words if its `is_list` holds.
+-- only the backends' ghost members: their words, `is_list`, the results of a read, the errors of a write and of
+-- `prepare`, `makes_room`, and the room for words. In comments, a backend knows its words if its `is_list` holds.
 use Rattle.std.specs.Prelude.{◌≡◌, ◌⊎◌, ⊤, ℕ, ◌+◌, ◌-◌, ◌*◌, ◌/◌, ◌%◌, ◌^◌, ◌<◌, ◌≤◌, List, length, map, Option, None, Some, Result, Ok, Err, IfOk, IfErr}
 use Rattle.constriction_base.specs.Readings.{ReadsAs}
 use Rattle.constriction_base.specs.Steps.{Step}

@@ -16,13 +16,13 @@ pub enum Stopped<E> {
 pub enum RoundTripError {
     /// A model has no entry for its symbol.
     ImpossibleSymbol,
-    /// There are more symbols than a range encoder can still encode (`symbols_left`).
+    /// There are more symbols than `symbols_left` of the range encoder returns. No symbol is encoded.
     TooManySymbols,
     /// The call can't use the words, the position or the coder's state.
     ///
     /// For example, the words don't encode symbols of the given models, or the state has no binary form.
     InvalidData,
-    /// The words ended after this number of decoded symbols.
+    /// After this number of decoded symbols, a coder needs a word, and its backend returns none.
     OutOfData(usize),
     /// There is no memory, or a read or a write of a backend failed.
     Refused,

@@ -6,8 +6,8 @@
 //! Laws list words in reading order: the word that the next read returns comes first.
 //!
 //! Other public functions make the coders' calls, and their contracts describe the combined effect of these calls.
-//! They are the functions of the modules `round_trips` and `costs`, and two more: `flagged::decode_flagged` and
-//! `bounds::words::exchange`.
+//! They are the functions of the modules `round_trips` and `costs`, and three more: `queue::flagged::decode_flagged`,
+//! `queue::positions::run_of_any_encoder` and `bounds::words::exchange`.
 //!
 //! - [`bounds`]: upper bounds on the number of words, and sealed words that any words may follow.
 //! - [`chain`]: the chain coder, whose symbols are isolated.

@@ -1,6 +1,6 @@
 -- The stack coder: range asymmetric numeral systems (rANS, by Jarek Duda), as in `AnsCoder` of the Rust crate
--- `constriction`. All definitions are about numbers and lists. `w` and `s` are the numbers of bits of a word and of a
--- head.
+-- `constriction`. The definitions up to `exported` are about numbers and lists. The others are about coders over
+-- backends. `w` and `s` are the numbers of bits of a word and of a head.
 use Rattle.std.specs.Prelude.{◌≡◌, ℕ, ◌+◌, ◌-◌, ◌*◌, ◌/◌, ◌%◌, ◌<◌, ◌≤◌, ◌^◌, ◌⊎◌, List, [], ◌∷◌, ◌++◌, Option, Some, None, Result, Ok, Err, MatchResult, OnOk, OnErr, IfErr, map, nat_lt, if◌then◌else◌, length}
 use Rattle.std.specs.Int.Digits.{digits_of}
 use Rattle.constriction_base.specs.Steps.{Step, IsSizes, AreWords}

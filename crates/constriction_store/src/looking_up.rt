@@ -112,8 +112,8 @@ where
     /// Decodes the symbols of chunk `i`.
     ///
     /// A decoder of the store's words seeks to the chunk's position, and decodes as many symbols as the chunk's entry
-    /// states. The symbols depend on no words except the words of the chunk and the `State::BITS / Word::BITS` words after
-    /// it.
+    /// states. The symbols depend on no words except the words of the chunk and the `State::BITS / Word::BITS` words
+    /// after it.
     ///
     /// # Errors
     ///

@@ -1,4 +1,5 @@
--- Calls over the items of an iterator, and iterators that decode: the coder makes one step for each item, in order.
+-- The steps that a coder makes for the items of an iterator, in order, up to the first refused step. Also the results
+-- of a decoding iterator's `next`, and bounds on the number of items and on the number of symbols left.
 use Rattle.std.specs.Prelude.{◌≡◌, ℕ, ◌+◌, ◌≤◌, List, Option, None, Some, Result, Ok, Err, MatchOption, MatchResult}
 use Rattle.std.specs.Iterator.{Count, IsFinite, size, Drains, YieldsThen}
 use Rattle.constriction_base.specs.Steps.{InTurn}

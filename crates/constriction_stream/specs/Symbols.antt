@@ -1,4 +1,5 @@
--- Encoding and decoding one symbol: the coder makes the step of an entry of the model's table.
+-- The possible results of encoding or decoding one symbol under a model's table. Also statements about which errors a
+-- coder's steps can return.
 use Rattle.std.specs.Prelude.{◌≡◌, ℕ, List, ◌⊎◌, Result, Ok, Err, MatchResult}
 use Rattle.constriction_base.specs.Steps.{Step}
 use Rattle.constriction_base.specs.Tables.{AtEntry, Impossible}

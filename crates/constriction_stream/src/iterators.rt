@@ -1,8 +1,11 @@
 //! Iterators over the symbols that a decoder returns.
 //!
-//! The iterators are lazy: they decode a symbol only when the caller calls `next`. They return one result for each
-//! model, or a given number of results under one model. An error doesn't end an iterator. After the caller drops an
-//! iterator, the decoder is positioned after the symbols returned so far.
+//! The iterators are lazy: they decode a symbol only when the caller calls `next`. They return one result for each item
+//! of the caller's iterator, or a given number of results under one model. An error doesn't end an iterator.
+//!
+//! After the caller drops an iterator, the decoder is in the state that the calls of `next` led to. If no decode
+//! failed, the decoder is positioned after the symbols returned so far. A failed decode changes the decoder as
+//! `decode_symbol` does.
 //!
 //! The fields are public, because contracts name the decoder and the models that are left. The methods of `Decode` that
 //! return the iterators are `final`: if they were plain default methods, no impl of `Decode` could be proved.

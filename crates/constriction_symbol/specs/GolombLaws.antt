@@ -1,4 +1,5 @@
--- Laws of the Exp-Golomb codebook: no codeword of a b-bit number is a prefix of another one, of unfinished bits, or of invalid bits.
+-- Laws of the Exp-Golomb codebook: no codeword of a b-bit number is a prefix of another one, of unfinished bits, or of
+-- invalid bits.
 use Rattle.std.proofs.Common.{◌≡◌, ◌+◌, ◌-◌, ◌*◌, ◌/◌, ◌%◌, ◌<◌, ◌≤◌, ◌^◌, ◌==◌, ℕ, zero, suc, Bool, true, false, List, [], ◌∷◌, ◌++◌, Some, ap, sym, inl, inr, refl, ◌∙◌, arith, replicate, length, map, length-append, append_assoc, append-nil, if◌then◌else◌}
 use Rattle.std.specs.Int.Digits.{digits_of}
 use Rattle.std.proofs.lemmas.Int.Digits.{digits_of_step}

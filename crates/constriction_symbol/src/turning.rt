@@ -1,8 +1,9 @@
 //! Reverses the bits of a word, and converts a number to another word type.
 //!
-//! `BitArray` has no operation for these two tasks, so the functions loop over the bits. The compiler turns a loop of
-//! up to about twenty iterations into a few masks and shifts, or a move. So each function loops over one quarter
-//! of a word at a time, which is 16 bits of a `u64`.
+//! `BitArray` has no operation for these two tasks, so [`turned`] and [`same_number`] loop over the bits. The compiler
+//! turns a loop of up to about twenty iterations into a few masks and shifts, or a move. So each of the two functions
+//! runs four loops. A loop of `turned` goes over one quarter of the word, which is 16 bits of a `u64`. A loop of
+//! `same_number` goes over one quarter of the bits of the smaller type.
 
 ghost use Rattle.constriction_symbol.specs.Bits.{bits_of};
 ghost use Rattle.constriction_symbol.specs.Golomb.{number_after};
@@ -22,7 +23,9 @@ pub fn turned<Word: BitArray>(word: Word) -> Word
     turned_to(word, most, 3 * quarter, Word::BITS)
 }
 
-/// Returns the lowest `count` bits of `bits` in reverse order. The caller proves that all higher bits are 0.
+/// Returns the lowest `count` bits of `bits` in reverse order.
+///
+/// The caller proves that `count` is at most `Word::BITS`, and that all higher bits are 0.
 #[inline]
 pub fn first_lowest<Word: BitArray>(bits: Word, count: u32) -> Word
     requires within { count ≤ Word.BITS }

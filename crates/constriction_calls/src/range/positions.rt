@@ -1,4 +1,4 @@
-//! Placing a decoder at the first symbol or at a recorded position, and testing for the end of the encoded symbols.
+//! Placing a decoder at the first symbol or at a recorded position, and testing whether the symbols may have ended.
 
 ghost use Rattle.std.specs.Prelude.{map};
 ghost use Rattle.constriction_base.specs.Steps.{IsSizes};

@@ -47,7 +47,8 @@ NoPairsAt w s precision table words models position e =
     NoneAt w s words (λ symbols. pairs_of precision table symbols models) (length models)
     position.0 (lower_of position.1) (range_of position.1) e
 
--- A call returned the symbols that the words hold from a run on, if the position is that run's.
+-- If the position is that of a run, and the words hold symbols from this run on, one for each model, a successful call
+-- returns these symbols.
 abbrev pub GivesFrom : {S M A E Word State WordNonZero StateNonZero : Type 0} {word : _} {state : _} → ℕ → ℕ → ℕ
     → (M → List (S × ℕ × ℕ)) → List ℕ → List M → ℕ × RangeCoderState Word State WordNonZero StateNonZero word state
     → Result (Vec S A) E → Type 0
@@ -76,7 +77,8 @@ abbrev pub ReadsOnward : {S M A E B : Type 0} → ℕ → ℕ → ℕ → (M →
 ReadsOnward w s precision table models old result new = (words : List ℕ) (there : Run) → StandsAt w s words there old
     → IfOk result (λ again. ReadTo w s words (pairs_of precision table again.items models) there new)
 
--- A call decoded the symbols that the words hold where the decoder stood, and it stands behind them.
+-- If the words hold symbols where the old decoder stands, one for each model, a successful call returns these symbols,
+-- and the new decoder stands behind them.
 abbrev pub GivesFound : {S M A E B : Type 0} → ℕ → ℕ → ℕ → (M → List (S × ℕ × ℕ)) → List M → Decoder B
     → Result (Vec S A) E → Decoder B → Type 0
 GivesFound {S} w s precision table models old result new =
@@ -84,25 +86,28 @@ GivesFound {S} w s precision table models old result new =
     → FindsAll w s words (pairs_of precision table symbols models) there last
     → GivesBackAnd models symbols result (StandsAt w s words last new)
 
--- A call that decoded words by a new decoder returned the symbols, and whether the words may have ended.
+-- A successful call decodes words by a new decoder, and returns the symbols and whether the words may have ended. In
+-- each field, there are as many symbols as models. No field says that the call succeeds.
 pub record GivesSymbolsOf {S M A E : Type 0} (w s precision : ℕ) (table : M → List (S × ℕ × ℕ)) (words : List ℕ)
     (models : List M) (result : Result (Vec S A × Bool) E) : Type 0 where
-  -- If a new decoder finds symbols in the words, the call returns these symbols.
+  -- If a new decoder finds symbols in the words, a successful call returns these symbols.
   pub back : (symbols : List S) (last : Run)
       → FindsAll w s words (pairs_of precision table symbols models) (initial s) last
       → GivesBackWith models symbols result
-  -- If the words are the sealed words of items, the call returns the items' symbols, and that the words may have ended.
+  -- If the words are the sealed words of items, a successful call returns the items' symbols, and that the words may
+  -- have ended.
   pub sealed : (symbols : List S) → SealsAll w s (pairs_of precision table symbols models) (initial s) words
       → GivesBackWithOne models symbols result IsTrue
-  -- If a state is two words wide and the words begin with the sealed words of items, the call returns the items' symbols.
+  -- If a state is two words wide and the words begin with the sealed words of items, a successful call returns the
+  -- items' symbols.
   pub followed : (symbols : List S) (own rest : List ℕ) → s / w ≡ 2
       → SealsAll w s (pairs_of precision table symbols models) (initial s) own → words ≡ own ++ rest
       → GivesBackWith models symbols result
-  -- If the words begin with self-delimiting words of items, the call returns the items' symbols.
+  -- If the words begin with self-delimiting words of items, a successful call returns the items' symbols.
   pub delimited : (symbols : List S) (own rest : List ℕ)
       → DelimitsItems w s (pairs_of precision table symbols models) own → words ≡ own ++ rest
       → GivesBackWith models symbols result
-  -- If the words lie within the run of items, the call returns the items' symbols.
+  -- If the words lie within the run of items, a successful call returns the items' symbols.
   pub lying : (symbols : List S) → length symbols ≡ length models
       → LieWithin w s words (pairs_of precision table symbols models)
       → IfOk result (λ back. back.0.items ≡ symbols)

@@ -24,7 +24,7 @@ use constriction_words::WordOf;
 /// ```
 #[derive(Debug, Drop)]
 pub struct DecodeIidSymbols<'a, Decoder, M, const PRECISION: usize> {
-    /// The decoder, positioned after the symbols returned so far.
+    /// The decoder. If no decode failed, it is positioned after the symbols returned so far.
     pub decoder: &'a mut Decoder,
     /// The model of every symbol that the iterator decodes.
     pub model: M,

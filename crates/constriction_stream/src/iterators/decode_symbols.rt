@@ -23,7 +23,7 @@ use constriction_words::WordOf;
 /// ```
 #[derive(Debug, Drop)]
 pub struct DecodeSymbols<'a, Decoder, Models, const PRECISION: usize> {
-    /// The decoder, positioned after the symbols returned so far.
+    /// The decoder. If no decode failed, it is positioned after the symbols returned so far.
     pub decoder: &'a mut Decoder,
     /// The models of the symbols that are left to decode.
     pub models: Models,

@@ -23,7 +23,7 @@ use constriction_words::WordOf;
 /// ```
 #[derive(Debug, Drop)]
 pub struct TryDecodeSymbols<'a, Decoder, Models, const PRECISION: usize> {
-    /// The decoder, positioned after the symbols returned so far.
+    /// The decoder. If no decode failed, it is positioned after the symbols returned so far.
     pub decoder: &'a mut Decoder,
     /// The items that are left. Each item is a model, or an error instead of a model.
     pub models: Models,

@@ -5,8 +5,9 @@
 //! The index of an entry is a leading 1 followed by the bits, as a binary number. Entry `n` follows from entry `n / 2`
 //! and one more bit, so one loop fills the table.
 //!
-//! Let `b` be the length of the longest codeword if all symbols had equal weights. A look-up reads `b + 1` bits, but at
-//! most 9. So a small tree has a small table.
+//! Let `b` be the length of the longest codeword if all symbols had equal weights. The table covers `b + 1` bits, but
+//! at most 9. So a small tree has a small table. A look-up reads as many bits as the table covers, or all bits of the
+//! word if the word has fewer bits.
 
 ghost use Rattle.constriction_symbol.specs.DecoderTree.{HasPlaces, HoldsTree, IsPlace, IsTopPlace, tree_of_pairs};
 ghost use Rattle.std.specs.Prelude.{Bool, IfOk, List, [], length, ◌+◌, ◌++◌, ◌<◌, ◌==◌, ◌^◌, ◌∷◌, ◌≡◌, ◌≤◌, ℕ};
@@ -14,7 +15,7 @@ ghost use Rattle.std.specs.Prelude.{Bool, IfOk, List, [], length, ◌+◌, ◌++
 use constriction_words::BitArray;
 use std::alloc::{AllocError, Global};
 
-/// The largest number of bits that one look-up in the decoding table reads. A table for 9 bits takes 16 KiB.
+/// The largest number of bits that a decoding table covers. A table for 9 bits takes 16 KiB.
 const MOST: u32 = 9;
 
 /// The node that a list of bits leads to from the root.
@@ -28,7 +29,7 @@ pub struct Place {
     pub taken: u32,
 }
 
-/// Returns the number of bits that one look-up reads in the decoding table of a tree with `nodes` inner nodes.
+/// Returns the number of bits that the decoding table of a tree with `nodes` inner nodes covers.
 ///
 /// Let `b` be the length of the longest codeword if all symbols had equal weights. The call returns `b + 1`, but at most
 /// `MOST`.
@@ -60,7 +61,7 @@ fn place_below(nodes: &[[usize; 2]], place: Place, bit: usize) -> Place
     }
 }
 
-/// Returns the decoding table of a tree, and the number of bits that one look-up reads.
+/// Returns the decoding table of a tree, and the number of bits that the table covers.
 ///
 /// `nodes` lists the two children of each inner node. The root comes last. Entry `1xyz` (binary) of the table is the
 /// [`Place`] that the bits `x`, `y`, `z` lead to. If there is no memory for the table, the call returns `AllocError`.

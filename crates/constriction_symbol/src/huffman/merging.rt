@@ -4,8 +4,8 @@
 //! weighs less than an earlier union. So the least tree left is either the first leaf left or the first union left. If
 //! both have the same weight, the leaf is the lesser, because leaves have lower indices than unions.
 //!
-//! The constructors of Huffman trees collect all weights before the first merge, because the algorithm requires that the sum of
-//! the weights fits their type. Collecting any weight may fail with `Memory`.
+//! The constructors of Huffman trees collect all weights before the first merge, because the algorithm requires that
+//! the sum of the weights fits their type. Collecting any weight may fail with `Memory`.
 
 ghost use Rattle.constriction_symbol.specs.Huffman.{IsPairLe, keys_from};
 ghost use Rattle.constriction_symbol.specs.Merging.{ArePairs, FitTree, MakeNoTree, all_keys, key_of, keys_of};

@@ -1,8 +1,8 @@
 //! A tree that Huffman's algorithm can join, with its weight and its index.
 //!
-//! The algorithm compares weights as numbers of type `P`, as the Rust crate `constriction` does. A comparison reads
-//! both indices even if the weights differ. The compiled sort's main loop then has no branch that depends on a
-//! comparison.
+//! The algorithm compares weights as numbers of type `P`, as the Rust crate `constriction` does. `cmp` compares the
+//! indices even if the weights differ. The compiled sort's main loop then has no branch that depends on a comparison.
+//! `eq` compares the indices only if the weights are equal.
 
 ghost use Rattle.std.specs.Prelude.{◌==◌};
 ghost use Rattle.std.proofs.Common.{rules};
