@@ -76,12 +76,14 @@ pub fn keep<Word: WordOf<State>, State: BitArray, R: WriteWords<Word>>(
 
 /// Returns the quotient and the remainder of `number` divided by `p`.
 ///
-/// If there is a reciprocal, the call multiplies by it instead of dividing.
+/// If there is a reciprocal, the call multiplies by it instead of dividing. `length` is a bound of the quotient's length
+/// in bits, as for [`BitArray::divided`].
 #[inline(always)]
 fn divided<State: BitArray>(
     number: State,
     p: State,
     reciprocal: Option<Reciprocal>,
+    length: u32,
 ) -> (State, State)
     requires some { 0 < State.number p }
     requires reciprocal { IfSome reciprocal (λ r. IsReciprocalOf r (State.number p)) }
@@ -93,7 +95,7 @@ fn divided<State: BitArray>(
             let quotient = number.quotient_by(p, reciprocal);
             (quotient, number.minus(quotient.times(p)))
         }
-        None => (number.quotient(p), number.remainder(p)),
+        None => number.divided(p, length),
     }
 }
 
@@ -132,7 +134,7 @@ fn give_at<Word: WordOf<State>, State: BitArray, C: WriteWords<Word>, R: ReadWor
         Ok(None) => return Err(CoderError::Frontend(EncoderFrontendError::OutOfRemainders)),
         Err(error) => return Err(CoderError::Backend(BackendError::Remainders(error))),
     };
-    let (quotient, rest) = divided(v, p, reciprocal);
+    let (quotient, rest) = divided(v, p, reciprocal, State::BITS - precision);
     let quantile = left.plus(Word::narrow(rest));
     match give_quantile(compressed, h, quantile, precision) {
         Ok(h) => Ok((h, quotient)),

@@ -124,8 +124,8 @@ fn pushed<State: BitArray>(
             quotient.times(beside).plus(head.plus(left))
         }
         None => {
-            let prefix = head.quotient(p).shifted_left(precision);
-            prefix.plus(left.plus(head.remainder(p)))
+            let (quotient, rest) = head.divided(p, State::BITS - precision);
+            quotient.shifted_left(precision).plus(left.plus(rest))
         }
     }
 }

@@ -7,20 +7,20 @@ use lib.Count.{count_leading_zeros}
 use Rattle.constriction_words.specs.Reciprocals.{GivesQuotients}
 
 -- a quotient, from the two multiples between which the number lies
-quotient_is : (n d q : ℕ) → q * d ≤ n → n < q * d + d → n / d ≡ q
+pub quotient_is : (n d q : ℕ) → q * d ≤ n → n < q * d + d → n / d ≡ q
 quotient_is n d q from below =
     let rest : n - q * d < d = omega arith in
     let is : n ≡ q * d + (n - q * d) = omega arith in
     rw is (div-mul-add q d (n - q * d) rest)
 
 -- a common factor, left out of an order
-factor_le : (p a b : ℕ) → 0 < p → a * p ≤ b * p → a ≤ b
+pub factor_le : (p a b : ℕ) → 0 < p → a * p ≤ b * p → a ≤ b
 factor_le p a b some le = elim (cases_lt b a) [
   | inl less ↦ let next : suc b * p ≤ a * p = mul-le-mul_right p less in omega (arith, next)
   | inr is ↦ is
 ]
 
-factor_lt : (p a b : ℕ) → a * p < b * p → a < b
+pub factor_lt : (p a b : ℕ) → a * p < b * p → a < b
 factor_lt p a b lt = elim (cases_lt a b) [
   | inl less ↦ less
   | inr is ↦ let next : b * p ≤ a * p = mul-le-mul_right p is in omega (arith, next)

@@ -112,6 +112,19 @@ pub trait BitArray: Copy + Drop {
         requires { 0 < number other }
         ensures { number result ≡ number self % number other };
 
+    /// Returns the quotient, rounded down, and the remainder of `self` divided by `other`.
+    ///
+    /// The caller proves that `other` is above 0. If the caller knows `other` some time before `self`, this call is
+    /// faster than [`BitArray::quotient`] for `u32`, `u64` and `usize`. For the latter two, `length` should be a bound
+    /// of the quotient's length in bits. The results don't depend on it: a longer quotient only takes longer.
+    fn divided(self, other: Self, length: u32) -> (Self, Self)
+        requires { 0 < number other }
+        ensures quotient { number result.0 ≡ number self / number other }
+        ensures rest { number result.1 ≡ number self % number other }
+    {
+        (self.quotient(other), self.remainder(other))
+    }
+
     /// Returns `self` times `2 ^ by`.
     ///
     /// The caller proves that the product fits the type and that `by` is below `BITS`.

@@ -31,6 +31,7 @@
 #![tactic(auto)]
 
 pub mod bit_array;
+mod division;
 pub mod reciprocal;
 pub mod word_of;
 

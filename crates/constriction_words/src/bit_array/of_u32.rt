@@ -65,6 +65,18 @@ impl BitArray for u32 {
         self % other
     }
 
+    fn divided(self, other: u32, _length: u32) -> (u32, u32) {
+        // At most the exact quotient, and at least that minus 1.
+        let inverse = u32::MAX / other;
+        let quotient = ((self as u64 * inverse as u64) >> 32) as u32;
+        let rest = self - quotient * other;
+        if rest < other {
+            (quotient, rest)
+        } else {
+            (quotient + 1, rest - other)
+        }
+    }
+
     fn shifted_left(self, by: u32) -> u32 {
         self << by
     }

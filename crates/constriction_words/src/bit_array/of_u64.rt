@@ -6,6 +6,7 @@ ghost use Rattle.std.specs.Int.NonZero.{non_zero_u64_get};
 ghost use Rattle.constriction_words.specs.Numbers.{above_zero, below_power};
 
 use super::BitArray;
+use crate::division;
 use crate::reciprocal::Reciprocal;
 use num_traits::{PrimInt, WrappingAdd, WrappingSub};
 use std::num::NonZero;
@@ -63,6 +64,10 @@ impl BitArray for u64 {
 
     fn remainder(self, other: u64) -> u64 {
         self % other
+    }
+
+    fn divided(self, other: u64, length: u32) -> (u64, u64) {
+        division::divided(self, other, length)
     }
 
     fn shifted_left(self, by: u32) -> u64 {

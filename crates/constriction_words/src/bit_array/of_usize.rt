@@ -6,6 +6,7 @@ ghost use Rattle.std.specs.Int.NonZero.{non_zero_usize_get};
 ghost use Rattle.constriction_words.specs.Numbers.{above_zero, below_power};
 
 use super::BitArray;
+use crate::division;
 use crate::reciprocal::Reciprocal;
 use num_traits::{PrimInt, WrappingAdd, WrappingSub};
 use std::num::NonZero;
@@ -63,6 +64,11 @@ impl BitArray for usize {
 
     fn remainder(self, other: usize) -> usize {
         self % other
+    }
+
+    fn divided(self, other: usize, length: u32) -> (usize, usize) {
+        let (quotient, rest) = division::divided(self as u64, other as u64, length);
+        (quotient as usize, rest as usize)
     }
 
     fn shifted_left(self, by: u32) -> usize {
