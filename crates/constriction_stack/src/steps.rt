@@ -125,7 +125,8 @@ fn pushed<State: BitArray>(
         }
         None => {
             let (quotient, rest) = head.divided(p, State::BITS - precision);
-            quotient.shifted_left(precision).plus(left.plus(rest))
+            let prefix = quotient.shifted_left(precision);
+            prefix.plus(left.plus(rest))
         }
     }
 }

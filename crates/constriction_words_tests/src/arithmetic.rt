@@ -67,6 +67,17 @@ pub fn remainder<W: BitArray>(first: W, second: W) -> Option<W> {
     Some(first.remainder(second))
 }
 
+/// Returns the quotient and the remainder of `first` divided by `second`, or twice `None` if `second` is 0.
+///
+/// `length` is the expected length of the quotient in bits, as for the method `divided`.
+pub fn divided<W: BitArray>(first: W, second: W, length: u32) -> (Option<W>, Option<W>) {
+    if second.is_nothing() {
+        return (None, None);
+    }
+    let (quotient, rest) = first.divided(second, length);
+    (Some(quotient), Some(rest))
+}
+
 /// Returns `number` shifted left by `by` bits, or `None` if the result doesn't fit the type.
 ///
 /// The caller proves that `by` is below `W::BITS`.

@@ -1,6 +1,6 @@
 //! Tests of the methods that take two words.
 
-use crate::arithmetic::{difference, product, quotient, quotient_by, remainder, sum};
+use crate::arithmetic::{divided, difference, product, quotient, quotient_by, remainder, sum};
 use constriction_words::BitArray;
 
 /// Two words, and the results that the methods of [`BitArray`] should return for them.
@@ -17,13 +17,19 @@ pub struct Pair<W> {
 /// Returns whether the type's methods return the expected results for the two words of `pair`.
 fn is_pair<W: BitArray + PartialEq>(pair: &Pair<W>) -> bool {
     let (first, second) = pair.numbers;
-    let [added, taken, times, divided, left] = pair.exact;
+    let [added, taken, times, ratio, left] = pair.exact;
+    let (quickly, rest) = divided(first, second, 8);
+    let (slowly, same_rest) = divided(first, second, W::BITS);
     sum(first, second) == added
         && difference(first, second) == taken
         && product(first, second) == times
-        && quotient(first, second) == divided
-        && quotient_by(first, second) == divided
+        && quotient(first, second) == ratio
+        && quotient_by(first, second) == ratio
         && remainder(first, second) == left
+        && quickly == ratio
+        && rest == left
+        && slowly == ratio
+        && same_rest == left
         && first.is_below(second) == pair.is_below
         && first.wrapping_plus(second) == pair.wrapping.0
         && first.wrapping_minus(second) == pair.wrapping.1
