@@ -41,6 +41,20 @@ one_more n p q from some below =
     let found = exact n p (q + 1) (omega arith) (omega arith) in
     (found.0, omega (arith, found.1))
 
+-- long division: two digits in base b, the higher first
+pub long : (b n p : ℕ) → 0 < b → 0 < p → (n / b / p * b + (n / b % p * b + n % b) / p ≡ n / p) × ((n / b % p * b + n % b) % p ≡ n % p)
+long b n p some_b some =
+    let low = n / b % p * b + n % b in
+    let q = n / b / p * b + low / p in
+    let digits : n / b * b + n % b ≡ n = div-add-mod' n b in
+    let high : n / b / p * p + n / b % p ≡ n / b = div-add-mod' (n / b) p in
+    let high_b : (n / b / p * p + n / b % p) * b ≡ n / b * b = ap (λ x. x * b) high in
+    let split : low / p * p + low % p ≡ low = div-add-mod' low p in
+    let is : q * p + low % p ≡ n = omega (arith, digits, high_b, split) in
+    let rest : low % p < p = mod_below low p some in
+    let found = exact n p q (omega (arith, is)) (omega (arith, is, rest)) in
+    (found.0, omega (arith, found.1, is))
+
 -- the same, as numbers of so many bits
 pub of_words : (bits n p q r : ℕ) → n < 2 ^ bits → p < 2 ^ bits → (q ≡ n / p) × (r ≡ n % p)
     → (q % 2 ^ bits ≡ n % 2 ^ bits / (p % 2 ^ bits)) × (r % 2 ^ bits ≡ n % 2 ^ bits % (p % 2 ^ bits))

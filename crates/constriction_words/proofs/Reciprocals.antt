@@ -1,7 +1,7 @@
 -- The quotient by a number, by a product and a shift.
 use Rattle.std.proofs.Common.{◌≡◌, ℕ, suc, ◌+◌, ◌-◌, ◌*◌, ◌/◌, ◌%◌, ◌^◌, ◌<◌, ◌≤◌, ap, ◌∙◌, inl, inr, arith, mul-le-mul_right, mul-le-mul_left}
 use Rattle.std.proofs.lemmas.Bool.{cases_lt}
-use Rattle.std.proofs.lemmas.Nat.{div-add-mod', div-mul-add, div_below, leading_top, mod_below, one_shl, pow_below, pow_pos, pow-add, shr-shr}
+use Rattle.std.proofs.lemmas.Nat.{div-add-mod', div-mul-add, leading_top, mod_below, one_shl, pow_below, pow_pos, pow-add, shr-shr}
 use Rattle.std.proofs.Math.Nat.{div-le_self, mod-eq_of_lt}
 use lib.Count.{count_leading_zeros}
 use Rattle.constriction_words.specs.Reciprocals.{GivesQuotients}
@@ -82,13 +82,13 @@ made_above n k p some below much x within =
     let unit : 0 < 2 ^ n = pow_pos n in
     from_above (2 ^ n) d p ((d - 1) / p + 1) e x some is (omega (arith, small, product, unit)) within
 
--- both fit n bits
-pub low_fits : (n k p : ℕ) → 0 < p → 2 ^ k ≤ p → (2 ^ (n + k) - 1) / p < 2 ^ n
-low_fits n k p some from =
+-- the numbers fit
+pub power_fits : (n k p : ℕ) → 2 ^ k ≤ p → 2 ^ (n + k) - 1 < p * 2 ^ n
+power_fits n k p from =
     let product : 2 ^ (n + k) ≡ 2 ^ n * 2 ^ k = pow-add 2 n k in
     let pos : 0 < 2 ^ (n + k) = pow_pos (n + k) in
     let most : 2 ^ n * 2 ^ k ≤ 2 ^ n * p = mul-le-mul_left (2 ^ n) from in
-    div_below (2 ^ (n + k) - 1) p (2 ^ n) some (omega (arith, product, pos, most))
+    omega (arith, product, pos, most)
 
 pub high_fits : (n k p : ℕ) → 0 < p → p < 2 ^ k * 2 → p < 2 ^ n → 2 ^ k ≤ (2 ^ (n + k) - 1) % p
     → (2 ^ (n + k) - 1) / p + 1 < 2 ^ n

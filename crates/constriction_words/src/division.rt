@@ -53,6 +53,26 @@ fn divided_slowly(dividend: u64, divisor: u64) -> (u64, u64)
     (dividend / divisor, dividend % divisor)
 }
 
+/// Returns the quotient, rounded down, and the remainder of a 128-bit number divided by `divisor`.
+///
+/// The caller proves that the quotient fits 64 bits. If `divisor` is below `2^32`, the call divides two 64-bit numbers
+/// instead, as in long division with digits of 32 bits.
+pub(crate) fn divided_wide(dividend: u128, divisor: u64) -> (u64, u64)
+    requires some { 0 < divisor }
+    requires fits { dividend < divisor * 2 ^ 64 }
+    ensures quotient { result.0 ≡ dividend / divisor }
+    ensures rest { result.1 ≡ dividend % divisor }
+{
+    if divisor > 0xffff_ffff {
+        let quotient = dividend / divisor as u128;
+        return (quotient as u64, (dividend % divisor as u128) as u64);
+    }
+    let low = (dividend % 0x1_0000_0000) as u64;
+    let (first, left) = divided((dividend >> 32) as u64, divisor, 32);
+    let (second, rest) = divided((left << 32) + low, divisor, 32);
+    ((first << 32) + second, rest)
+}
+
 /// Returns an estimate of `2^64 / divisor` that isn't too large: the product with `divisor` is below `2^64`.
 ///
 /// If `divisor` is below `2^32`, the estimate has some 52 exact bits, as far as they lie above the point. Otherwise the

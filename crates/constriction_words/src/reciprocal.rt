@@ -14,6 +14,8 @@
 
 ghost use Rattle.std.specs.Prelude.{◌≡◌, ◌+◌, ◌*◌, ◌/◌, ◌<◌, ℕ};
 
+use crate::division::divided_wide;
+
 /// The reciprocal of a divisor above 0, for exact quotients (rounded down) of numbers below `2^64`.
 ///
 /// A reciprocal consists of a multiplier, an addend and a shift. Use a reciprocal to divide many numbers by the same
@@ -40,7 +42,7 @@ impl Reciprocal {
 
     /// Computes the reciprocal of `divisor`. The caller proves that `divisor` is above 0.
     ///
-    /// The call takes one 128-bit division and one 128-bit remainder, and has no loop.
+    /// The call has no loop. If `divisor` is below `2^32`, the call takes no 128-bit division.
     ///
     /// # Examples
     ///
@@ -55,8 +57,7 @@ impl Reciprocal {
         let shift = 63 - divisor.leading_zeros();
         let power = 1u64 << shift;
         let below = ((power as u128) << 64) - 1;
-        let quotient = (below / divisor as u128) as u64;
-        let rest = (below % divisor as u128) as u64;
+        let (quotient, rest) = divided_wide(below, divisor);
         if rest < power {
             Reciprocal {
                 multiplier: quotient,
