@@ -157,16 +157,29 @@ macro_rules! copies {
     }};
 }
 
-trait Word: Copy + Default + PartialEq + Debug + TryFrom<u32> {
+trait Word: Copy + Default + PartialEq + Debug + TryFrom<u32> + 'static {
     const BITS: u32;
+
+    /// The library's copies of words of this type.
+    fn copies() -> Copies<Self>
+    where
+        Self: Sized;
 }
 
 impl Word for u16 {
     const BITS: u32 = u16::BITS;
+
+    fn copies() -> Copies<u16> {
+        copies!(u16, "u16u32p12")
+    }
 }
 
 impl Word for u32 {
     const BITS: u32 = u32::BITS;
+
+    fn copies() -> Copies<u32> {
+        copies!(u32, "u32u64p24")
+    }
 }
 
 // INPUT ======================================================================
@@ -269,8 +282,8 @@ impl Bench {
         }
     }
 
-    /// The library's decoders own their words, so they begin with a copy. What `malloc` and a copy
-    /// take alone is not counted.
+    /// The library's decoders own their words: they begin with a copy, and free it. What this takes alone is
+    /// not counted.
     fn decode<W: Word, T: Copy + Default + PartialEq + Debug>(
         &self,
         name: &str,
@@ -308,9 +321,11 @@ impl Bench {
         }
     }
 
-    /// The least time of a copy of the words.
+    /// The least time in which the library copies the words to a new vector, and frees it.
     fn copying<W: Word>(&self, words: &[W]) -> f64 {
-        self.least(|| black_box(words).to_vec())
+        let copy = W::copies().copy;
+        let out = std::ptr::NonNull::dangling().as_ptr();
+        self.least(|| unsafe { copy(words.as_ptr(), words.len(), out, 0) })
     }
 }
 
@@ -444,8 +459,8 @@ fn main() {
     cases(&bench, &large, &drawn, &equal);
     cases(&bench, &small, &drawn, &equal);
     rows::cases(&bench, &drawn);
-    reloading(&bench, &copies!(u32, "u32u64p24"));
-    reloading(&bench, &copies!(u16, "u16u32p12"));
+    reloading(&bench, &u32::copies());
+    reloading(&bench, &u16::copies());
     let large = library!(u32, "range", "u32u64p24", 24, "bucket");
     let small = library!(u16, "range", "u16u32p12", 12, "lookup");
     cases(&bench, &large, &drawn, &equal);

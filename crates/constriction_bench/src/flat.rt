@@ -13,10 +13,10 @@ use constriction_words::{BitArray, WordOf};
 /// compiler that doesn't know their values can't turn the coder's division by a weight into a bit shift.
 #[derive(Drop)]
 pub struct Flat<Probability: WordOf<u32>, const PRECISION: usize> {
-    weight: Probability,
+    weight: Probability::NonZero,
     shift: u32,
     bits: u32,
-    ghost is_power: { Probability.number weight ≡ 2 ^ shift },
+    ghost is_power: { Probability.nonzero_number weight ≡ 2 ^ shift },
     ghost whole: { bits + shift ≡ PRECISION },
     ghost some_bits: { 1 ≤ bits },
     ghost few_bits: { bits < 32 },
@@ -38,7 +38,7 @@ impl<Probability: WordOf<u32>, const PRECISION: usize> Flat<Probability, PRECISI
         let shift = PRECISION as u32 - bits;
         let weight = Probability::narrow(1).shifted_left(shift);
         Some(Flat {
-            weight,
+            weight: weight.to_nonzero().unwrap(),
             shift,
             bits,
         })
@@ -71,7 +71,7 @@ impl<Probability: WordOf<u32>, const PRECISION: usize> EncoderModel<PRECISION>
             return None;
         }
         let left = Probability::narrow(*symbol as u32).shifted_left(self.shift);
-        Some((left, self.weight.to_nonzero().unwrap()))
+        Some((left, self.weight))
     }
 }
 
@@ -86,7 +86,7 @@ impl<Probability: WordOf<u32>, const PRECISION: usize> DecoderModel<PRECISION>
         (
             symbol.widen() as usize,
             symbol.shifted_left(self.shift),
-            self.weight.to_nonzero().unwrap(),
+            self.weight,
         )
     }
 }

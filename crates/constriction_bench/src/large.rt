@@ -35,7 +35,7 @@ pub extern "C" fn constriction_bench_ans_decode_u32u64p24_table(
     let Ok(table) = WeightTable::<u32, 24>::new(alloc, weights) else {
         return false;
     };
-    decode_in::<u32, u64, _, 24>(alloc, words, symbols, &table)
+    decode_in::<u32, u64, _, 24>(alloc, words, symbols, table)
 }
 
 /// Encodes symbols below `2^bits` from the last to the first, with equal weights.
@@ -67,7 +67,7 @@ pub extern "C" fn constriction_bench_ans_decode_u32u64p24_flat(
     let Some(flat) = Flat::<u32, 24>::new(bits) else {
         return false;
     };
-    decode_in::<u32, u64, _, 24>(alloc, words, symbols, &flat)
+    decode_in::<u32, u64, _, 24>(alloc, words, symbols, flat)
 }
 
 /// Fills `symbols` with symbols decoded from `words`, with the [`BucketTable`] of `weights`.
@@ -83,7 +83,7 @@ pub extern "C" fn constriction_bench_ans_decode_u32u64p24_bucket(
     let Some(table) = BucketTable::new(alloc, weights) else {
         return false;
     };
-    decode_in::<u32, u64, _, 24>(alloc, words, symbols, &table)
+    decode_in::<u32, u64, _, 24>(alloc, words, symbols, table)
 }
 
 /// Imports `words` into a coder, and exports them again.

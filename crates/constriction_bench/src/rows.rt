@@ -23,7 +23,7 @@ pub extern "C" fn constriction_bench_ans_decode_u16u32p12_rows(
         return false;
     };
     match ContiguousLookupDecoderModel::new(alloc, table) {
-        Ok(rows) => decode_in::<u16, u32, _, 12>(alloc, words, symbols, &rows),
+        Ok(rows) => decode_in::<u16, u32, _, 12>(alloc, words, symbols, rows),
         Err(_) => false,
     }
 }

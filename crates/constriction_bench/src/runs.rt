@@ -38,13 +38,15 @@ where
 }
 
 /// Fills `symbols` with symbols decoded from `words`. Returns `false` if the last word is 0.
+///
+/// The call takes the model by value, so that the model's fields can stay in registers.
 #[inline(never)]
 pub fn decode_all<
     Word: WordOf<State>,
     State: BitArray,
     M: DecoderModel<PRECISION, Symbol = usize>,
     const PRECISION: usize,
->(words: Vec<Word>, symbols: &mut [usize], model: &M) -> bool
+>(words: Vec<Word>, symbols: &mut [usize], model: M) -> bool
 where
     M::Probability: WordOf<Word>,
     requires { IsSizes Word.BITS State.BITS }
@@ -53,7 +55,7 @@ where
         return false;
     };
     for symbol in symbols.iter_mut() {
-        match coder.decode_symbol(model) {
+        match coder.decode_symbol(&model) {
             Ok(decoded) => *symbol = decoded,
             Err(CoderError::Frontend(never)) => match never {},
             Err(CoderError::Backend(never)) => match never {},
@@ -102,7 +104,7 @@ pub fn decode_in<
     State: BitArray,
     M: DecoderModel<PRECISION, Symbol = usize>,
     const PRECISION: usize,
->(alloc: Global, words: &[Word], symbols: &mut [usize], model: &M) -> bool
+>(alloc: Global, words: &[Word], symbols: &mut [usize], model: M) -> bool
 where
     M::Probability: WordOf<Word>,
     requires { IsSizes Word.BITS State.BITS }

@@ -36,7 +36,7 @@ pub extern "C" fn constriction_bench_ans_decode_u16u32p12_table(
     let Ok(table) = WeightTable::<u16, 12>::new(alloc, weights) else {
         return false;
     };
-    decode_in::<u16, u32, _, 12>(alloc, words, symbols, &table)
+    decode_in::<u16, u32, _, 12>(alloc, words, symbols, table)
 }
 
 /// Encodes symbols below `2^bits` from the last to the first, with equal weights.
@@ -68,7 +68,7 @@ pub extern "C" fn constriction_bench_ans_decode_u16u32p12_flat(
     let Some(flat) = Flat::<u16, 12>::new(bits) else {
         return false;
     };
-    decode_in::<u16, u32, _, 12>(alloc, words, symbols, &flat)
+    decode_in::<u16, u32, _, 12>(alloc, words, symbols, flat)
 }
 
 /// Fills `symbols` with symbols decoded from `words`, with the [`LookupTable`] of `weights`.
@@ -84,7 +84,7 @@ pub extern "C" fn constriction_bench_ans_decode_u16u32p12_lookup(
     let Some(table) = LookupTable::new(alloc, weights) else {
         return false;
     };
-    decode_in::<u16, u32, _, 12>(alloc, words, symbols, &table)
+    decode_in::<u16, u32, _, 12>(alloc, words, symbols, table)
 }
 
 /// Imports `words` into a coder, and exports them again.

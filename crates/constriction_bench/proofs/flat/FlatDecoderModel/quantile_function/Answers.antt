@@ -22,8 +22,7 @@ returns-clause-found g c =
     let number = g.Probability.BitArray.number in
     let below = symbol_below (number c.args.quantile) (number c.shifted_right-symbol.result) flat.bits flat.shift _ flat.whole c.requires c.shifted_right-symbol.ensures in
     let same : c.widen.result ≡ number c.shifted_right-symbol.result = omega (arith, c.widen.ensures, c.widen.type_inv) in
-    let weight = rw c.unwrap.ensures at c.to_nonzero.ensures in
-    equal_has flat.bits flat.shift _ _ _ (rw same below) (rw same c.shifted_left.ensures) (weight ∙ flat.is_power)
+    equal_has flat.bits flat.shift _ _ _ (rw same below) (rw same c.shifted_left.ensures) flat.is_power
 
 pub returns-clause-covers : goal.returns-clause-covers
 returns-clause-covers g c =
@@ -31,5 +30,4 @@ returns-clause-covers g c =
     let q = g.Probability.BitArray.number c.args.quantile in
     let left = c.shifted_left.ensures ∙ ap (λ n. n * 2 ^ flat.shift) c.shifted_right-symbol.ensures in
     let part = covered q flat.shift in
-    let weight = rw c.unwrap.ensures at c.to_nonzero.ensures in
-    rw (left, weight ∙ flat.is_power) part
+    rw (left, flat.is_power) part

@@ -21,5 +21,4 @@ returns-clause-found g c =
     let flat = c.args.self.now in
     let below = small_of_shr c.args.symbol.now flat.bits c.if-symbol-self-ne0.false in
     let same = same_in_word c.args.symbol.now _ flat.bits _ c.narrow.ensures below flat.few_bits (omega (arith, flat.whole, flat.fits)) in
-    let weight = rw c.unwrap.ensures at c.to_nonzero.ensures in
-    equal_has flat.bits flat.shift _ _ _ below (c.shifted_left-left.ensures ∙ ap (λ n. n * 2 ^ flat.shift) same) (weight ∙ flat.is_power)
+    equal_has flat.bits flat.shift _ _ _ below (c.shifted_left-left.ensures ∙ ap (λ n. n * 2 ^ flat.shift) same) flat.is_power
