@@ -10,7 +10,7 @@ ghost use Rattle.constriction_base.specs.Tables.{Has, Covers};
 ghost use Rattle.constriction_models.specs.Lookup.{AreRows, HasHighSymbol, HasLowSymbols};
 
 use constriction_base::model::{DecoderModel, EncoderModel, EntropyModel};
-use constriction_words::{BitArray, WordOf};
+use constriction_words::BitArray;
 use std::alloc::Global;
 use thiserror::Error;
 
@@ -78,35 +78,33 @@ pub struct ContiguousLookupDecoderModel<
 /// returns `Err(LookupError::Symbol)` if the symbol is above 65535.
 fn row_at<M: DecoderModel<PRECISION, Symbol = usize>, const PRECISION: usize>(
     model: &M,
-    quantile: u32,
+    quantile: M::Probability,
 ) -> Result<
     (
         Row<M::Probability, <M::Probability as BitArray>::NonZero>,
         u16,
-        u32,
+        usize,
     ),
     LookupError,
 >
-where
-    M::Probability: WordOf<u32>,
     requires small { PRECISION ≤ 16 }
-    requires quantile { quantile < 2 ^ PRECISION }
+    requires quantile { M.Probability.number quantile < 2 ^ PRECISION }
     ensures found { IfOk result (λ r. Has (M.table model.now) r.1 (M.Probability.number r.0.left)
         (M.Probability.nonzero_number r.0.weight)) }
     ensures covers { IfOk result (λ r. Covers (M.Probability.number r.0.left)
-        (M.Probability.nonzero_number r.0.weight) quantile) }
+        (M.Probability.nonzero_number r.0.weight) (M.Probability.number quantile)) }
     ensures end { IfOk result (λ r. r.2 ≡ M.Probability.number r.0.left + M.Probability.nonzero_number r.0.weight) }
     ensures fits { IfOk result (λ r. r.1 < 65536) }
     ensures symbol { IsErrOf result LookupError.Symbol → HasHighSymbol (M.table model.now) }
 {
-    let (symbol, left, weight) = model.quantile_function(M::Probability::narrow(quantile));
+    let (symbol, left, weight) = model.quantile_function(quantile);
     if symbol > 65535 {
         return Err(LookupError::Symbol);
     }
     Ok((
         Row { left, weight },
         symbol as u16,
-        left.widen() + M::Probability::from_nonzero(weight).widen(),
+        left.to_index() + M::Probability::from_nonzero(weight).to_index(),
     ))
 }
 
@@ -118,8 +116,6 @@ fn rows_of<M: DecoderModel<PRECISION, Symbol = usize>, const PRECISION: usize>(
     alloc: Global,
     model: &M,
 ) -> Result<(Rows<M::Probability>, Vec<u16>), LookupError>
-where
-    M::Probability: WordOf<u32>,
     requires { PRECISION ≤ 16 }
     ensures found { IfOk result
         (λ made. AreRows M.Probability.number M.Probability.nonzero_number (M.table model.now)
@@ -127,17 +123,18 @@ where
     ensures fits { IfOk result (λ _. HasLowSymbols (M.table model.now)) }
     ensures symbol { IsErrOf result LookupError.Symbol → HasHighSymbol (M.table model.now) }
 {
-    let count = 1u32 << PRECISION as u32;
-    let Ok(mut rows) = Vec::with_capacity(alloc, count as usize) else {
+    let count = 1usize << PRECISION;
+    let Ok(mut rows) = Vec::with_capacity(alloc, count) else {
         return Err(LookupError::Memory);
     };
-    let Ok(mut symbols) = Vec::with_capacity(alloc, count as usize) else {
+    let Ok(mut symbols) = Vec::with_capacity(alloc, count) else {
         return Err(LookupError::Memory);
     };
-    let (mut row, mut symbol, mut end) = row_at(model, 0)?;
+    let (mut row, mut symbol, mut end) = row_at(model, M::Probability::nothing())?;
     for quantile in 0..count {
         if quantile >= end {
-            (row, symbol, end) = row_at(model, quantile)?;
+            let next = row.left.plus(M::Probability::from_nonzero(row.weight));
+            (row, symbol, end) = row_at(model, next)?;
         }
         if rows.push(row).is_err() {
             return Err(LookupError::Memory);
@@ -152,10 +149,7 @@ where
 impl<
     M: EncoderModel<PRECISION, Symbol = usize> + DecoderModel<PRECISION, Symbol = usize>,
     const PRECISION: usize,
-> ContiguousLookupDecoderModel<M, PRECISION>
-where
-    M::Probability: WordOf<u32>,
-{
+> ContiguousLookupDecoderModel<M, PRECISION> {
     /// Creates a lookup model with the same table as `model`. The caller proves that `PRECISION` is at most 16 bits.
     ///
     /// See the type's documentation for an example.
@@ -207,16 +201,13 @@ impl<M: EncoderModel<PRECISION, Symbol = usize>, const PRECISION: usize> Encoder
 }
 
 impl<M: EncoderModel<PRECISION, Symbol = usize>, const PRECISION: usize> DecoderModel<PRECISION>
-    for ContiguousLookupDecoderModel<M, PRECISION>
-where
-    M::Probability: WordOf<u32>,
-{
+    for ContiguousLookupDecoderModel<M, PRECISION> {
     #[inline(always)]
     fn quantile_function(
         &self,
         quantile: M::Probability,
     ) -> (usize, M::Probability, <M::Probability as BitArray>::NonZero) {
-        let place = quantile.widen() as usize;
+        let place = quantile.to_index();
         let row = &self.rows[place];
         (self.symbols[place] as usize, row.left, row.weight)
     }

@@ -12,6 +12,7 @@ invariant-loop-quantile g l = record {
   entry : Has (g.M.EntropyModel.table l.model) l.symbol (g.M.Probability.BitArray.number l.row.left) (g.M.Probability.BitArray.nonzero_number l.row.weight);
   from : g.M.Probability.BitArray.number l.row.left ≤ l.quantile;
   end : l.end ≡ g.M.Probability.BitArray.number l.row.left + g.M.Probability.BitArray.nonzero_number l.row.weight;
+  before : l.quantile ≤ l.end;
   small : l.symbol < 65536;
   low : AreLowTo (g.M.EntropyModel.table l.model) l.quantile;
 }
