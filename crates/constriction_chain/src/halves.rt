@@ -76,8 +76,8 @@ pub fn keep<Word: WordOf<State>, State: BitArray, R: WriteWords<Word>>(
 
 /// Returns the quotient and the remainder of `number` divided by `p`.
 ///
-/// If there is a reciprocal, the call multiplies by it instead of dividing. `length` is a bound of the quotient's length
-/// in bits, as for [`BitArray::divided`].
+/// If there is a reciprocal, the call multiplies by it instead of dividing. `length` is a bound of the quotient's
+/// length in bits, as for [`BitArray::divided`].
 #[inline(always)]
 fn divided<State: BitArray>(
     number: State,

@@ -31,8 +31,8 @@ pub struct Place {
 
 /// Returns the number of bits that the decoding table of a tree with `nodes` inner nodes covers.
 ///
-/// Let `b` be the length of the longest codeword if all symbols had equal weights. The call returns `b + 1`, but at most
-/// `MOST`.
+/// Let `b` be the length of the longest codeword if all symbols had equal weights. The call returns `b + 1`, but at
+/// most `MOST`.
 fn most_of(nodes: usize) -> u32
     ensures some { 0 < result }
     ensures few { result ≤ 9 }
