@@ -10,7 +10,7 @@ ghost use Rattle.std.specs.Prelude.{◌≡◌, ◌*◌, ◌/◌, ◌%◌, ◌^�
 
 use std::num::f64_to_bits_with_nan;
 
-/// `2^64`, less one part in `2^52`: an estimate from it is below the inverse, in spite of two roundings.
+/// `2^64`, less one part in `2^52`, so that an estimate isn't too large in spite of its rounding.
 const NUMERATOR: f64 = 18446744073709547520.0;
 
 /// The longest quotients, in bits, for which an estimate of 52 bits leaves the quotient exact or too small by 1.
@@ -75,8 +75,8 @@ pub(crate) fn divided_wide(dividend: u128, divisor: u64) -> (u64, u64)
 
 /// Returns an estimate of `2^64 / divisor` that isn't too large: the product with `divisor` is below `2^64`.
 ///
-/// If `divisor` is below `2^32`, the estimate has some 52 exact bits, as far as they lie above the point. Otherwise the
-/// estimate is 0.
+/// If `divisor` is below `2^32`, the estimate differs from the inverse by less than 1, or by less than one part in
+/// `2^51`. Otherwise the estimate is 0.
 #[inline(always)]
 fn inverse(divisor: u64) -> u64
     ensures { result * divisor < 2 ^ 64 }
