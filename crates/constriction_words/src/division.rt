@@ -75,8 +75,8 @@ pub(crate) fn divided_wide(dividend: u128, divisor: u64) -> (u64, u64)
 
 /// Returns an estimate of `2^64 / divisor` that isn't too large: the product with `divisor` is below `2^64`.
 ///
-/// If `divisor` is below `2^32`, the estimate differs from the inverse by less than 1, or by less than one part in
-/// `2^51`. Otherwise the estimate is 0.
+/// If `divisor` is below `2^32`, the estimate differs from the inverse by less than 2, or by less than one part in
+/// `2^50`. Otherwise the estimate is 0.
 #[inline(always)]
 fn inverse(divisor: u64) -> u64
     ensures { result * divisor < 2 ^ 64 }
