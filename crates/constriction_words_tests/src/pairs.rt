@@ -1,6 +1,6 @@
 //! Tests of the methods that take two words.
 
-use crate::arithmetic::{divided, difference, product, quotient, quotient_by, remainder, sum};
+use crate::arithmetic::{difference, divided, product, quotient, quotient_by, remainder, sum};
 use constriction_words::BitArray;
 
 /// Two words, and the results that the methods of [`BitArray`] should return for them.

@@ -15,7 +15,7 @@ pub unwrap-requires : goal.unwrap-requires
 unwrap-requires g c =
     let one : g.Probability.BitArray.number c.narrow.result ≡ 1 = c.narrow.ensures ∙ same_number 1 1 _ (omega arith) (omega (arith, c.requires.0, c.requires.1)) in
     let weight : g.Probability.BitArray.number c.shifted_left-weight.result ≡ 2 ^ (g.row.PRECISION - c.args.bits) =
-      c.shifted_left-weight.ensures ∙ ap (λ n. n * 2 ^ (g.row.PRECISION - c.args.bits)) one ∙ omega arith in
+    c.shifted_left-weight.ensures ∙ ap (λ n. n * 2 ^ (g.row.PRECISION - c.args.bits)) one ∙ omega arith in
     some_above_zero _ g.Probability.BitArray.nonzero_number _ (omega (arith, weight, pow_pos (g.row.PRECISION - c.args.bits))) c.to_nonzero.ensures
 
 pub invariant_of-result-clause-is_power : goal.invariant_of-result-clause-is_power
