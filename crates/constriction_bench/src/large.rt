@@ -19,7 +19,7 @@ pub extern "C" fn constriction_bench_ans_encode_u32u64p24_table(
     let Ok(table) = WeightTable::<u32, 24>::new(alloc, weights) else {
         return 0;
     };
-    encode_out::<u32, u64, _, 24>(alloc, symbols, &table, out)
+    encode_out::<u32, u64, _, 24>(alloc, symbols, table, out)
 }
 
 /// Fills `symbols` with symbols decoded from `words`, with the table of `weights`.
@@ -51,7 +51,7 @@ pub extern "C" fn constriction_bench_ans_encode_u32u64p24_flat(
     let Some(flat) = Flat::<u32, 24>::new(bits) else {
         return 0;
     };
-    encode_out::<u32, u64, _, 24>(alloc, symbols, &flat, out)
+    encode_out::<u32, u64, _, 24>(alloc, symbols, flat, out)
 }
 
 /// Fills `symbols` with symbols below `2^bits`, decoded from `words` with equal weights.

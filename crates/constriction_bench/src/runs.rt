@@ -1,4 +1,5 @@
-//! The measured loops of the stack coder. They aren't inlined, so that no constant of a caller changes their code.
+//! The measured loops of the stack coder. They aren't inlined, so that no constant of a caller changes their code. They
+//! take models by value, so that a model's fields can stay in registers.
 
 ghost use Rattle.std.specs.Prelude.{◌≡◌, ◌++◌, length, take, drop};
 ghost use Rattle.constriction_base.specs.Steps.{IsSizes};
@@ -20,7 +21,7 @@ pub fn encode_all<
     State: BitArray,
     M: EncoderModel<PRECISION, Symbol = usize>,
     const PRECISION: usize,
->(alloc: Global, symbols: &[usize], model: &M) -> Option<Vec<Word>>
+>(alloc: Global, symbols: &[usize], model: M) -> Option<Vec<Word>>
 where
     M::Probability: WordOf<Word>,
     requires { IsSizes Word.BITS State.BITS }
@@ -28,7 +29,7 @@ where
     let mut coder: AnsCoder<Word, State, Vec<Word>> = AnsCoder::new(alloc);
     for place in 0..symbols.len() {
         if coder
-            .encode_symbol(&symbols[symbols.len() - 1 - place], model)
+            .encode_symbol(&symbols[symbols.len() - 1 - place], &model)
             .is_err()
         {
             return None;
@@ -38,8 +39,6 @@ where
 }
 
 /// Fills `symbols` with symbols decoded from `words`. Returns `false` if the last word is 0.
-///
-/// The call takes the model by value, so that the model's fields can stay in registers.
 #[inline(never)]
 pub fn decode_all<
     Word: WordOf<State>,
@@ -85,7 +84,7 @@ pub fn encode_out<
     State: BitArray,
     M: EncoderModel<PRECISION, Symbol = usize>,
     const PRECISION: usize,
->(alloc: Global, symbols: &[usize], model: &M, out: &mut [Word]) -> usize
+>(alloc: Global, symbols: &[usize], model: M, out: &mut [Word]) -> usize
 where
     M::Probability: WordOf<Word>,
     requires { IsSizes Word.BITS State.BITS }

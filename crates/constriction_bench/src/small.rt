@@ -20,7 +20,7 @@ pub extern "C" fn constriction_bench_ans_encode_u16u32p12_table(
     let Ok(table) = WeightTable::<u16, 12>::new(alloc, weights) else {
         return 0;
     };
-    encode_out::<u16, u32, _, 12>(alloc, symbols, &table, out)
+    encode_out::<u16, u32, _, 12>(alloc, symbols, table, out)
 }
 
 /// Fills `symbols` with symbols decoded from `words`, with the table of `weights`.
@@ -52,7 +52,7 @@ pub extern "C" fn constriction_bench_ans_encode_u16u32p12_flat(
     let Some(flat) = Flat::<u16, 12>::new(bits) else {
         return 0;
     };
-    encode_out::<u16, u32, _, 12>(alloc, symbols, &flat, out)
+    encode_out::<u16, u32, _, 12>(alloc, symbols, flat, out)
 }
 
 /// Fills `symbols` with symbols below `2^bits`, decoded from `words` with equal weights.
