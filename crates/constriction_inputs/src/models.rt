@@ -10,7 +10,6 @@ mod lone;
 mod mixtures;
 mod rows;
 pub mod weights;
-pub mod weights_model;
 
 ghost use Rattle.std.specs.Prelude.{◌≡◌, ◌↔◌, ◌<◌, ◌≤◌, ℕ, List, get_or, length, map, replicate, IfSome, IsTrue};
 ghost use Rattle.constriction_base.specs.Models.{AreKnown};
@@ -64,7 +63,7 @@ pub trait ModelList<P: BitArray, const PRECISION: usize>: Drop {
 ///
 /// - `check` returns an error if and only if the arguments aren't valid.
 /// - `know` returns whether each model has an entry for its symbol.
-/// - `list` and `decoder_list` return the models.
+/// - `list` returns the models.
 pub trait Models<P: BitArray, const PRECISION: usize> {
     /// The type of the list of models.
     type List: ModelList<P, PRECISION>;
@@ -100,20 +99,6 @@ pub trait Models<P: BitArray, const PRECISION: usize> {
         ensures count { IfSome result (λ list. length (Self.List.tables list) ≡ length symbols.now) }
         ensures items { IfSome result (λ list. AreTablesFor PRECISION (coded self.now) (length symbols.now)
             (Self.List.tables list)) };
-
-    /// Returns the models for decoding `symbols.len()` symbols, or `None` if there is no memory for the models.
-    ///
-    /// An implementor can choose models that decode this number of symbols faster than the models that `list` returns.
-    /// The default method calls `list`. The caller proves that `check` would succeed.
-    fn decoder_list(&self, alloc: Global, symbols: &[usize]) -> Option<Self::List>
-        requires precision { (1 ≤ PRECISION) × (PRECISION ≤ P.BITS) }
-        requires fit { AreFit PRECISION (coded self.now symbols.now) }
-        ensures count { IfSome result (λ list. length (Self.List.tables list) ≡ length symbols.now) }
-        ensures items { IfSome result (λ list. AreTablesFor PRECISION (coded self.now) (length symbols.now)
-            (Self.List.tables list)) }
-    {
-        self.list(alloc, symbols, false)
-    }
 }
 
 /// A list of models for symbols that all have the same model. The list stores the model once.

@@ -51,7 +51,7 @@ pub fn decode<
         return Err(Refusal::WrongLength);
     }
     models.check(symbols)?;
-    let Some(mut list) = models.decoder_list(alloc, symbols) else {
+    let Some(mut list) = models.list(alloc, symbols, false) else {
         return Err(Refusal::NoMemory);
     };
     let (new_head, new_len) = decode_by(*head, words, *len, &mut list, symbols);
@@ -62,8 +62,8 @@ pub fn decode<
 
 /// Decodes symbols into `symbols`, with one table of weights for all symbols.
 ///
-/// For one symbol the call searches the weights. For more symbols it first builds a table, or a lookup model as
-/// [`Weights`] says. The call changes `head` and `len` as [`decode`] does.
+/// For one symbol the call searches the weights. For more symbols it first builds a table. The call changes `head` and
+/// `len` as [`decode`] does.
 ///
 /// # Errors
 ///

@@ -94,8 +94,8 @@ pub fn decode<
 
 /// Decodes symbols into `symbols`, with one table of weights for all symbols.
 ///
-/// For one symbol the call searches the weights. For more symbols it first builds a table, or a lookup model as
-/// [`Weights`] says. The call changes the coder as [`decode`] does.
+/// For one symbol the call searches the weights. For more symbols it first builds a table. The call changes the coder
+/// as [`decode`] does.
 ///
 /// # Errors
 ///
@@ -247,7 +247,7 @@ fn take_by<
         × LacksCompressed Word.BITS State.BITS PRECISION
         (λ symbols. items PRECISION (G.coded models.now symbols)) (length places.now) coder.old.state)) }
 {
-    match models.decoder_list(alloc, places) {
+    match models.list(alloc, places, false) {
         Some(mut list) => take_symbols(alloc, coder, &mut list, places.len()),
         None => Err(Refusal::NoMemory),
     }

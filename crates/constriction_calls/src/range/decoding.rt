@@ -101,7 +101,7 @@ pub fn decode<
     let Some(reading) = decoder_of(words, *decoder) else {
         return Err(Refusal::InvalidData);
     };
-    let Some(mut list) = models.decoder_list(alloc, symbols) else {
+    let Some(mut list) = models.list(alloc, symbols, false) else {
         return Err(Refusal::NoMemory);
     };
     match take_list::<Word, State, P, G::List, PRECISION>(
@@ -121,8 +121,8 @@ pub fn decode<
 
 /// Decodes symbols into `symbols`, in order, with one table of weights for all symbols.
 ///
-/// For one symbol the call searches the weights. For more symbols it first builds a table, or a lookup model as
-/// [`Weights`] says. The call changes `decoder` as [`decode`] does.
+/// For one symbol the call searches the weights. For more symbols it first builds a table. The call changes `decoder`
+/// as [`decode`] does.
 ///
 /// # Errors
 ///

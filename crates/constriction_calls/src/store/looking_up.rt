@@ -81,8 +81,8 @@ pub fn chunk<Word: WordOf<State>, State: BitArray, P: WordOf<Word>, const PRECIS
     let Ok(state) = RangeCoderState::<Word, State>::new(lower, range) else {
         return Err(Refusal::InvalidData);
     };
-    let given = Weights { weights };
-    let Some(mut list) = Models::<P, PRECISION>::decoder_list(&given, alloc, symbols) else {
+    let Some(mut list) = Models::<P, PRECISION>::list(&Weights { weights }, alloc, symbols, false)
+    else {
         return Err(Refusal::NoMemory);
     };
     let decoder = decoder_at::<Word, State>(words, pos, state);
