@@ -5,7 +5,6 @@ ghost use Rattle.constriction_models.specs.Interpolation.{scaled};
 
 use crate::distribution::CumulativeDistribution;
 use crate::location_scale::{LocationScale, StandardDistribution};
-use constriction_words::BitArray;
 use std::alloc::AllocError;
 use std::marker::PhantomData;
 
@@ -49,7 +48,7 @@ impl<D: StandardDistribution> Scale<D> {
         }
         Some(Scale {
             scale,
-            rate: (9223372036854775808 / D::WIDTH).divided(scale as u64, 50).0,
+            rate: 9223372036854775808 / D::WIDTH / scale as u64,
             standard: PhantomData,
         })
     }
