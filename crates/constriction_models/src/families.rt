@@ -6,6 +6,7 @@ ghost use Rattle.constriction_models.specs.Families.{below_of_one, family_below,
 use crate::distribution::CumulativeDistribution;
 use crate::gaussian::Gaussian;
 use crate::laplace::Laplace;
+use crate::location_scale::{Scale, inverse_of};
 use crate::logistic::Logistic;
 
 /// A distribution of one of three types, which a program chooses at run time.
@@ -87,19 +88,14 @@ impl Family {
             (λ d. ⟦<FamilyDistribution as CumulativeDistribution>⟧.below d ≡ family_below self location scale) }
         ensures none { IsNone result ↔ (scale ≡ 0) }
     {
-        match self {
-            Family::Gaussian => match Gaussian::new(location, scale) {
-                Some(distribution) => Some(OneOf::First(distribution)),
-                None => None,
-            },
-            Family::Laplace => match Laplace::new(location, scale) {
-                Some(distribution) => Some(OneOf::Second(distribution)),
-                None => None,
-            },
-            Family::Logistic => match Logistic::new(location, scale) {
-                Some(distribution) => Some(OneOf::Third(distribution)),
-                None => None,
-            },
+        if scale == 0 {
+            return None;
         }
+        let inverse = inverse_of(scale);
+        Some(match self {
+            Family::Gaussian => OneOf::First(Scale::with_inverse(scale, inverse).at(location)),
+            Family::Laplace => OneOf::Second(Scale::with_inverse(scale, inverse).at(location)),
+            Family::Logistic => OneOf::Third(Scale::with_inverse(scale, inverse).at(location)),
+        })
     }
 }

@@ -9,6 +9,7 @@ ghost use Rattle.constriction_models.specs.laws.Interpolating.{scaled_is_distrib
 use crate::distribution::CumulativeDistribution;
 use crate::interpolation::{guessed, located};
 pub use scale::Scale;
+pub(crate) use scale::inverse_of;
 use std::alloc::AllocError;
 use std::marker::PhantomData;
 

@@ -1,10 +1,11 @@
 //! `Scale`: a scale, stored with its reciprocal.
 
-ghost use Rattle.std.specs.Prelude.{◌≡◌, ◌/◌, ◌↔◌, IfSome, IsNone};
+ghost use Rattle.std.specs.Prelude.{◌≡◌, ◌/◌, ◌↔◌, ◌<◌, IfSome, IsNone};
 ghost use Rattle.constriction_models.specs.Interpolation.{scaled};
 
 use crate::distribution::CumulativeDistribution;
 use crate::location_scale::{LocationScale, StandardDistribution};
+use constriction_words::BitArray;
 use std::alloc::AllocError;
 use std::marker::PhantomData;
 
@@ -46,11 +47,22 @@ impl<D: StandardDistribution> Scale<D> {
         if scale == 0 {
             return None;
         }
-        Some(Scale {
+        Some(Scale::with_inverse(scale, inverse_of(scale)))
+    }
+
+    /// Creates a scale from its number, which is above 0, and the number's inverse.
+    ///
+    /// The caller proves that `inverse` is `2^63 / scale`, rounded down.
+    #[inline]
+    pub(crate) fn with_inverse(scale: u32, inverse: u64) -> Self
+        requires { inverse ≡ 9223372036854775808 / scale }
+        ensures { scale_number result ≡ scale }
+    {
+        Scale {
             scale,
-            rate: 9223372036854775808 / D::WIDTH / scale as u64,
+            rate: inverse / D::WIDTH,
             standard: PhantomData,
-        })
+        }
     }
 
     /// Returns the scale in units of `2^-16`.
@@ -95,4 +107,15 @@ impl<D: StandardDistribution> Clone for Scale<D> {
     fn clone(&self) -> Result<Self, AllocError> {
         Ok(*self)
     }
+}
+
+/// Returns `2^63 / scale`, rounded down. The caller proves that `scale` is above 0.
+///
+/// For scales of at least 1/8 (`2^13`), the call takes no whole-number division.
+#[inline(always)]
+pub(crate) fn inverse_of(scale: u32) -> u64
+    requires { 0 < scale }
+    ensures { result ≡ 9223372036854775808 / scale }
+{
+    9223372036854775808u64.divided(scale as u64, 50).0
 }
