@@ -1,7 +1,7 @@
 -- The possible results of a chain coder's encodes, decodes and precision changes over any backends. The definitions use
 -- only the backends' ghost members: their words, `is_list`, the results of a read, the errors of a write and of
 -- `prepare`, `makes_room`, and the room for words. In comments, a backend knows its words if its `is_list` holds.
-use Rattle.std.specs.Prelude.{◌≡◌, ◌⊎◌, ⊤, ℕ, ◌+◌, ◌-◌, ◌*◌, ◌/◌, ◌%◌, ◌^◌, ◌<◌, ◌≤◌, List, length, map, Option, None, Some, Result, Ok, Err, IfOk, IfErr}
+use Rattle.std.specs.Prelude.{◌≡◌, ◌⊎◌, ⊤, ℕ, ◌+◌, ◌-◌, ◌*◌, ◌/◌, ◌%◌, ◌^◌, ◌<◌, ◌≤◌, List, length, map, Option, None, Some, Result, Ok, Err, IfOk, OnOk, IfErr}
 use Rattle.constriction_base.specs.Readings.{ReadsAs}
 use Rattle.constriction_base.specs.Steps.{Step}
 use Rattle.constriction_base.specs.Windows.{IsInWindow, IsMovedOut}
@@ -150,12 +150,13 @@ module _ {W C R S E F : Type 0} (number : W → ℕ) (compressed_holds : holding
     -- The remainders' backend loses no room.
     pub room_left : remainders_writes.room old.remainders ≤ remainders_writes.room new.remainders
 
-  -- The first half of a decode, on heads and backends. The call takes a quantile, or the decode halts.
+  -- The first half of a decode, on heads and backends. The call takes a quantile and leaves the compressed head
+  -- `after`, or the decode halts.
   pub record TakesAtHeads {V : Type 0} (remainders_number : V → ℕ) (w s P : ℕ) (heads : W × V) (old : C) (other : R)
-      (answer : Result (W × W) (CoderError DecoderFrontendError (BackendError E F))) (new : C) (other' : R) : Type 0 where
-    pub ok : IfOk answer (λ found. Took w s P
+      (answer : Result W (CoderError DecoderFrontendError (BackendError E F))) (after : W) (new : C) (other' : R) : Type 0 where
+    pub ok : IfOk answer (λ quantile. Took w s P
         (at_heads number remainders_number compressed_holds remainders_holds heads old other)
-        (number found.0) (number found.1)
+        (number quantile) (number after)
         (at_heads number remainders_number compressed_holds remainders_holds heads new other'))
     pub err : IfErr answer (λ e. Halted w s P
         (at_heads number remainders_number compressed_holds remainders_holds heads old other) e
@@ -272,11 +273,11 @@ module _ {W C R S E F : Type 0} (number : W → ℕ) (compressed_holds : holding
     pub after : IsChainCoder number compressed_holds remainders_holds w s e.precision new
     pub outcome : EncodeAnswers w s old e answer new
 
-  -- An encode on heads and backends. The step's interval has the length `p` and begins at `left`. The call returns the
-  -- new heads, or an error, which leaves the heads unchanged.
+  -- An encode on heads and backends. The step's interval has the length `p` and begins at `left`. The call leaves the
+  -- heads `after`. An error is that of an encode that leaves the coder with the heads before the call.
   pub record EncodesAtHeads {V : Type 0} (remainders_number : V → ℕ) (w s P : ℕ) (left p : W) (heads : W × V) (old : C) (other : R)
-      (answer : Result (W × V) (CoderError EncoderFrontendError (BackendError E F))) (new : C) (other' : R) : Type 0 where
-    pub ok : IfOk answer (λ after. EncodeCall w s
+      (answer : Result (Unit {0}) (CoderError EncoderFrontendError (BackendError E F))) (after : W × V) (new : C) (other' : R) : Type 0 where
+    pub ok : OnOk answer (EncodeCall w s
         (at_heads number remainders_number compressed_holds remainders_holds heads old other)
         (record { precision = P; left = number left; p = number p }) (Ok tt)
         (at_heads number remainders_number compressed_holds remainders_holds after new other'))

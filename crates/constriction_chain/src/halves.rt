@@ -4,13 +4,14 @@
 //! two calls, the coder asks the model for the symbol. An encode calls [`give`].
 //!
 //! The heads are two numbers here, not a struct with a const parameter. In a function that is generic over two backends
-//! and a model, the struct would make the proof's conditions too large for the prover.
+//! and a model, the struct would make the proof's conditions too large for the prover. A call replaces each head in its
+//! place: heads in a result of eight bytes or fewer would be packed into one register.
 
 ghost use Rattle.constriction_base.specs.Tables.{Covers};
 ghost use Rattle.constriction_chain.specs.Chain.{IsRemaindersHead, IsSized};
 ghost use Rattle.constriction_chain.specs.Steps.{EncodesAtHeads, Keeps, TakesAtHeads};
 ghost use Rattle.constriction_words.specs.Reciprocals.{IsReciprocalOf};
-ghost use Rattle.std.specs.Prelude.{IfSome, ◌%◌, ◌*◌, ◌+◌, ◌-◌, ◌/◌, ◌<◌, ◌^◌, ◌≡◌, ◌≤◌};
+ghost use Rattle.std.specs.Prelude.{IfSome, OnErr, ◌%◌, ◌*◌, ◌+◌, ◌-◌, ◌/◌, ◌<◌, ◌^◌, ◌≡◌, ◌≤◌};
 
 use crate::errors::{BackendError, DecoderError, EncoderError, EncoderFrontendError};
 use crate::steps::{gain, give_quantile, prepare_for_quantile, regain, take_quantile};
@@ -18,9 +19,9 @@ use constriction_base::backends::{Holds, ReadWords, Stack, WriteWords};
 use constriction_base::errors::CoderError;
 use constriction_words::{BitArray, Reciprocal, WordOf};
 
-/// Takes the next quantile off the compressed side. Returns the quantile and the new compressed head.
+/// Takes the next quantile off the compressed side, and returns the quantile. An error leaves `h` unchanged.
 ///
-/// `heads` contains the compressed head and the remainders head. If fewer than `precision` bits are left over, the call
+/// `h` is the compressed head, and `r` is the remainders head. If fewer than `precision` bits are left over, the call
 /// first asks the remainders for room for one word, and then reads a compressed word.
 ///
 /// # Errors
@@ -32,17 +33,19 @@ use constriction_words::{BitArray, Reciprocal, WordOf};
 pub fn take<Word: WordOf<State>, State: BitArray, C: ReadWords<Word, Stack>, R: WriteWords<Word>>(
     compressed: &mut C,
     remainders: &mut R,
-    heads: (Word, State),
+    h: &mut Word,
+    r: State,
     precision: u32,
-) -> Result<(Word, Word), DecoderError<C::ReadError, R::WriteError>>
+) -> Result<Word, DecoderError<C::ReadError, R::WriteError>>
     requires sized { IsSized Word.BITS State.BITS precision }
-    requires head { 0 < Word.number heads.0 }
-    requires window { IsRemaindersHead Word.BITS State.BITS precision (State.number heads.1) }
-    ensures { TakesAtHeads Word.number C.Holds C.ReadWords.own R.Holds R.WriteWords.own State.number
-        Word.BITS State.BITS precision heads compressed.old remainders.old
-        result compressed.new remainders.new }
+    requires head { 0 < Word.number h.old }
+    requires window { IsRemaindersHead Word.BITS State.BITS precision (State.number r) }
+    ensures takes { TakesAtHeads Word.number C.Holds C.ReadWords.own R.Holds R.WriteWords.own State.number
+        Word.BITS State.BITS precision (h.old, r) compressed.old remainders.old
+        result h.new compressed.new remainders.new }
+    ensures head { OnErr result (h.new ≡ h.old) }
 {
-    take_quantile(compressed, remainders, heads.0, precision)
+    take_quantile(compressed, remainders, h, precision)
 }
 
 /// Moves the offset `quantile - left` into the remainders head `r`, and returns the new remainders head.
@@ -99,7 +102,8 @@ fn divided<State: BitArray>(
     }
 }
 
-/// Encodes the symbol of the interval `[left, left + p)`, and returns the new compressed head and remainders head.
+/// Encodes the symbol of the interval `[left, left + p)`, and replaces the compressed head `h` and the remainders head
+/// `r`. An error leaves both unchanged.
 ///
 /// If the remainders head is below `p * 2^(State::BITS - Word::BITS - precision)`, the call first reads a word of the
 /// remainders into it. Then the call divides the head by `p`. The remainder plus `left` is the quantile, which the call
@@ -108,41 +112,47 @@ fn divided<State: BitArray>(
 fn give_at<Word: WordOf<State>, State: BitArray, C: WriteWords<Word>, R: ReadWords<Word, Stack>>(
     compressed: &mut C,
     remainders: &mut R,
-    heads: (Word, State),
+    h: &mut Word,
+    r: &mut State,
     left: Word,
     p: Word,
     reciprocal: Option<Reciprocal>,
     precision: u32,
-) -> Result<(Word, State), EncoderError<C::WriteError, R::ReadError>>
+) -> Result<(), EncoderError<C::WriteError, R::ReadError>>
     requires sized { IsSized Word.BITS State.BITS precision }
-    requires head { 0 < Word.number heads.0 }
-    requires window { IsRemaindersHead Word.BITS State.BITS precision (State.number heads.1) }
+    requires head { 0 < Word.number h.old }
+    requires window { IsRemaindersHead Word.BITS State.BITS precision (State.number r.old) }
     requires some { 0 < Word.number p }
     requires reciprocal { IfSome reciprocal (λ r. IsReciprocalOf r (Word.number p)) }
     requires total { Word.number left + Word.number p ≤ 2 ^ precision }
-    ensures { EncodesAtHeads Word.number C.Holds C.WriteWords.own R.Holds R.ReadWords.own State.number
-        Word.BITS State.BITS precision left p heads compressed.old remainders.old
-        result compressed.new remainders.new }
+    ensures encodes { EncodesAtHeads Word.number C.Holds C.WriteWords.own R.Holds R.ReadWords.own State.number
+        Word.BITS State.BITS precision left p (h.old, r.old) compressed.old remainders.old
+        result (h.new, r.new) compressed.new remainders.new }
+    ensures heads { OnErr result ((h.new ≡ h.old) × (r.new ≡ r.old)) }
 {
-    let (h, r) = heads;
     let p: State = p.widen();
-    if let Err(error) = prepare_for_quantile(compressed, h, precision) {
+    if let Err(error) = prepare_for_quantile(compressed, *h, precision) {
         return Err(CoderError::Backend(BackendError::Compressed(error)));
     }
-    let v = match regain::<Word, State, R>(remainders, r, p, precision) {
+    let v = match regain::<Word, State, R>(remainders, *r, p, precision) {
         Ok(Some(v)) => v,
         Ok(None) => return Err(CoderError::Frontend(EncoderFrontendError::OutOfRemainders)),
         Err(error) => return Err(CoderError::Backend(BackendError::Remainders(error))),
     };
     let (quotient, rest) = divided(v, p, reciprocal, State::BITS - precision);
     let quantile = left.plus(Word::narrow(rest));
-    match give_quantile(compressed, h, quantile, precision) {
-        Ok(h) => Ok((h, quotient)),
+    match give_quantile(compressed, *h, quantile, precision) {
+        Ok(next) => {
+            *h = next;
+            *r = quotient;
+            Ok(())
+        }
         Err(error) => Err(CoderError::Backend(BackendError::Compressed(error))),
     }
 }
 
-/// Encodes the symbol of the interval `[left, left + p)`, and returns the new compressed head and remainders head.
+/// Encodes the symbol of the interval `[left, left + p)`, and replaces the compressed head `h` and the remainders head
+/// `r`. An error leaves both unchanged.
 ///
 /// The call takes an offset below `p` from the remainders. It puts the quantile, which is `left` plus this offset, back
 /// onto the compressed side. The call branches once on whether there is a reciprocal. One path divides, and the other
@@ -157,32 +167,35 @@ fn give_at<Word: WordOf<State>, State: BitArray, C: WriteWords<Word>, R: ReadWor
 pub fn give<Word: WordOf<State>, State: BitArray, C: WriteWords<Word>, R: ReadWords<Word, Stack>>(
     compressed: &mut C,
     remainders: &mut R,
-    heads: (Word, State),
+    h: &mut Word,
+    r: &mut State,
     left: Word,
     p: Word,
     reciprocal: Option<Reciprocal>,
     precision: u32,
-) -> Result<(Word, State), EncoderError<C::WriteError, R::ReadError>>
+) -> Result<(), EncoderError<C::WriteError, R::ReadError>>
     requires sized { IsSized Word.BITS State.BITS precision }
-    requires head { 0 < Word.number heads.0 }
-    requires window { IsRemaindersHead Word.BITS State.BITS precision (State.number heads.1) }
+    requires head { 0 < Word.number h.old }
+    requires window { IsRemaindersHead Word.BITS State.BITS precision (State.number r.old) }
     requires some { 0 < Word.number p }
     requires reciprocal { IfSome reciprocal (λ r. IsReciprocalOf r (Word.number p)) }
     requires total { Word.number left + Word.number p ≤ 2 ^ precision }
-    ensures { EncodesAtHeads Word.number C.Holds C.WriteWords.own R.Holds R.ReadWords.own State.number
-        Word.BITS State.BITS precision left p heads compressed.old remainders.old
-        result compressed.new remainders.new }
+    ensures encodes { EncodesAtHeads Word.number C.Holds C.WriteWords.own R.Holds R.ReadWords.own State.number
+        Word.BITS State.BITS precision left p (h.old, r.old) compressed.old remainders.old
+        result (h.new, r.new) compressed.new remainders.new }
+    ensures heads { OnErr result ((h.new ≡ h.old) × (r.new ≡ r.old)) }
 {
     match reciprocal {
         Some(reciprocal) => give_at(
             compressed,
             remainders,
-            heads,
+            h,
+            r,
             left,
             p,
             Some(reciprocal),
             precision,
         ),
-        None => give_at(compressed, remainders, heads, left, p, None, precision),
+        None => give_at(compressed, remainders, h, r, left, p, None, precision),
     }
 }

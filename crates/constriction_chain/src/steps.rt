@@ -46,9 +46,10 @@ fn from_word<Word: BitArray>(h: Word, word: Word, precision: u32) -> (Word, Word
     )
 }
 
-/// Takes the next quantile off the compressed side. Returns the quantile and the new compressed head.
+/// Takes the next quantile off the compressed side, and returns the quantile. The call replaces the compressed head
+/// `h`, unless it returns an error.
 ///
-/// If fewer than `precision` bits are left over in the compressed head `h`, the call needs a compressed word. It first
+/// If fewer than `precision` bits are left over in the compressed head, the call needs a compressed word. It first
 /// asks the remainders for room for one word, and then reads the compressed word.
 ///
 /// # Errors
@@ -60,29 +61,36 @@ fn from_word<Word: BitArray>(h: Word, word: Word, precision: u32) -> (Word, Word
 pub fn take_quantile<Word: BitArray, C: ReadWords<Word, Stack>, R: WriteWords<Word>>(
     compressed: &mut C,
     remainders: &mut R,
-    h: Word,
+    h: &mut Word,
     precision: u32,
-) -> Result<(Word, Word), DecoderError<C::ReadError, R::WriteError>>
+) -> Result<Word, DecoderError<C::ReadError, R::WriteError>>
     requires sized { (1 ≤ precision) × (precision ≤ Word.BITS) }
-    requires some { 0 < Word.number h }
-    ensures ok { IfOk result (λ found. Taken Word.number C.Holds C.ReadWords.own R.Holds R.WriteWords.own
-        Word.BITS precision (Word.number h) compressed.old remainders.old
-        (Word.number found.0) (Word.number found.1) compressed.new remainders.new) }
+    requires some { 0 < Word.number h.old }
+    ensures ok { IfOk result (λ quantile. Taken Word.number C.Holds C.ReadWords.own R.Holds R.WriteWords.own
+        Word.BITS precision (Word.number h.old) compressed.old remainders.old
+        (Word.number quantile) (Word.number h.new) compressed.new remainders.new) }
     ensures err { IfErr result (λ e. Halts Word.number C.Holds C.ReadWords.own R.Holds R.WriteWords.own
-        Word.BITS precision (Word.number h) compressed.old remainders.old
+        Word.BITS precision (Word.number h.old) compressed.old remainders.old
         e compressed.new remainders.new) }
     ensures others { OnErr result (R.words remainders.new ≡ R.words remainders.old) }
     ensures kept { OnErr result (C.is_list → C.words compressed.new ≡ C.words compressed.old) }
     ensures room { OnErr result (R.room remainders.old ≤ R.room remainders.new) }
+    ensures head { OnErr result (h.new ≡ h.old) }
 {
-    if !needs_word(h, precision) {
-        return Ok((h.low_bits(precision), h.shifted_right(precision)));
+    if !needs_word(*h, precision) {
+        let quantile = h.low_bits(precision);
+        *h = h.shifted_right(precision);
+        return Ok(quantile);
     }
     if let Err(error) = remainders.prepare(1) {
         return Err(CoderError::Backend(BackendError::Remainders(error)));
     }
     match compressed.read() {
-        Ok(Some(word)) => Ok(from_word(h, word, precision)),
+        Ok(Some(word)) => {
+            let (quantile, next) = from_word(*h, word, precision);
+            *h = next;
+            Ok(quantile)
+        }
         Ok(None) => Err(CoderError::Frontend(DecoderFrontendError::OutOfCompressedData)),
         Err(error) => Err(CoderError::Backend(BackendError::Compressed(error))),
     }

@@ -75,14 +75,15 @@ impl<
         M::Probability: WordOf<Word>,
     {
         let precision = PRECISION as u32;
-        let (before, r) = self.heads.numbers();
-        let (quantile, h) = match take(
+        let (mut h, r) = self.heads.numbers();
+        let quantile = match take(
             &mut self.compressed,
             &mut self.remainders,
-            (before, r),
+            &mut h,
+            r,
             precision,
         ) {
-            Ok(found) => found,
+            Ok(quantile) => quantile,
             Err(error) => return Err(error),
         };
         let (symbol, left, p) = model.quantile_function(M::Probability::narrow(quantile));
@@ -178,7 +179,7 @@ impl<
         M: EncoderModel<PRECISION>,
         M::Probability: WordOf<Word>,
     {
-        let (heads, precision) = (self.heads.numbers(), PRECISION as u32);
+        let (mut h, mut r) = self.heads.numbers();
         let Some((left, p, reciprocal)) = model.left_cumulative_and_reciprocal(symbol) else {
             return Err(CoderError::Frontend(EncoderFrontendError::ImpossibleSymbol));
         };
@@ -186,13 +187,14 @@ impl<
         match give(
             &mut self.compressed,
             &mut self.remainders,
-            heads,
+            &mut h,
+            &mut r,
             left,
             p,
             reciprocal,
-            precision,
+            PRECISION as u32,
         ) {
-            Ok((h, r)) => {
+            Ok(()) => {
                 self.heads.replace(h, r);
                 Ok(())
             }
