@@ -9,7 +9,7 @@
 //! - [`quantizer`]: `LeakyQuantizer`, which cuts a distribution function halfway between symbols. It creates two
 //!   models: `LeakilyQuantizedDistribution`, and `IndexedDistribution`, whose `usize` symbols are counted from 0.
 //! - [`location_scale`]: `LocationScale`, a standard distribution moved to a location and stretched by a scale;
-//!   `Scale`, which creates a `LocationScale` without a division.
+//!   `Scale`, which holds the inverse that a `LocationScale` needs.
 //! - [`gaussian`], [`laplace`], [`logistic`]: the distributions `Gaussian`, `Laplace` and `Logistic`.
 //! - [`families`]: `Family`, which chooses one of these three at run time.
 //! - [`mixture`]: `Mixture`, the weighted mean of distributions, each a `Component`. `MixtureError` is the error for

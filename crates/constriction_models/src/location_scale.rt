@@ -79,8 +79,8 @@ pub struct LocationScale<D: StandardDistribution> {
 impl<D: StandardDistribution> LocationScale<D> {
     /// Creates the distribution with `location` and `scale`, or returns `None` if `scale` is 0.
     ///
-    /// `location` and `scale` are in units of `2^-16`. Each call divides once. If scales repeat, [`Scale::at`] saves
-    /// the division. See the type's documentation for an example.
+    /// `location` and `scale` are in units of `2^-16`. Each call computes the scale's inverse. If scales repeat,
+    /// [`Scale::at`] saves this. See the type's documentation for an example.
     #[inline]
     pub fn new(location: i64, scale: u32) -> Option<Self>
         ensures ok { IfSome result

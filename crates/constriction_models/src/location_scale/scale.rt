@@ -1,4 +1,4 @@
-//! `Scale`: a scale, stored with its reciprocal.
+//! `Scale`: a scale, stored with its inverse.
 
 ghost use Rattle.std.specs.Prelude.{◌≡◌, ◌/◌, ◌↔◌, ◌<◌, IfSome, IsNone};
 ghost use Rattle.constriction_models.specs.Interpolation.{scaled};
@@ -9,11 +9,11 @@ use constriction_words::BitArray;
 use std::alloc::AllocError;
 use std::marker::PhantomData;
 
-/// A scale of a family of distributions, stored with its reciprocal.
+/// A scale of a family of distributions, stored with its inverse.
 ///
-/// The scale is a multiple of `2^-16`. `Scale::new` divides, and `Scale::at` doesn't. A program whose scales repeat or
-/// come from a table can keep values of this type. The program then creates the distribution of each symbol without a
-/// division.
+/// The scale is a multiple of `2^-16`. `Scale::new` computes the inverse, and `Scale::at` doesn't. A program whose
+/// scales repeat or come from a table can keep values of this type. The program then creates the distribution of each
+/// symbol by copying numbers.
 ///
 /// # Examples
 ///
@@ -111,7 +111,7 @@ impl<D: StandardDistribution> Clone for Scale<D> {
 
 /// Returns `2^63 / scale`, rounded down. The caller proves that `scale` is above 0.
 ///
-/// For scales of at least 1/8 (`2^13`), the call takes no whole-number division.
+/// The call is faster for scales from `2^13` on, which is 1/8, than for smaller ones.
 #[inline(always)]
 pub(crate) fn inverse_of(scale: u32) -> u64
     requires { 0 < scale }
