@@ -2,6 +2,7 @@ pub mod BitLemmas
 pub mod Coding
 pub mod TopLemmas
 pub mod TurningLemmas
+pub mod LowLemmas
 pub mod TakenAtOnce
 pub mod PutAtOnce
 pub mod Lengths
@@ -24,6 +25,7 @@ pub mod Climbing
 pub mod Marked
 pub mod EncoderTrees
 pub mod Turned
+pub mod TwoForms
 pub mod TwoQueues
 pub mod Refusals
 pub mod CodewordLists

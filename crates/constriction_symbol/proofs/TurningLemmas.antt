@@ -94,7 +94,7 @@ down_step left n s m h t none some is high low clear step =
         let not_zero : h ≢ 0 = λ is₀. let no = clear₀.1 is₀ in cc in
         omega (arith, not_zero, low, halved)
 
-past : (front back : List Bool) → drop (length front) (front ++ back) ≡ back
+pub past : (front back : List Bool) → drop (length front) (front ++ back) ≡ back
 past [] back = refl
 past (x ∷ front) back = past front back
 

@@ -45,6 +45,7 @@ mod equality;
 pub mod exp_golomb;
 pub mod huffman;
 pub mod iterators;
+mod low_bits;
 pub mod queue;
 pub mod reading;
 pub mod reversed;

@@ -171,7 +171,10 @@ impl<Word: BitArray, B: ReadWords<Word, Queue> + Drop> ReadBitStream<Queue>
             self.last.drop_first(count);
             return Ok(symbol);
         }
-        codebook.decode_symbol(self)
+        self.last.set_turns(true);
+        let decoded = codebook.decode_symbol(self);
+        self.last.set_turns(false);
+        decoded
     }
 
     ghost list_law = { λ known old item new given. given.1 known };

@@ -140,8 +140,7 @@ pub fn take_first<Word: BitArray, B: ReadWords<Word, Queue>>(
             Err(error) => return Err(error),
             Ok(None) => return Ok(None),
             Ok(Some(word)) => {
-                *last = WordBits::all(word);
-                return Ok(Some(last.take_first()));
+                return Ok(Some(last.refill(word)));
             }
         }
     }

@@ -50,6 +50,20 @@ impl<Word: BitArray> TopBits<Word> {
         TopBits { word, room: 0 }
     }
 
+    /// Creates the list of the `count` highest bits of `word`, from the lowest of them to the highest.
+    ///
+    /// The caller proves that `count` is at most `Word::BITS`.
+    #[inline]
+    pub fn of_top(word: Word, count: u32) -> Self
+        requires { count ≤ Word.BITS }
+        ensures { result ≡ bits_of count (Word.number word / 2 ^ (Word.BITS - count)) }
+    {
+        TopBits {
+            word,
+            room: (Word::BITS - count) as usize,
+        }
+    }
+
     /// Creates the list of the bits of `word` below its highest 1. Returns `None` if `word` is 0.
     pub fn below_highest(word: Word) -> Option<Self>
         ensures { MatchOption result (Word.number word ≡ 0) (λ bits. TopWord Word.BITS bits (Word.number word)) }

@@ -1,8 +1,10 @@
 //! `WordBits`: the bits of one word that a decoder of a queue hasn't read yet.
 
 ghost use Rattle.constriction_symbol.specs.Bits.{AreZeros, bits_of, top_bits};
-ghost use Rattle.std.specs.Prelude.{IsTrue, List, [], drop, length, reverse, ◌<◌, ◌≤◌, ◌∷◌, ◌^◌, ◌↔◌, ◌≡◌};
+ghost use Rattle.std.specs.Prelude.{IsTrue, List, [], drop, length, reverse};
+ghost use Rattle.std.specs.Prelude.{◌++◌, ◌<◌, ◌≤◌, ◌∷◌, ◌^◌, ◌↔◌, ◌≡◌, ◌⊎◌};
 
+use crate::low_bits::LowBits;
 use crate::top_bits::TopBits;
 use crate::turning::turned;
 use constriction_words::BitArray;
@@ -10,19 +12,25 @@ use std::marker::Model;
 
 /// A list of at most `Word::BITS` bits. Calls remove bits from its front.
 ///
-/// The list is stored in reverse order: its first bit is the highest bit of the stored word. Contracts describe a
-/// `WordBits` by the list.
+/// The list has two forms, and at most one of them holds bits. In `first`, the list's first bit is the lowest bit of
+/// the stored word. In `turned`, the list is stored in reverse order: its first bit is the highest bit of the stored
+/// word. Reads of single bits use `first`, so they don't have to reverse each word. Reads of a codeword at once need
+/// `turned`. Contracts describe a `WordBits` by the list.
 #[derive(Debug, Drop)]
 pub struct WordBits<Word: BitArray> {
+    first: LowBits<Word>,
     turned: TopBits<Word>,
+    turns: bool,
 }
 
 impl<Word: BitArray> Model for WordBits<Word> {
-    ghost use Rattle.std.specs.Prelude.{Bool, List, reverse};
+    ghost use Rattle.std.specs.Prelude.{Bool, List, [], reverse, ◌++◌, ◌≡◌, ◌⊎◌};
 
     ghost Value = { List Bool };
 
-    ghost view = { λ b. reverse b.turned };
+    ghost view = { λ b. b.first ++ reverse b.turned };
+
+    ghost invariant = { λ b. (b.first ≡ []) ⊎ (b.turned ≡ []) };
 }
 
 impl<Word: BitArray> WordBits<Word> {
@@ -32,18 +40,34 @@ impl<Word: BitArray> WordBits<Word> {
         ensures { result ≡ [] }
     {
         WordBits {
+            first: LowBits::none(),
             turned: TopBits::none(),
+            turns: false,
         }
     }
 
-    /// Creates the list of all bits of `word`, from the lowest to the highest.
+    /// Puts all bits of `word`, from the lowest to the highest, into the list, and removes the first and returns it.
+    ///
+    /// The caller proves that the list is empty.
     #[inline]
-    pub fn all(word: Word) -> Self
-        ensures { result ≡ bits_of Word.BITS (Word.number word) }
+    pub fn refill(&mut self, word: Word) -> bool
+        requires { self.old ≡ [] }
+        ensures { bits_of Word.BITS (Word.number word) ≡ result ∷ self.new }
     {
-        WordBits {
-            turned: TopBits::all(turned(word)),
+        if self.turns {
+            self.turned = TopBits::all(turned(word));
+            return self.turned.pop();
         }
+        self.first = LowBits::after_first(word);
+        !word.low_bits(1).is_nothing()
+    }
+
+    /// Sets whether the next `refill` stores the bits in reverse order. The list is unchanged.
+    #[inline]
+    pub fn set_turns(&mut self, turns: bool)
+        ensures { self.new ≡ self.old }
+    {
+        self.turns = turns;
     }
 
     /// Returns a copy of the list.
@@ -52,8 +76,21 @@ impl<Word: BitArray> WordBits<Word> {
         ensures { result ≡ self.now }
     {
         WordBits {
+            first: self.first.copied(),
             turned: self.turned.copied(),
+            turns: self.turns,
         }
+    }
+
+    /// Returns the list in reverse order.
+    #[inline]
+    fn as_turned(&self) -> TopBits<Word>
+        ensures { result ≡ reverse self.now }
+    {
+        if self.first.is_empty() {
+            return self.turned.copied();
+        }
+        self.first.turned()
     }
 
     /// Returns the number of bits in the list.
@@ -62,7 +99,10 @@ impl<Word: BitArray> WordBits<Word> {
         ensures value { result ≡ length self.now }
         ensures within { result ≤ Word.BITS }
     {
-        self.turned.count()
+        if self.first.is_empty() {
+            return self.turned.count();
+        }
+        self.first.count()
     }
 
     /// Returns whether the list is empty.
@@ -70,7 +110,7 @@ impl<Word: BitArray> WordBits<Word> {
     pub fn is_empty(&self) -> bool
         ensures { IsTrue result ↔ (self.now ≡ []) }
     {
-        self.turned.is_empty()
+        self.first.is_empty() && self.turned.is_empty()
     }
 
     /// Returns a word that has the list in its lowest bits.
@@ -82,17 +122,19 @@ impl<Word: BitArray> WordBits<Word> {
         ensures small { Word.number result < 2 ^ length self.now }
         ensures within { length self.now ≤ Word.BITS }
     {
-        TopBits::word(&self.turned)
+        TopBits::word(&self.as_turned())
     }
 
-    /// Returns a word that has the list in its highest bits.
+    /// Returns a word that has the list in its highest bits. The list is unchanged.
     ///
     /// The list's first bit is the highest bit of the word. All bits below the list are unspecified.
     #[inline]
-    pub fn turned_top(&self) -> Word
-        ensures bits { top_bits Word.BITS (length self.now) (Word.number result) ≡ self.now }
-        ensures within { length self.now ≤ Word.BITS }
+    pub fn turned_top(&mut self) -> Word
+        ensures same { self.new ≡ self.old }
+        ensures bits { top_bits Word.BITS (length self.old) (Word.number result) ≡ self.old }
+        ensures within { length self.old ≤ Word.BITS }
     {
+        turn(&mut self.first, &mut self.turned);
         self.turned.top_word()
     }
 
@@ -102,7 +144,10 @@ impl<Word: BitArray> WordBits<Word> {
         requires { 0 < length self.old }
         ensures { self.old ≡ result ∷ self.new }
     {
-        self.turned.pop()
+        if self.first.is_empty() {
+            return self.turned.pop();
+        }
+        self.first.pop_first()
     }
 
     /// Removes the first `count` bits. The caller proves that `count` is at least 1 and below the list's length.
@@ -112,6 +157,7 @@ impl<Word: BitArray> WordBits<Word> {
         requires within { count < length self.old }
         ensures { self.new ≡ drop count self.old }
     {
+        turn(&mut self.first, &mut self.turned);
         self.turned.drop_last(count);
     }
 
@@ -120,6 +166,22 @@ impl<Word: BitArray> WordBits<Word> {
     pub fn is_zeros(&self) -> bool
         ensures { IsTrue result ↔ AreZeros self.now }
     {
-        self.turned.word().is_nothing()
+        self.as_turned().word().is_nothing()
     }
+}
+
+/// Moves the bits of `first`, in reverse order, to the end of `turned`.
+///
+/// The caller proves that one of the lists is empty.
+#[inline]
+fn turn<Word: BitArray>(first: &mut LowBits<Word>, turned: &mut TopBits<Word>)
+    requires { (first.old ≡ []) ⊎ (turned.old ≡ []) }
+    ensures first { first.new ≡ [] }
+    ensures turned { turned.new ≡ turned.old ++ reverse first.old }
+{
+    if first.is_empty() {
+        return;
+    }
+    *turned = first.turned();
+    *first = LowBits::none();
 }
