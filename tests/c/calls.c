@@ -821,12 +821,101 @@ static void codewords_at(size_t count) {
     }
 }
 
+/* ==== Lists that are long enough for a lookup model of the weights, at 12 bits ==== */
+
+enum { LONG = 5000, PART = 100, LONG_ROOM = LONG + 8 };
+
+/* What the calls on a long list change. */
+struct long_world {
+    state head;
+    struct C(range_decoder_state) decoder;
+    struct C(chain_heads) heads;
+    size_t len, other_len, symbols[LONG];
+    word words[LONG_ROOM], other[LONG_ROOM];
+};
+
+/* A decode of symbols at a place of a long list. */
+typedef uint32_t long_call(struct long_world *w, size_t place, size_t count);
+
+static uint32_t long_ans(struct long_world *w, size_t place, size_t count) {
+    return C(ans_decode)(&w->head, w->words, LONG_ROOM, &w->len, TABLE, w->symbols + place, count);
+}
+static uint32_t long_range(struct long_world *w, size_t place, size_t count) {
+    return C(range_decode)(&w->decoder, w->words, w->len, TABLE, w->symbols + place, count);
+}
+static uint32_t long_chain(struct long_world *w, size_t place, size_t count) {
+    size_t needed;
+    return C(chain_decode)(&w->heads, w->other, LONG_ROOM, &w->other_len, w->words, LONG_ROOM, &w->len, TABLE,
+                           w->symbols + place, count, &needed);
+}
+
+static int same_long(const struct long_world *a, const struct long_world *b) {
+    return a->head == b->head && a->len == b->len && a->other_len == b->other_len
+        && a->decoder.lower == b->decoder.lower && a->decoder.range == b->decoder.range
+        && a->decoder.point == b->decoder.point && a->decoder.pos == b->decoder.pos
+        && a->heads.remainders == b->heads.remainders && a->heads.compressed == b->heads.compressed
+        && !memcmp(a->symbols, b->symbols, sizeof a->symbols) && !memcmp(a->words, b->words, sizeof a->words)
+        && !memcmp(a->other, b->other, sizeof a->other);
+}
+
+/* Decodes a long list by one call, by calls on short lists, and with each request for memory refused in turn. A refused request for the
+   rows of a lookup model is no refusal of the call. */
+static void long_decode(const char *about, long_call *decode, const struct long_world *start, struct long_world *whole) {
+    static struct long_world parts, w;
+    int rows = 0;
+    *whole = parts = *start;
+    CHECK(about, decode(whole, 0, LONG) == CONSTRICTION_DONE);
+    for (size_t i = 0; i < LONG; i += PART) CHECK(about, decode(&parts, i, PART) == CONSTRICTION_DONE);
+    CHECK(about, same_long(whole, &parts));
+    for (unsigned long n = 1;; n++) {
+        w = *start, requests = 0, refused_request = n;
+        uint32_t result = decode(&w, 0, LONG);
+        refused_request = 0;
+        if (requests < n) break;
+        CHECK(about, result == CONSTRICTION_NO_MEMORY ? same_long(&w, start) : result == CONSTRICTION_DONE && same_long(&w, whole));
+        rows |= result == CONSTRICTION_DONE;
+    }
+    CHECK(about, rows == (BITS == 16));
+}
+
+static void long_lists(void) {
+    static struct long_world start, w;
+    static size_t given[LONG];
+    struct C(range_encoder_state) encoder;
+    size_t needed;
+    draw(1);
+    for (size_t i = 0; i < LONG; i++) given[i] = random_below(KINDS);
+
+    memset(&start, 0, sizeof start);
+    CHECK("long: ANS, encode", !C(ans_encode_reverse)(&start.head, start.words, LONG_ROOM, &start.len, TABLE, given, LONG, &needed));
+    long_decode("long: ANS, decode", long_ans, &start, &w);
+    CHECK("long: ANS, there and back", !memcmp(w.symbols, given, sizeof given) && w.head == 0 && w.len == 0);
+
+    memset(&start, 0, sizeof start);
+    CHECK("long: range, encode", !C(range_encoder)(&encoder)
+          && !C(range_encode)(&encoder, start.words, LONG_ROOM, &start.len, TABLE, given, LONG, &needed)
+          && !C(range_into_compressed)(&encoder, start.words, LONG_ROOM, &start.len, &needed)
+          && !C(range_from_compressed)(start.words, start.len, &start.decoder));
+    long_decode("long: range, decode", long_range, &start, &w);
+    CHECK("long: range, there and back", !memcmp(w.symbols, given, sizeof given));
+
+    memset(&start, 0, sizeof start);
+    for (size_t i = 0; i < LONG_ROOM; i++) start.other[i] = (word)random_below((uint64_t)1 << BITS);
+    start.other[LONG_ROOM - 1] |= 1;
+    CHECK("long: chain, import", !C(chain_from_compressed)(start.other, LONG_ROOM, &start.other_len, &start.heads));
+    long_decode("long: chain, decode", long_chain, &start, &w);
+    CHECK("long: chain, encode", !C(chain_encode_reverse)(&w.heads, w.other, LONG_ROOM, &w.other_len, w.words, LONG_ROOM, &w.len, TABLE,
+                                                          w.symbols, LONG, &needed));
+    CHECK("long: chain, there and back", w.other_len == start.other_len && w.len == 0 && !memcmp(w.other, start.other, sizeof w.other)
+          && w.heads.remainders == start.heads.remainders && w.heads.compressed == start.heads.compressed);
+}
+
 int main(void) {
     for (int round = 0; round < 20; round++) {
         size_t count = round < 3 ? (size_t)round : 1 + random_below(COUNT);
         ans(count), range(count), store(count), chain(count), codewords(count), codewords_at(count), narrow(count);
     }
-    great_held(), most_symbols(), nulls(), texts();
+    great_held(), most_symbols(), long_lists(), nulls(), texts();
     for (size_t i = 1; i < RESULTS; i++) CHECK("each result was seen", seen[i] > 0);
     return finish();
 }

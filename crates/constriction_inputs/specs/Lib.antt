@@ -7,4 +7,5 @@ pub mod QuantizedCalls
 pub mod Refusals
 pub mod Rows
 pub mod Weights
+pub mod WeightsModels
 pub mod laws

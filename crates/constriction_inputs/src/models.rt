@@ -10,6 +10,7 @@ mod lone;
 mod mixtures;
 mod rows;
 pub mod weights;
+pub mod weights_model;
 
 ghost use Rattle.std.specs.Prelude.{◌≡◌, ◌↔◌, ◌<◌, ◌≤◌, ℕ, List, get_or, length, map, replicate, IfSome, IsTrue};
 ghost use Rattle.constriction_base.specs.Models.{AreKnown};
@@ -99,6 +100,26 @@ pub trait Models<P: BitArray, const PRECISION: usize> {
         ensures count { IfSome result (λ list. length (Self.List.tables list) ≡ length symbols.now) }
         ensures items { IfSome result (λ list. AreTablesFor PRECISION (coded self.now) (length symbols.now)
             (Self.List.tables list)) };
+}
+
+/// A caller's arguments that describe the models of a list of symbols to decode.
+///
+/// An implementor can decode with models of another type than the models that `list` returns. Calls that encode require
+/// only [`Models`], so their proofs don't depend on that type.
+pub trait DecoderModels<P: BitArray, const PRECISION: usize>: Models<P, PRECISION> {
+    /// The type of the list of models to decode with.
+    type DecoderList: ModelList<P, PRECISION>;
+
+    /// Returns the models for decoding `symbols.len()` symbols, or `None` if there is no memory for the models.
+    ///
+    /// The implementor can choose models that decode this number of symbols in less time. The caller proves that
+    /// `check` would succeed.
+    fn decoder_list(&self, alloc: Global, symbols: &[usize]) -> Option<Self::DecoderList>
+        requires precision { (1 ≤ PRECISION) × (PRECISION ≤ P.BITS) }
+        requires fit { AreFit PRECISION (Self.coded self.now symbols.now) }
+        ensures count { IfSome result (λ list. length (Self.DecoderList.tables list) ≡ length symbols.now) }
+        ensures items { IfSome result (λ list. AreTablesFor PRECISION (Self.coded self.now) (length symbols.now)
+            (Self.DecoderList.tables list)) };
 }
 
 /// A list of models for symbols that all have the same model. The list stores the model once.

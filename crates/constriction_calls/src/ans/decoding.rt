@@ -11,7 +11,7 @@ use crate::narrow::{has_numbers, narrow_into};
 use constriction_base::cursor::Cursor;
 use constriction_base::errors::CoderError;
 use constriction_base::model::{DecoderModel, EntropyModel};
-use constriction_inputs::models::{ModelList, Models, Weights};
+use constriction_inputs::models::{DecoderModels, ModelList, Models, Weights};
 use constriction_inputs::refusal::Refusal;
 use constriction_inputs::rows::Row;
 use constriction_stack::coder::AnsCoder;
@@ -32,7 +32,7 @@ pub fn decode<
     Word: WordOf<State>,
     State: BitArray,
     P: WordOf<Word>,
-    G: Models<P, PRECISION>,
+    G: DecoderModels<P, PRECISION>,
     const PRECISION: usize,
 >(
     alloc: Global,
@@ -51,7 +51,7 @@ pub fn decode<
         return Err(Refusal::WrongLength);
     }
     models.check(symbols)?;
-    let Some(mut list) = models.list(alloc, symbols, false) else {
+    let Some(mut list) = models.decoder_list(alloc, symbols) else {
         return Err(Refusal::NoMemory);
     };
     let (new_head, new_len) = decode_by(*head, words, *len, &mut list, symbols);
@@ -62,8 +62,8 @@ pub fn decode<
 
 /// Decodes symbols into `symbols`, with one table of weights for all symbols.
 ///
-/// For one symbol the call searches the weights. For more symbols it first builds a table. The call changes `head` and
-/// `len` as [`decode`] does.
+/// For one symbol the call searches the weights. For more symbols it first builds a table, or a lookup model as
+/// [`Weights`] says. The call changes `head` and `len` as [`decode`] does.
 ///
 /// # Errors
 ///

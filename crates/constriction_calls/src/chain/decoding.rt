@@ -19,7 +19,7 @@ use constriction_base::errors::CoderError;
 use constriction_base::model::{DecoderModel, EntropyModel};
 use constriction_chain::{ChainCoder, ChainCoderHeads};
 use constriction_inputs::buffers::append;
-use constriction_inputs::models::{ModelList, Models, Weights};
+use constriction_inputs::models::{DecoderModels, ModelList, Models, Weights};
 use constriction_inputs::refusal::Refusal;
 use constriction_inputs::rows::Row;
 use constriction_stream::decoding::Decode;
@@ -48,7 +48,7 @@ pub fn decode<
     Word: WordOf<State>,
     State: BitArray,
     P: WordOf<Word>,
-    G: Models<P, PRECISION>,
+    G: DecoderModels<P, PRECISION>,
     const PRECISION: usize,
 >(
     alloc: Global,
@@ -94,8 +94,8 @@ pub fn decode<
 
 /// Decodes symbols into `symbols`, with one table of weights for all symbols.
 ///
-/// For one symbol the call searches the weights. For more symbols it first builds a table. The call changes the coder
-/// as [`decode`] does.
+/// For one symbol the call searches the weights. For more symbols it first builds a table, or a lookup model as
+/// [`Weights`] says. The call changes the coder as [`decode`] does.
 ///
 /// # Errors
 ///
@@ -230,7 +230,7 @@ fn take_by<
     Word: WordOf<State>,
     State: BitArray,
     P: WordOf<Word>,
-    G: Models<P, PRECISION>,
+    G: DecoderModels<P, PRECISION>,
     const PRECISION: usize,
 >(
     alloc: Global,
@@ -247,7 +247,7 @@ fn take_by<
         × LacksCompressed Word.BITS State.BITS PRECISION
         (λ symbols. items PRECISION (G.coded models.now symbols)) (length places.now) coder.old.state)) }
 {
-    match models.list(alloc, places, false) {
+    match models.decoder_list(alloc, places) {
         Some(mut list) => take_symbols(alloc, coder, &mut list, places.len()),
         None => Err(Refusal::NoMemory),
     }

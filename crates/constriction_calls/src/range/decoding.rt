@@ -12,7 +12,7 @@ ghost use Rattle.constriction_inputs.specs.Refusals.{Words};
 
 use crate::narrow::{has_numbers, narrow_into};
 use crate::range::parts::{DecoderParts, Reading, decoder_of, decoder_parts};
-use constriction_inputs::models::{ModelList, Models, Weights};
+use constriction_inputs::models::{DecoderModels, ModelList, Models, Weights};
 use constriction_inputs::refusal::Refusal;
 use constriction_inputs::rows::Row;
 use constriction_stream::decoding::Decode;
@@ -77,7 +77,7 @@ pub fn decode<
     Word: WordOf<State>,
     State: BitArray,
     P: WordOf<Word>,
-    G: Models<P, PRECISION>,
+    G: DecoderModels<P, PRECISION>,
     const PRECISION: usize,
 >(
     alloc: Global,
@@ -101,10 +101,10 @@ pub fn decode<
     let Some(reading) = decoder_of(words, *decoder) else {
         return Err(Refusal::InvalidData);
     };
-    let Some(mut list) = models.list(alloc, symbols, false) else {
+    let Some(mut list) = models.decoder_list(alloc, symbols) else {
         return Err(Refusal::NoMemory);
     };
-    match take_list::<Word, State, P, G::List, PRECISION>(
+    match take_list::<Word, State, P, G::DecoderList, PRECISION>(
         alloc,
         reading,
         &mut list,
@@ -121,8 +121,8 @@ pub fn decode<
 
 /// Decodes symbols into `symbols`, in order, with one table of weights for all symbols.
 ///
-/// For one symbol the call searches the weights. For more symbols it first builds a table. The call changes `decoder`
-/// as [`decode`] does.
+/// For one symbol the call searches the weights. For more symbols it first builds a table, or a lookup model as
+/// [`Weights`] says. The call changes `decoder` as [`decode`] does.
 ///
 /// # Errors
 ///

@@ -10,7 +10,7 @@ ghost use Rattle.constriction_calls.specs.StoreCalls.{StoreGives};
 use crate::range::decoding::take_list;
 use constriction_base::backends::Seek;
 use constriction_base::cursor::Cursor;
-use constriction_inputs::models::{Models, Weights};
+use constriction_inputs::models::{DecoderModels, Weights};
 use constriction_inputs::refusal::Refusal;
 use constriction_inputs::rows::adding::is_total;
 use constriction_queue::{RangeCoderState, RangeDecoder};
@@ -81,8 +81,8 @@ pub fn chunk<Word: WordOf<State>, State: BitArray, P: WordOf<Word>, const PRECIS
     let Ok(state) = RangeCoderState::<Word, State>::new(lower, range) else {
         return Err(Refusal::InvalidData);
     };
-    let Some(mut list) = Models::<P, PRECISION>::list(&Weights { weights }, alloc, symbols, false)
-    else {
+    let given = Weights { weights };
+    let Some(mut list) = DecoderModels::<P, PRECISION>::decoder_list(&given, alloc, symbols) else {
         return Err(Refusal::NoMemory);
     };
     let decoder = decoder_at::<Word, State>(words, pos, state);

@@ -8,7 +8,7 @@ ghost use Rattle.constriction_inputs.specs.Quantized.{ArePlacesInRange, below_by
 ghost use Rattle.constriction_inputs.specs.Quantized.{symbols_in, tables_by};
 ghost use Rattle.constriction_inputs.specs.QuantizedCalls.{AsksFamily};
 
-use crate::models::{ModelList, Models};
+use crate::models::{DecoderModels, ModelList, Models};
 use crate::refusal::Refusal;
 use constriction_base::model::EntropyModel;
 use constriction_models::families::{Family, FamilyDistribution};
@@ -81,6 +81,18 @@ impl<'a, P: WordOf<u32>, const PRECISION: usize> Models<P, PRECISION> for Famili
             place: symbols.len(),
             model,
         })
+    }
+}
+
+impl<'a, P: WordOf<u32>, const PRECISION: usize> DecoderModels<P, PRECISION> for Families<'a> {
+    type DecoderList = FamilyList<'a, P, FamilyModel<P, PRECISION>, PRECISION>;
+
+    fn decoder_list(
+        &self,
+        alloc: Global,
+        symbols: &[usize],
+    ) -> Option<FamilyList<'a, P, FamilyModel<P, PRECISION>, PRECISION>> {
+        Models::<P, PRECISION>::list(self, alloc, symbols, false)
     }
 }
 

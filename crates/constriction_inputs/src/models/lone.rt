@@ -1,11 +1,11 @@
-//! The implementation of [`Models`] for [`Row`]: one row of weights for all symbols of a list.
+//! The implementations of [`Models`] and [`DecoderModels`] for [`Row`]: one row of weights for all symbols of a list.
 //!
-//! The implementation builds no table, so its calls need no memory.
+//! The implementations build no table, so their calls need no memory.
 
 ghost use Rattle.std.specs.Prelude.{map};
 ghost use Rattle.constriction_inputs.specs.Weights.{by_weights};
 
-use crate::models::{Models, One, Weights};
+use crate::models::{DecoderModels, Models, One, Weights};
 use crate::refusal::Refusal;
 use crate::rows::Row;
 use constriction_words::BitArray;
@@ -40,5 +40,15 @@ impl<'a, P: BitArray, const PRECISION: usize> Models<P, PRECISION> for Row<'a, P
             count: symbols.len(),
             place: 0,
         })
+    }
+}
+
+impl<'a, P: BitArray, const PRECISION: usize> DecoderModels<P, PRECISION>
+    for Row<'a, P, PRECISION> {
+    type DecoderList = One<Row<'a, P, PRECISION>>;
+
+    #[inline]
+    fn decoder_list(&self, alloc: Global, symbols: &[usize]) -> Option<One<Row<'a, P, PRECISION>>> {
+        Models::<P, PRECISION>::list(self, alloc, symbols, false)
     }
 }

@@ -9,7 +9,7 @@ ghost use Rattle.constriction_models.specs.Quantizers.{symbol_count, first_symbo
 ghost use Rattle.constriction_inputs.specs.Mixtures.{AreMixable, by_mixture, components_of, mixture_tables, row_of_place};
 ghost use Rattle.constriction_inputs.specs.Quantized.{family_of, symbols_in};
 
-use crate::models::{Families, ModelList, Models};
+use crate::models::{DecoderModels, Families, ModelList, Models};
 use crate::refusal::Refusal;
 use crate::rows::adding::is_product;
 use constriction_models::distribution::CumulativeDistribution;
@@ -126,6 +126,18 @@ impl<'a, P: WordOf<u32>, const PRECISION: usize> Models<P, PRECISION> for Mixtur
             place: symbols.len(),
             mixed: MixedDistribution::new(components, quantizer),
         })
+    }
+}
+
+impl<'a, P: WordOf<u32>, const PRECISION: usize> DecoderModels<P, PRECISION> for Mixtures<'a> {
+    type DecoderList = MixtureList<'a, P, PRECISION>;
+
+    fn decoder_list(
+        &self,
+        alloc: Global,
+        symbols: &[usize],
+    ) -> Option<MixtureList<'a, P, PRECISION>> {
+        Models::<P, PRECISION>::list(self, alloc, symbols, false)
     }
 }
 

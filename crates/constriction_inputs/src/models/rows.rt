@@ -4,7 +4,7 @@ ghost use Rattle.std.specs.Prelude.{map};
 ghost use Rattle.constriction_inputs.specs.Rows.{by_rows};
 
 use crate::known::all_known_in_rows;
-use crate::models::{Each, Models};
+use crate::models::{DecoderModels, Each, Models};
 use crate::refusal::Refusal;
 use crate::rows::adding::{are_totals, is_product};
 use crate::rows::{Row, total_rows};
@@ -56,5 +56,17 @@ impl<'a, P: BitArray, const PRECISION: usize> Models<P, PRECISION> for Rows<'a, 
             Ok(models) => Some(Each { models, place: 0 }),
             Err(_) => None,
         }
+    }
+}
+
+impl<'a, P: BitArray, const PRECISION: usize> DecoderModels<P, PRECISION> for Rows<'a, P> {
+    type DecoderList = Each<Row<'a, P, PRECISION>>;
+
+    fn decoder_list(
+        &self,
+        alloc: Global,
+        symbols: &[usize],
+    ) -> Option<Each<Row<'a, P, PRECISION>>> {
+        Models::<P, PRECISION>::list(self, alloc, symbols, false)
     }
 }

@@ -6,17 +6,31 @@ ghost use Rattle.constriction_base.specs.WeightTables.{entries};
 ghost use Rattle.constriction_inputs.specs.Weights.{by_weights};
 
 use crate::known::is_known;
-use crate::models::{Models, One};
+use crate::models::weights_model::WeightsModel;
+use crate::models::{DecoderModels, Models, One};
 use crate::refusal::Refusal;
 use crate::rows::adding::is_total;
+use constriction_base::model::EntropyModel;
 use constriction_base::weights::WeightTable;
+use constriction_models::lookup::ContiguousLookupDecoderModel;
 use constriction_words::BitArray;
 use std::alloc::Global;
+
+/// The model of a list of weights: a [`WeightTable`], or a lookup model with a row for each quantile.
+pub type TableOrRows<P, const PRECISION: usize> = WeightsModel<
+    WeightTable<P, PRECISION>,
+    ContiguousLookupDecoderModel<WeightTable<P, PRECISION>, PRECISION>,
+>;
 
 /// One table of weights for all symbols to encode or decode.
 ///
 /// `weights[i]` is the weight of symbol `i`. The weights have to add up to `2 ^ PRECISION`. A symbol of weight 0 is
 /// impossible, and so is a symbol past the end of the list of weights.
+///
+/// To decode at least `2 ^ PRECISION` symbols at a precision of at most 14 bits, `decoder_list` makes a lookup model,
+/// which decodes a symbol in less time than a table of weights. While the list exists, the lookup model takes 6 bytes
+/// per quantile if weights are `u16`, and 10 bytes if they are `u32`, in addition to the table. If the lookup model
+/// can't be made, `decoder_list` returns a table of weights.
 ///
 /// # Examples
 ///
@@ -64,6 +78,56 @@ impl<'a, P: BitArray, const PRECISION: usize> Models<P, PRECISION> for Weights<'
             }),
             None => None,
         }
+    }
+}
+
+impl<'a, P: BitArray, const PRECISION: usize> DecoderModels<P, PRECISION> for Weights<'a, P> {
+    type DecoderList = One<TableOrRows<P, PRECISION>>;
+
+    fn decoder_list(
+        &self,
+        alloc: Global,
+        symbols: &[usize],
+    ) -> Option<One<TableOrRows<P, PRECISION>>> {
+        let count = symbols.len();
+        match decoder_by(alloc, self.weights, count) {
+            Some(model) => Some(One {
+                model,
+                count,
+                place: 0,
+            }),
+            None => None,
+        }
+    }
+}
+
+/// Returns the model of the symbols `0`, `1`, .. with the weights `weights`, for decoding `count` symbols.
+///
+/// The model has rows if `PRECISION` is at most 14, `count` is at least `2 ^ PRECISION`, and the rows can be made. The
+/// rows can't be made if there is no memory for them, or if a symbol above 65535 has a weight above 0. Without rows the
+/// model is a table without reciprocals. The call returns `None` if the weights don't add up to `2 ^ PRECISION`, or if
+/// there is no memory for the table.
+fn decoder_by<P: BitArray, const PRECISION: usize>(
+    alloc: Global,
+    weights: &[P],
+    count: usize,
+) -> Option<TableOrRows<P, PRECISION>>
+    requires { (1 ≤ PRECISION) × (PRECISION ≤ P.BITS) }
+    ensures { IfSome result (λ model. ⟦<TableOrRows<P, PRECISION> as EntropyModel<PRECISION>>⟧.table model
+        ≡ table_of (map P.number weights.now)) }
+{
+    let Some(table) = table_by(alloc, weights, false) else {
+        return None;
+    };
+    if PRECISION > 14 || count < 1usize << PRECISION {
+        return Some(WeightsModel::Table(table));
+    }
+    if let Ok(rows) = ContiguousLookupDecoderModel::new(alloc, table) {
+        return Some(WeightsModel::Rows(rows));
+    }
+    match table_by(alloc, weights, false) {
+        Some(table) => Some(WeightsModel::Table(table)),
+        None => None,
     }
 }
 

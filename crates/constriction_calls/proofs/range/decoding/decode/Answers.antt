@@ -27,7 +27,7 @@ returns-in-Ok-take_list g c =
     let is : IsDecoderKept state w s old = search rules in
     let same : c.copy_from_slice.new.self ≡ again = c.copy_from_slice.ensures.after ∙ c.deref.ensures.value in
     let count : length c.copy_from_slice.new.self ≡ length symbols = ap length same ∙ c.in-Ok-take_list.ensures.count in
-    let are = sym (c.in-Some-list.ensures.items again c.in-Ok-take_list.ensures.count) in
+    let are = sym (c.in-Some-decoder_list.ensures.items again c.in-Ok-take_list.ensures.count) in
     record {
       call = takes_after state w s P coded buffer old symbols within fit is new c.copy_from_slice.new.self
           (λ words run at.
@@ -60,6 +60,6 @@ returns g c =
           (words_moved c.in-Err-take_list.refusal
           (λ none words others run last at all count.
           none words others run last (stands_read state w s buffer words run old c.in-Some.reading at c.in-Some.ensures.read)
-          (finds_same w s words (items P (coded others)) _ run last (c.in-Some-list.ensures.items others count) all) count)
+          (finds_same w s words (items P (coded others)) _ run last (c.in-Some-decoder_list.ensures.items others count) all) count)
           c.in-Err-take_list.ensures.err);
     }
