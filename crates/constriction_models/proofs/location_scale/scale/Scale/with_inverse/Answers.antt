@@ -9,5 +9,5 @@ invariant_of-result g c =
     let scale : ℕ = c.args.scale in
     let width : ℕ = g.D.StandardDistribution.WIDTH in
     let swapped : most / scale / width ≡ most / width / scale =
-      div-div-eq-div-mul most scale width ∙ (ap (λ k. most / k) (mul_comm scale width) ∙ sym (div-div-eq-div-mul most width scale)) in
+    div-div-eq-div-mul most scale width ∙ (ap (λ k. most / k) (mul_comm scale width) ∙ sym (div-div-eq-div-mul most width scale)) in
     record { rated = ap (λ n. n / c.WIDTH.result) c.requires ∙ (ap (λ k. most / scale / k) c.WIDTH.ensures ∙ swapped) }
