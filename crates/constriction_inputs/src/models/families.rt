@@ -98,8 +98,8 @@ impl<'a, P: WordOf<u32>, const PRECISION: usize> DecoderModels<P, PRECISION> for
 
 /// The list of the models of a family, one for each symbol. It holds the model of one symbol only.
 ///
-/// `turn_to` replaces this model by the model of the selected symbol. To create this model, `turn_to` divides by the
-/// symbol's scale. The processor can overlap this division with the coder's own division.
+/// `turn_to` replaces this model by the model of the selected symbol. To create this model, `turn_to` computes the
+/// inverse of the symbol's scale.
 ///
 /// # Examples
 ///
