@@ -40,10 +40,10 @@ pub fn take<Word: WordOf<State>, State: BitArray, C: ReadWords<Word, Stack>, R: 
     requires sized { IsSized Word.BITS State.BITS precision }
     requires head { 0 < Word.number h.old }
     requires window { IsRemaindersHead Word.BITS State.BITS precision (State.number r) }
-    ensures takes { TakesAtHeads Word.number C.Holds C.ReadWords.own R.Holds R.WriteWords.own State.number
+    ensures step { TakesAtHeads Word.number C.Holds C.ReadWords.own R.Holds R.WriteWords.own State.number
         Word.BITS State.BITS precision (h.old, r) compressed.old remainders.old
         result h.new compressed.new remainders.new }
-    ensures head { OnErr result (h.new ≡ h.old) }
+    ensures kept { OnErr result (h.new ≡ h.old) }
 {
     take_quantile(compressed, remainders, h, precision)
 }
@@ -125,10 +125,10 @@ fn give_at<Word: WordOf<State>, State: BitArray, C: WriteWords<Word>, R: ReadWor
     requires some { 0 < Word.number p }
     requires reciprocal { IfSome reciprocal (λ r. IsReciprocalOf r (Word.number p)) }
     requires total { Word.number left + Word.number p ≤ 2 ^ precision }
-    ensures encodes { EncodesAtHeads Word.number C.Holds C.WriteWords.own R.Holds R.ReadWords.own State.number
+    ensures step { EncodesAtHeads Word.number C.Holds C.WriteWords.own R.Holds R.ReadWords.own State.number
         Word.BITS State.BITS precision left p (h.old, r.old) compressed.old remainders.old
         result (h.new, r.new) compressed.new remainders.new }
-    ensures heads { OnErr result ((h.new ≡ h.old) × (r.new ≡ r.old)) }
+    ensures kept { OnErr result ((h.new ≡ h.old) × (r.new ≡ r.old)) }
 {
     let p: State = p.widen();
     if let Err(error) = prepare_for_quantile(compressed, *h, precision) {
@@ -180,10 +180,10 @@ pub fn give<Word: WordOf<State>, State: BitArray, C: WriteWords<Word>, R: ReadWo
     requires some { 0 < Word.number p }
     requires reciprocal { IfSome reciprocal (λ r. IsReciprocalOf r (Word.number p)) }
     requires total { Word.number left + Word.number p ≤ 2 ^ precision }
-    ensures encodes { EncodesAtHeads Word.number C.Holds C.WriteWords.own R.Holds R.ReadWords.own State.number
+    ensures step { EncodesAtHeads Word.number C.Holds C.WriteWords.own R.Holds R.ReadWords.own State.number
         Word.BITS State.BITS precision left p (h.old, r.old) compressed.old remainders.old
         result (h.new, r.new) compressed.new remainders.new }
-    ensures heads { OnErr result ((h.new ≡ h.old) × (r.new ≡ r.old)) }
+    ensures kept { OnErr result ((h.new ≡ h.old) × (r.new ≡ r.old)) }
 {
     match reciprocal {
         Some(reciprocal) => give_at(

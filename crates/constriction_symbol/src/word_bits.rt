@@ -130,7 +130,7 @@ impl<Word: BitArray> WordBits<Word> {
     /// The list's first bit is the highest bit of the word. All bits below the list are unspecified.
     #[inline]
     pub fn turned_top(&mut self) -> Word
-        ensures same { self.new ≡ self.old }
+        ensures kept { self.new ≡ self.old }
         ensures bits { top_bits Word.BITS (length self.old) (Word.number result) ≡ self.old }
         ensures within { length self.old ≤ Word.BITS }
     {

@@ -20,8 +20,8 @@ give_quantile-requires-clause-below g c =
     let place = placed _ g.Word.BitArray.BITS _ _ (g.State.BitArray.number c.in-Ok-Some.v) c.requires.sized.within_word c.requires.some c.requires.total in
     rw (c.plus-quantile.ensures, c.narrow.ensures, c.divided-quotient.ensures.rest, c.widen-p.ensures, place.0) place.1
 
-pub returns-in-Err-clause-encodes : goal.returns-in-Err-clause-encodes
-returns-in-Err-clause-encodes g c =
+pub returns-in-Err-clause-step : goal.returns-in-Err-clause-step
+returns-in-Err-clause-step g c =
     let number = g.Word.BitArray.number in
     let law = g.met.Word.BitArray.number_law in
     let parts = c.requires in
@@ -43,8 +43,8 @@ returns-in-Err-clause-encodes g c =
       ok = tt;
     }
 
-pub returns-in-Ok-None-clause-encodes : goal.returns-in-Ok-None-clause-encodes
-returns-in-Ok-None-clause-encodes g c =
+pub returns-in-Ok-None-clause-step : goal.returns-in-Ok-None-clause-step
+returns-in-Ok-None-clause-step g c =
     let number = g.Word.BitArray.number in
     let law = g.met.Word.BitArray.number_law in
     let parts = c.requires in
@@ -71,8 +71,8 @@ returns-in-Ok-None-clause-encodes g c =
       ok = tt;
     }
 
-pub returns-in-Err-regain-clause-encodes : goal.returns-in-Err-regain-clause-encodes
-returns-in-Err-regain-clause-encodes g c =
+pub returns-in-Err-regain-clause-step : goal.returns-in-Err-regain-clause-step
+returns-in-Err-regain-clause-step g c =
     let number = g.Word.BitArray.number in
     let law = g.met.Word.BitArray.number_law in
     let parts = c.requires in
@@ -99,8 +99,8 @@ returns-in-Err-regain-clause-encodes g c =
       ok = tt;
     }
 
-pub returns-in-Ok-clause-encodes : goal.returns-in-Ok-clause-encodes
-returns-in-Ok-clause-encodes g c =
+pub returns-in-Ok-clause-step : goal.returns-in-Ok-clause-step
+returns-in-Ok-clause-step g c =
     let number = g.Word.BitArray.number in
     let law = g.met.Word.BitArray.number_law in
     let parts = c.requires in
@@ -133,8 +133,8 @@ returns-in-Ok-clause-encodes g c =
       err = tt;
     }
 
-pub returns-in-Err-give_quantile-clause-encodes : goal.returns-in-Err-give_quantile-clause-encodes
-returns-in-Err-give_quantile-clause-encodes g c =
+pub returns-in-Err-give_quantile-clause-step : goal.returns-in-Err-give_quantile-clause-step
+returns-in-Err-give_quantile-clause-step g c =
     let number = g.Word.BitArray.number in
     let law = g.met.Word.BitArray.number_law in
     let parts = c.requires in

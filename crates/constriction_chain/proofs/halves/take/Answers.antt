@@ -2,8 +2,8 @@ use Rattle.constriction_chain.proofs.Chains.{coder_of}
 use Rattle.constriction_chain.proofs.Outcomes.{halted_of, told_err, told_ok, took_of}
 use Rattle.constriction_chain.proofs.halves.take.Goals as goal
 
-pub returns-clause-takes : goal.returns-clause-takes
-returns-clause-takes g c =
+pub returns-clause-step : goal.returns-clause-step
+returns-clause-step g c =
     let number = g.Word.BitArray.number in
     let law = g.met.Word.BitArray.number_law in
     let parts = c.requires in

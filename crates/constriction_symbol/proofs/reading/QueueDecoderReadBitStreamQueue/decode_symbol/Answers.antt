@@ -9,7 +9,7 @@ returns-in-Some g c =
     let n = g.Word.BitArray.number c.turned_top-bits.result in
     let begun = c.in-Some.ensures in
     let last = c.self.inside.last in
-    let same = c.turned_top-bits.ensures.same in
+    let same = c.turned_top-bits.ensures.kept in
     let code = reverse (bits_of c.in-Some.count (n / 2 ^ (g.Word.BitArray.BITS - c.in-Some.count))) in (
       code,
       begun.is,

@@ -14,12 +14,12 @@ give-requires-clause-total g c =
 
 pub returns-in-Ok-clause-step : goal.returns-in-Ok-clause-step
 returns-in-Ok-clause-step g c =
-    let call = rw (c.widen-left.ensures, c.widen-p.ensures, c.from_nonzero.ensures, c.numbers-h.ensures.parts) at c.in-Ok.ensures.encodes.ok in
+    let call = rw (c.widen-left.ensures, c.widen-p.ensures, c.from_nonzero.ensures, c.numbers-h.ensures.parts) at c.in-Ok.ensures.step.ok in
     rw (← c.self.view_is, c.replace.ensures) (inl (_, _, c.in-Some.ensures.found, call))
 
 pub returns-clause-step : goal.returns-clause-step
 returns-clause-step g c =
-    let call = rw (c.widen-left.ensures, c.widen-p.ensures, c.from_nonzero.ensures, c.numbers-h.ensures.parts) at c.in-Err.ensures.encodes.err in
+    let call = rw (c.widen-left.ensures, c.widen-p.ensures, c.from_nonzero.ensures, c.numbers-h.ensures.parts) at c.in-Err.ensures.step.err in
     rw (← c.self.view_is) (inl (_, _, c.in-Some.ensures.found, call))
 
 pub give-requires-clause-reciprocal : goal.give-requires-clause-reciprocal
