@@ -213,7 +213,8 @@ impl<Word: BitArray> TopBits<Word> {
         ensures { self.new ≡ take (length self.old - count) self.old }
     {
         self.word = self.word.low_bits(Word::BITS - count).shifted_left(count);
-        self.room += count as usize;
+        // As a `usize`, `count` would have to be widened first, by one more instruction for each codeword read.
+        self.room = (self.room as u32 + count) as usize;
     }
 }
 

@@ -1,4 +1,4 @@
-use Rattle.std.proofs.Common.{◌-◌, ◌/◌, ◌^◌}
+use Rattle.std.proofs.Common.{◌-◌, ◌/◌, ◌^◌, arith}
 use Rattle.constriction_symbol.proofs.Coding.{length_bits}
 use Rattle.constriction_symbol.proofs.TopLemmas.{some_less, left_room, taken_fits}
 use Rattle.constriction_symbol.proofs.top_bits.TopBits.drop_last.Goals as goal
@@ -16,6 +16,11 @@ pub shifted_left-self-inside-requires-clause-fits : goal.shifted_left-self-insid
 shifted_left-self-inside-requires-clause-fits g c =
     let all = taken_fits g.Word.BitArray.BITS c.self.inside.room c.args.count c.self.invariant (rw (← c.self.view_is, length_bits) at c.requires.within) in
     left_room g.Word.BitArray.BITS c.args.count (g.Word.BitArray.number c.self.inside.word) (g.Word.BitArray.number c.low_bits.result) all.1 (rw c.BITS.ensures at c.low_bits.ensures)
+
+pub overflow_add-self : goal.overflow_add-self
+overflow_add-self g c =
+    let all = taken_fits g.Word.BitArray.BITS c.self.inside.room c.args.count c.self.invariant (rw (← c.self.view_is, length_bits) at c.requires.within) in
+    omega (arith, all.0, g.met.Word.BitArray.bits_law.1)
 
 pub invariant_of-self : goal.invariant_of-self
 invariant_of-self g c =
