@@ -54,7 +54,7 @@ fn give_words(coder: DefaultChainCoder, out: &mut [u32]) -> usize {
 fn decode_out<M: DecoderModel<24, Symbol = usize>>(
     found: Option<DefaultChainCoder>,
     symbols: &mut [usize],
-    model: &M,
+    model: M,
     out: &mut [u32],
 ) -> usize
 where
@@ -63,7 +63,7 @@ where
     let Some(mut coder) = found else {
         return 0;
     };
-    if decode_each(&mut coder, symbols, model) {
+    if decode_each(&mut coder, symbols, &model) {
         give_remainders(coder, out)
     } else {
         0
@@ -109,7 +109,7 @@ pub extern "C" fn constriction_bench_chain_decode_u32u64p24_table(
     let Ok(table) = WeightTable::<u32, 24>::new(alloc, weights) else {
         return 0;
     };
-    decode_out(coder_of(alloc, words), symbols, &table, out)
+    decode_out(coder_of(alloc, words), symbols, table, out)
 }
 
 /// Encodes symbols from the last to the first, with the table of `weights`.
@@ -146,7 +146,7 @@ pub extern "C" fn constriction_bench_chain_decode_u32u64p24_flat(
     let Some(flat) = Flat::<u32, 24>::new(bits) else {
         return 0;
     };
-    decode_out(coder_of(alloc, words), symbols, &flat, out)
+    decode_out(coder_of(alloc, words), symbols, flat, out)
 }
 
 /// Encodes symbols below `2^bits` from the last to the first, with equal weights.
@@ -183,5 +183,5 @@ pub extern "C" fn constriction_bench_chain_decode_u32u64p24_bucket(
     let Some(table) = BucketTable::new(alloc, weights) else {
         return 0;
     };
-    decode_out(coder_of(alloc, words), symbols, &table, out)
+    decode_out(coder_of(alloc, words), symbols, table, out)
 }

@@ -55,7 +55,7 @@ fn give_words(coder: SmallChainCoder, out: &mut [u16]) -> usize {
 fn decode_out<M: DecoderModel<12, Symbol = usize>>(
     found: Option<SmallChainCoder>,
     symbols: &mut [usize],
-    model: &M,
+    model: M,
     out: &mut [u16],
 ) -> usize
 where
@@ -64,7 +64,7 @@ where
     let Some(mut coder) = found else {
         return 0;
     };
-    if decode_each(&mut coder, symbols, model) {
+    if decode_each(&mut coder, symbols, &model) {
         give_remainders(coder, out)
     } else {
         0
@@ -110,7 +110,7 @@ pub extern "C" fn constriction_bench_chain_decode_u16u32p12_table(
     let Ok(table) = WeightTable::<u16, 12>::new(alloc, weights) else {
         return 0;
     };
-    decode_out(coder_of(alloc, words), symbols, &table, out)
+    decode_out(coder_of(alloc, words), symbols, table, out)
 }
 
 /// Encodes symbols from the last to the first, with the table of `weights`.
@@ -147,7 +147,7 @@ pub extern "C" fn constriction_bench_chain_decode_u16u32p12_flat(
     let Some(flat) = Flat::<u16, 12>::new(bits) else {
         return 0;
     };
-    decode_out(coder_of(alloc, words), symbols, &flat, out)
+    decode_out(coder_of(alloc, words), symbols, flat, out)
 }
 
 /// Encodes symbols below `2^bits` from the last to the first, with equal weights.
@@ -184,5 +184,5 @@ pub extern "C" fn constriction_bench_chain_decode_u16u32p12_lookup(
     let Some(table) = LookupTable::new(alloc, weights) else {
         return 0;
     };
-    decode_out(coder_of(alloc, words), symbols, &table, out)
+    decode_out(coder_of(alloc, words), symbols, table, out)
 }
