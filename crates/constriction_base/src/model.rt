@@ -70,6 +70,7 @@ pub trait EncoderModel<const PRECISION: usize>: EntropyModel<PRECISION> {
     /// Returns `None` for an impossible symbol. With a reciprocal, an encoder can multiply instead of dividing by the
     /// length. A model that stores no reciprocals keeps the default method, which returns `None` in place of the
     /// reciprocal.
+    #[inline(always)]
     fn left_cumulative_and_reciprocal(
         &self,
         symbol: &Self::Symbol,
@@ -139,6 +140,7 @@ impl<const PRECISION: usize, M: EntropyModel<PRECISION>> EntropyModel<PRECISION>
 }
 
 impl<const PRECISION: usize, M: EncoderModel<PRECISION>> EncoderModel<PRECISION> for &M {
+    #[inline(always)]
     fn left_cumulative_and_probability(
         &self,
         symbol: &M::Symbol,
@@ -146,6 +148,7 @@ impl<const PRECISION: usize, M: EncoderModel<PRECISION>> EncoderModel<PRECISION>
         (**self).left_cumulative_and_probability(symbol)
     }
 
+    #[inline(always)]
     fn left_cumulative_and_reciprocal(
         &self,
         symbol: &M::Symbol,
@@ -161,6 +164,7 @@ impl<const PRECISION: usize, M: EncoderModel<PRECISION>> EncoderModel<PRECISION>
 }
 
 impl<const PRECISION: usize, M: DecoderModel<PRECISION>> DecoderModel<PRECISION> for &M {
+    #[inline(always)]
     fn quantile_function(
         &self,
         quantile: M::Probability,

@@ -130,21 +130,23 @@ impl<
     /// Returns the probability below the edge between symbols `k - 1` and `k`, in units of `2^-32`.
     ///
     /// Symbol 0 is the first symbol of the range. The result is 0 if `k` is 0, and `2^32` if `k` is the number of
-    /// symbols.
+    /// symbols. The call asks the distribution in these cases too, so that the compiler can choose among the three
+    /// results without a branch, which a processor would often mispredict.
     #[inline(always)]
     fn below(&self, k: u64) -> u64
         requires { k ≤ self.now.quantizer.count }
         ensures { result ≡ below_edge (D.below self.now.distribution) self.now.quantizer.min
             self.now.quantizer.count k }
     {
+        let place = (self.quantizer.min as i64 + k as i64) * 65536 - 32768;
+        let below = self.distribution.cumulative(place);
         if k == 0 {
-            return 0;
+            0
+        } else if k >= self.quantizer.count {
+            4294967296
+        } else {
+            below
         }
-        if k >= self.quantizer.count {
-            return 4294967296;
-        }
-        self.distribution
-            .cumulative((self.quantizer.min as i64 + k as i64) * 65536 - 32768)
     }
 
     /// Returns `2 ^ PRECISION` minus the number of symbols.

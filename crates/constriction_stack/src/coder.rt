@@ -14,12 +14,12 @@ pub mod words;
 
 ghost use Rattle.constriction_base.specs.Steps.{IsSizes};
 ghost use Rattle.constriction_stack.specs.Ans.{AnsValue, IsCoder, empty, state_of, value_of};
-ghost use Rattle.std.specs.Prelude.{IsTrue, [], ◌↔◌, ◌≡◌};
+ghost use Rattle.std.specs.Prelude.{IsTrue, [], ◌↔◌, ◌≡◌, ◌%◌, ◌^◌};
 
 use constriction_base::backends::{Holds, Stack, WriteWords};
 use constriction_words::{BitArray, WordOf};
 use std::alloc::{AllocError, Allocator, Global};
-use std::marker::{Model, PhantomData};
+use std::marker::Model;
 
 /// A stack of symbols: a head (the state `x` of rANS) of type `State` above a backend of words of type `Word`.
 ///
@@ -40,7 +40,10 @@ use std::marker::{Model, PhantomData};
 pub struct AnsCoder<Word: WordOf<State>, State: BitArray, Backend: Holds<Word, Stack> = Vec<Word>> {
     bulk: Backend,
     state: State,
-    word: PhantomData<Word>,
+    /// The low word of `state`. A decode takes its quantile from here. A refill sets `low` to the word that it reads,
+    /// so the lookup of the next decode doesn't have to wait for the new head.
+    low: Word,
+    ghost low_word: { Word.number low ≡ State.number state % 2 ^ Word.BITS },
 }
 
 /// A coder with 32-bit words and a 64-bit head, for precisions up to 32 bits.
@@ -78,7 +81,7 @@ impl<Word: WordOf<State>, State: BitArray> AnsCoder<Word, State, Vec<Word>> {
         AnsCoder {
             bulk: Vec::new(alloc),
             state: State::nothing(),
-            word: PhantomData,
+            low: Word::nothing(),
         }
     }
 }
@@ -91,6 +94,7 @@ impl<Word: WordOf<State>, State: BitArray, A: Allocator> AnsCoder<Word, State, V
     {
         self.bulk.clear();
         self.state = State::nothing();
+        self.low = Word::nothing();
     }
 }
 
@@ -139,7 +143,7 @@ impl<Word: WordOf<State>, State: BitArray, Backend: Holds<Word, Stack>> AnsCoder
         AnsCoder {
             bulk,
             state,
-            word: PhantomData,
+            low: Word::narrow(state),
         }
     }
 
@@ -153,7 +157,7 @@ impl<Word: WordOf<State>, State: BitArray, Backend: Holds<Word, Stack>> AnsCoder
         let AnsCoder {
             bulk,
             state: head,
-            word: _,
+            low: _,
         } = self;
         (bulk, head)
     }
@@ -212,7 +216,7 @@ impl<Word: WordOf<State>, State: BitArray, Backend: Holds<Word, Stack> + Clone> 
         Ok(AnsCoder {
             bulk,
             state: self.state,
-            word: PhantomData,
+            low: self.low,
         })
     }
 }

@@ -2,7 +2,7 @@
 //!
 //! A decode calls [`popped_head`] and then [`refilled`]. An encode calls [`pushed_onto`].
 
-ghost use Rattle.std.specs.Prelude.{◌≡◌, ◌+◌, ◌-◌, ◌*◌, ◌/◌, ◌%◌, ◌^◌, ◌<◌, ◌≤◌, IfSome};
+ghost use Rattle.std.specs.Prelude.{◌≡◌, ◌+◌, ◌-◌, ◌*◌, ◌/◌, ◌%◌, ◌^◌, ◌<◌, ◌≤◌, IfOk, IfSome};
 ghost use Rattle.constriction_base.specs.Steps.{IsStep, IsSizes};
 ghost use Rattle.constriction_words.specs.Reciprocals.{IsReciprocalOf};
 ghost use Rattle.constriction_stack.specs.Ans.{PushesOnto, RefillsByReads, RefillsList};
@@ -12,45 +12,55 @@ use constriction_words::{BitArray, Reciprocal, WordOf};
 
 /// Returns the head after decoding the symbol of the interval `[left, left + p)`, before renormalization.
 ///
-/// The caller proves that the quantile, which is the low `precision` bits of `head`, is at least `left`. The caller
+/// The caller proves that `quantile` is the low `precision` bits of `head`, and that it is at least `left`. The caller
 /// also proves that `precision` is below `State::BITS`, and that `left + p` is at most `2^precision`.
 #[inline]
-pub fn popped_head<State: BitArray>(head: State, left: State, p: State, precision: u32) -> State
+pub fn popped_head<State: BitArray>(
+    head: State,
+    quantile: State,
+    left: State,
+    p: State,
+    precision: u32,
+) -> State
     requires within { precision < State.BITS }
-    requires above { State.number left ≤ State.number head % 2 ^ precision }
+    requires quantile { State.number quantile ≡ State.number head % 2 ^ precision }
+    requires above { State.number left ≤ State.number quantile }
     requires total { State.number left + State.number p ≤ 2 ^ precision }
     ensures { State.number result
         ≡ State.number head / 2 ^ precision * State.number p
         + (State.number head % 2 ^ precision - State.number left) }
 {
-    let offset = head.low_bits(precision).minus(left);
-    head.shifted_right(precision).times(p).plus(offset)
+    head.shifted_right(precision)
+        .times(p)
+        .plus(quantile)
+        .minus(left)
 }
 
 /// Moves the next word of `bulk` into `head` if `head` is below `2^(State::BITS - Word::BITS)`.
 ///
-/// Returns the new head. If no word is left, the head is unchanged. If the read fails, the call returns the error of
-/// the read.
+/// Returns the new head and its low word, which is the word that moved in, if there is one. If no word is left, the
+/// head is unchanged. If the read fails, the call returns the error of the read.
 #[inline]
 pub fn refilled<Word: WordOf<State>, State: BitArray, Backend: ReadWords<Word, Stack>>(
     bulk: &mut Backend,
     head: State,
-) -> Result<State, Backend::ReadError>
+) -> Result<(State, Word), Backend::ReadError>
     requires { IsSizes Word.BITS State.BITS }
     ensures list { RefillsList Word.number State.number Backend.Holds Word.BITS State.BITS
-        head bulk.old result bulk.new }
+        (State.number head) bulk.old result bulk.new }
     ensures reads { RefillsByReads Word.number State.number Backend.reads Word.BITS State.BITS
-        head bulk.old result bulk.new }
+        (State.number head) bulk.old result bulk.new }
+    ensures low { IfOk result (λ made. Word.number made.1 ≡ State.number made.0 % 2 ^ Word.BITS) }
 {
     if !head.shifted_right(State::BITS - Word::BITS).is_nothing() {
-        return Ok(head);
+        return Ok((head, Word::narrow(head)));
     }
     let word = match bulk.read() {
         Err(error) => return Err(error),
-        Ok(None) => return Ok(head),
+        Ok(None) => return Ok((head, Word::narrow(head))),
         Ok(Some(word)) => word,
     };
-    Ok(head.shifted_left(Word::BITS).plus(word.widen()))
+    Ok((head.shifted_left(Word::BITS).plus(word.widen()), word))
 }
 
 /// Encodes the symbol of the interval `[left, left + p)` onto `head`, and returns the new head.

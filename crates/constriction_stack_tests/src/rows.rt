@@ -1,6 +1,8 @@
 //! Tests of worked examples: scripts that check exact heads and words, which are computed by hand.
 
-use crate::coders::{small, small_over, wide};
+use crate::coders::{Small, small, small_over, wide};
+use constriction_stream::coder::Code;
+use std::num::NonZero;
 use std::test::Fail;
 
 /// The weights of the table for coders of 32-bit words.
@@ -19,6 +21,19 @@ fn ans_word_moves_out(rt: HostRuntime) -> Result<(), Fail> {
          import 255 255 255
          take 1 1 1 empty",
     )
+}
+
+/// Checks that the interval of symbol 1, encoded without a model, leads to the heads of `ans_word_moves_out`.
+#[test]
+fn ans_word_moves_out_by_intervals(rt: HostRuntime) -> Result<(), Fail> {
+    let one = NonZero::<u8>::new(1).expect(&rt, "1 is above 0");
+    let mut coder = Small::new(rt.alloc());
+    for head in [255u16, 65535, 65535] {
+        coder.encode_interval::<u8, 8>(255, one, None)?;
+        assert!(rt; coder.state() == head);
+    }
+    assert!(rt; coder.bulk().as_slice() == [255u8].as_slice());
+    Ok(())
 }
 
 #[test]

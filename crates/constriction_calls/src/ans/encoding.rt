@@ -17,7 +17,6 @@ use constriction_inputs::models::{ModelList, Models, Rows, Weights};
 use constriction_inputs::refusal::Refusal;
 use constriction_inputs::rows::Row;
 use constriction_stack::coder::AnsCoder;
-use constriction_stream::encoding::Encode;
 use constriction_words::{BitArray, WordOf};
 use std::alloc::Global;
 
@@ -231,6 +230,9 @@ fn coded_list<
 }
 
 /// Encodes as [`coded`] does. The compiler may inline this function into its caller.
+///
+/// The call finds the interval of a symbol before it takes the step of the symbol after it. So the processor can look
+/// up one symbol while it divides by the weight of another.
 #[inline]
 fn coded_in_line<
     Word: WordOf<State>,
@@ -252,14 +254,30 @@ fn coded_in_line<
         Vec::new(alloc),
         head,
     );
-    let mut left = symbols.len();
-    'symbols: while left > 0 {
-        models.turn_to(left - 1);
-        match coder.encode_symbol(&symbols[left - 1], models.model()) {
+    if symbols.is_empty() {
+        return Some(coder.into_raw_parts());
+    }
+    let mut place = symbols.len() - 1;
+    models.turn_to(place);
+    let mut found = models
+        .model()
+        .left_cumulative_and_reciprocal(&symbols[place])?;
+    'symbols: while place > 0 {
+        models.turn_to(place - 1);
+        let next = models
+            .model()
+            .left_cumulative_and_reciprocal(&symbols[place - 1])?;
+        let (left, p, reciprocal) = found;
+        match coder.encode_interval::<P, PRECISION>(left, p, reciprocal) {
             Ok(()) => {}
             Err(_) => return None,
         }
-        left -= 1;
+        found = next;
+        place -= 1;
     }
-    Some(coder.into_raw_parts())
+    let (left, p, reciprocal) = found;
+    match coder.encode_interval::<P, PRECISION>(left, p, reciprocal) {
+        Ok(()) => Some(coder.into_raw_parts()),
+        Err(_) => None,
+    }
 }

@@ -440,6 +440,7 @@ impl<Word: WordOf<State>, State: BitArray, Backend: Holds<Word, Stack> + Seek> S
         let (place, state) = position;
         self.bulk.seek(place)?;
         self.state = state;
+        self.low = Word::narrow(state);
         Ok(())
     }
 }

@@ -6,8 +6,10 @@ ghost use Rattle.constriction_base.specs.declared.errors.DefaultEncoderFrontendE
 ghost use Rattle.constriction_stack.specs.Ans.{DecodeCall, EncodeCall, IsCoder};
 ghost use Rattle.constriction_stream.specs.Symbols.{ByBackend, EncodesSymbol, GoesOn, HasRoom, IsBackendError};
 ghost use Rattle.constriction_stream.specs.Symbols.{never_frontend};
+ghost use Rattle.constriction_base.specs.Steps.{IsStep};
+ghost use Rattle.constriction_words.specs.Reciprocals.{IsReciprocalOf};
 ghost use Rattle.std.specs.Bool.{OnFalse};
-ghost use Rattle.std.specs.Prelude.{IsTrue, ⊤, ◌+◌, ◌↔◌, ◌≡◌, ◌≤◌};
+ghost use Rattle.std.specs.Prelude.{IfSome, IsTrue, ⊤, ◌+◌, ◌↔◌, ◌≡◌, ◌≤◌};
 
 use crate::coder::AnsCoder;
 use crate::steps::{popped_head, pushed_onto, refilled};
@@ -17,7 +19,7 @@ use constriction_base::model::{DecoderModel, EncoderModel, EntropyModel};
 use constriction_stream::coder::Code;
 use constriction_stream::decoding::Decode;
 use constriction_stream::encoding::{Encode, EncodeReverse};
-use constriction_words::{BitArray, WordOf};
+use constriction_words::{BitArray, Reciprocal, WordOf};
 use std::convert::Infallible;
 
 impl<Word: WordOf<State>, State: BitArray, Backend: Holds<Word, Stack>> Code
@@ -33,6 +35,65 @@ impl<Word: WordOf<State>, State: BitArray, Backend: Holds<Word, Stack>> Code
     #[inline]
     fn state(&self) -> State {
         self.state
+    }
+}
+
+impl<Word: WordOf<State>, State: BitArray, Backend: WriteWords<Word>> AnsCoder<
+    Word,
+    State,
+    Backend,
+> {
+    /// Encodes the symbol whose interval begins at quantile `left` and has the length `p`.
+    ///
+    /// `encode_symbol` asks a model for these numbers. A caller who already has them doesn't need a model. If the
+    /// caller also has the reciprocal of `p`, the coder multiplies instead of dividing by `p`.
+    ///
+    /// The caller proves that `PRECISION` is at least 1 and at most the number of bits of a word. The caller also
+    /// proves that the interval ends at or below `2^PRECISION`, and that `reciprocal`, if there is one, is the
+    /// reciprocal of `p`.
+    ///
+    /// # Errors
+    ///
+    /// Returns an error only if the coder has to write a word, and the backend refuses room for this word or refuses
+    /// the write. The head and the words are unchanged.
+    ///
+    /// # Examples
+    ///
+    /// ```
+    /// // The same step as that of symbol 1 under a model with the weights 255 and 1.
+    /// if let Some(p) = NonZero::<u8>::new(1) {
+    ///     coder.encode_interval::<u8, 8>(255, p, None)?;
+    /// }
+    /// ```
+    #[inline(always)]
+    pub fn encode_interval<P: WordOf<Word>, const PRECISION: usize>(
+        &mut self,
+        left: P,
+        p: P::NonZero,
+        reciprocal: Option<Reciprocal>,
+    ) -> Result<(), Backend::WriteError>
+        requires step { IsStep Word.BITS
+            record { precision = PRECISION; left = P.number left; p = P.nonzero_number p } }
+        requires reciprocal { IfSome reciprocal (λ r. IsReciprocalOf r (P.nonzero_number p)) }
+        ensures { EncodeCall Word.number Backend.Holds Backend.WriteWords.own Word.BITS State.BITS self.old
+            record { precision = PRECISION; left = P.number left; p = P.nonzero_number p } result self.new }
+    {
+        let p = P::from_nonzero(p);
+        match pushed_onto(
+            &mut self.bulk,
+            self.state,
+            left.widen().widen(),
+            p.widen().widen(),
+            reciprocal,
+            PRECISION as u32,
+        ) {
+            Ok(pushed) => {
+                self.state = pushed;
+                self.low = Word::narrow(pushed);
+                Ok(())
+            }
+            Err(refusal) => Err(refusal),
+        }
     }
 }
 
@@ -79,7 +140,7 @@ impl<
     ///   unchanged.
     /// - `Backend(error)`: returned only if the coder has to write a word, and the backend refuses room for this word
     ///   or refuses the write. The head and the words are unchanged.
-    #[inline]
+    #[inline(always)]
     fn encode_symbol<M>(
         &mut self,
         symbol: &M::Symbol,
@@ -97,20 +158,8 @@ impl<
         let Some((left, p, reciprocal)) = model.left_cumulative_and_reciprocal(symbol) else {
             return Err(CoderError::Frontend(DefaultEncoderFrontendError::ImpossibleSymbol));
         };
-        let p = M::Probability::from_nonzero(p);
-        let (left, p) = (left.widen().widen(), p.widen().widen());
-        match pushed_onto(
-            &mut self.bulk,
-            self.state,
-            left,
-            p,
-            reciprocal,
-            PRECISION as u32,
-        ) {
-            Ok(pushed) => {
-                self.state = pushed;
-                Ok(())
-            }
+        match self.encode_interval::<M::Probability, PRECISION>(left, p, reciprocal) {
+            Ok(()) => Ok(()),
             Err(refusal) => Err(CoderError::Backend(refusal)),
         }
     }
@@ -157,7 +206,7 @@ impl<
     /// Returns `Backend(error)` only if the coder has to read a word and the read returns `error`. The head is
     /// unchanged. If the backend behaves as a fixed list of words (`Holds::is_list`), as vectors and cursors do, the
     /// words are unchanged too.
-    #[inline]
+    #[inline(always)]
     fn decode_symbol<M>(
         &mut self,
         model: M,
@@ -167,18 +216,22 @@ impl<
         M::Probability: WordOf<Word>,
     {
         let precision = PRECISION as u32;
-        let quantile = M::Probability::narrow(Word::narrow(self.state.low_bits(precision)));
-        let (symbol, left, p) = model.quantile_function(quantile);
+        let quantile = self.low.widen().low_bits(precision);
+        let (symbol, left, p) = model.quantile_function(M::Probability::narrow(Word::narrow(
+            quantile,
+        )));
         let p = M::Probability::from_nonzero(p);
         let head = popped_head(
             self.state,
+            quantile,
             left.widen().widen(),
             p.widen().widen(),
             precision,
         );
         match refilled(&mut self.bulk, head) {
-            Ok(head) => {
+            Ok((head, low)) => {
                 self.state = head;
+                self.low = low;
                 Ok(symbol)
             }
             Err(error) => Err(CoderError::Backend(error)),

@@ -21,7 +21,7 @@ use constriction_base::backends::{BoundedReadWords, Holds, ReadWords, Stack, Wor
 use constriction_base::head_words::{append_words, count_of_words, fill, words_below_one};
 use constriction_words::{BitArray, WordOf};
 use std::fmt;
-use std::marker::{Model, PhantomData};
+use std::marker::Model;
 use thiserror::Error;
 
 /// The error for compressed words that end with a zero word.
@@ -78,7 +78,7 @@ impl<Word: WordOf<State>, State: BitArray, Backend: ReadWords<Word, Stack>> AnsC
                 return Ok(AnsCoder {
                     bulk,
                     state: State::nothing(),
-                    word: PhantomData,
+                    low: Word::nothing(),
                 });
             }
             Ok(Some(word)) => word,
@@ -93,7 +93,7 @@ impl<Word: WordOf<State>, State: BitArray, Backend: ReadWords<Word, Stack>> AnsC
         Ok(AnsCoder {
             bulk,
             state: head,
-            word: PhantomData,
+            low: Word::narrow(head),
         })
     }
 }
@@ -124,7 +124,7 @@ impl<Word: WordOf<State>, State: BitArray, Backend: WriteWords<Word>> AnsCoder<
         let AnsCoder {
             mut bulk,
             state: head,
-            word: _,
+            low: _,
         } = self;
         let count = count_of_words::<Word, State>(head);
         match append_words(&mut bulk, head, count) {
@@ -178,7 +178,7 @@ impl<Word: WordOf<State>, State: BitArray, Backend: ReadWords<Word, Stack>> AnsC
         Ok(AnsCoder {
             bulk,
             state: head,
-            word: PhantomData,
+            low: Word::narrow(head),
         })
     }
 }
@@ -214,7 +214,7 @@ impl<Word: WordOf<State>, State: BitArray, Backend: WriteWords<Word>> AnsCoder<
         let AnsCoder {
             mut bulk,
             state: head,
-            word: _,
+            low: _,
         } = self;
         let Some(below) = words_below_one::<Word, State>(head) else {
             return Err(None);
