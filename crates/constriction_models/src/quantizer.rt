@@ -11,7 +11,7 @@ use crate::distribution::CumulativeDistribution;
 use crate::errors::SupportError;
 use crate::intervals::interval;
 use constriction_base::model::{DecoderModel, EncoderModel, EntropyModel};
-use constriction_words::{BitArray, WordOf};
+use constriction_words::{BitArray, Reciprocal, WordOf};
 pub use indexed::IndexedDistribution;
 use std::marker::PhantomData;
 
@@ -250,6 +250,22 @@ impl<D: CumulativeDistribution, Probability: WordOf<u32>, const PRECISION: usize
                 Some(interval(left, end))
             }
         }
+    }
+
+    // The compiler doesn't inline the trait's own method, although an encode calls this one for each symbol.
+    #[inline(always)]
+    fn left_cumulative_and_reciprocal(
+        &self,
+        symbol: &i32,
+    ) -> Option<
+        (
+            Probability,
+            <Probability as BitArray>::NonZero,
+            Option<Reciprocal>,
+        ),
+    > {
+        let (left, p) = self.left_cumulative_and_probability(symbol)?;
+        Some((left, p, None))
     }
 }
 

@@ -119,21 +119,21 @@ RefillsBy {W} {E} {B} number reads w s head old new_head new =
     ⊎ ((head < 2 ^ (s - w)) × (new_head ≡ head) × reads old (Ok None) new)
     ⊎ ((head < 2 ^ (s - w)) × ((word : W) × (new_head ≡ head * 2 ^ w + number word) × reads old (Ok (Some word)) new))
 
--- Suppose that `is_list` holds for the backend. A successful refill, which returns the new head and its low word, leads
--- to the `refilled` state of the old head and words. A failed refill leaves the words unchanged.
-abbrev pub RefillsList : {W V E B S : Type 0} → (W → ℕ) → (V → ℕ) → holding.Ghosts B W S → ℕ → ℕ → ℕ → B → Result (V × W) E → B → Type 0
+-- Suppose that `is_list` holds for the backend. A successful refill leads to the `refilled` state of the old head and
+-- words, and a failed refill leaves the words unchanged.
+abbrev pub RefillsList : {W V E B S : Type 0} → (W → ℕ) → (V → ℕ) → holding.Ghosts B W S → ℕ → ℕ → V → B → Result V E → B → Type 0
 RefillsList number head_number holds w s head old result new =
     holds.is_list → MatchResult result
-    (λ made. refilled w s head (map number (holds.words old)) ≡ state_of number holds (head_number made.0) new)
+    (λ new_head. refilled w s (head_number head) (map number (holds.words old)) ≡ state_of number holds (head_number new_head) new)
     (λ _. holds.words new ≡ holds.words old)
 
 -- A successful call refills the head by at most one read (`RefillsBy`). An error is the error of this read, and comes
 -- only if the head is below `2 ^ (s - w)`.
-abbrev pub RefillsByReads : {W V E B : Type 0} → (W → ℕ) → (V → ℕ) → (B → Result (Option W) E → B → Type 0) → ℕ → ℕ → ℕ → B → Result (V × W) E → B → Type 0
+abbrev pub RefillsByReads : {W V E B : Type 0} → (W → ℕ) → (V → ℕ) → (B → Result (Option W) E → B → Type 0) → ℕ → ℕ → V → B → Result V E → B → Type 0
 RefillsByReads number head_number reads w s head old result new =
     MatchResult result
-    (λ made. RefillsBy number reads w s head old (head_number made.0) new)
-    (λ e. (head < 2 ^ (s - w)) × reads old (Err e) new)
+    (λ new_head. RefillsBy number reads w s (head_number head) old (head_number new_head) new)
+    (λ e. (head_number head < 2 ^ (s - w)) × reads old (Err e) new)
 
 -- ---- the possible results of a coder's calls, over any backend
 

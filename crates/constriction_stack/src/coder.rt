@@ -38,11 +38,12 @@ use std::marker::Model;
 /// ```
 #[derive(Drop)]
 pub struct AnsCoder<Word: WordOf<State>, State: BitArray, Backend: Holds<Word, Stack> = Vec<Word>> {
+    /// The low word of `state`. A decode takes its quantile from here. A refill sets `low` to the word that it reads,
+    /// so the lookup of the next decode doesn't have to wait for the new head. The field isn't beside `state`: LLVM
+    /// would keep two small neighbours in one register, and each step would take them apart.
+    low: Word,
     bulk: Backend,
     state: State,
-    /// The low word of `state`. A decode takes its quantile from here. A refill sets `low` to the word that it reads,
-    /// so the lookup of the next decode doesn't have to wait for the new head.
-    low: Word,
     ghost low_word: { Word.number low ≡ State.number state % 2 ^ Word.BITS },
 }
 

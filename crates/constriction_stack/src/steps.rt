@@ -2,7 +2,7 @@
 //!
 //! A decode calls [`popped_head`] and then [`refilled`]. An encode calls [`pushed_onto`].
 
-ghost use Rattle.std.specs.Prelude.{◌≡◌, ◌+◌, ◌-◌, ◌*◌, ◌/◌, ◌%◌, ◌^◌, ◌<◌, ◌≤◌, IfOk, IfSome};
+ghost use Rattle.std.specs.Prelude.{◌≡◌, ◌+◌, ◌-◌, ◌*◌, ◌/◌, ◌%◌, ◌^◌, ◌<◌, ◌≤◌, IfOk, IfSome, OnErr};
 ghost use Rattle.constriction_base.specs.Steps.{IsStep, IsSizes};
 ghost use Rattle.constriction_words.specs.Reciprocals.{IsReciprocalOf};
 ghost use Rattle.constriction_stack.specs.Ans.{PushesOnto, RefillsByReads, RefillsList};
@@ -38,29 +38,36 @@ pub fn popped_head<State: BitArray>(
 
 /// Moves the next word of `bulk` into `head` if `head` is below `2^(State::BITS - Word::BITS)`.
 ///
-/// Returns the new head and its low word, which is the word that moved in, if there is one. If no word is left, the
-/// head is unchanged. If the read fails, the call returns the error of the read.
+/// Returns the new head, and sets `low` to its low word, which is the word that moved in, if there is one. If no word
+/// is left, the head is unchanged. If the read fails, `low` is unchanged, and the call returns the error of the read.
 #[inline]
 pub fn refilled<Word: WordOf<State>, State: BitArray, Backend: ReadWords<Word, Stack>>(
     bulk: &mut Backend,
     head: State,
-) -> Result<(State, Word), Backend::ReadError>
+    low: &mut Word,
+) -> Result<State, Backend::ReadError>
     requires { IsSizes Word.BITS State.BITS }
     ensures list { RefillsList Word.number State.number Backend.Holds Word.BITS State.BITS
-        (State.number head) bulk.old result bulk.new }
+        head bulk.old result bulk.new }
     ensures reads { RefillsByReads Word.number State.number Backend.reads Word.BITS State.BITS
-        (State.number head) bulk.old result bulk.new }
-    ensures low { IfOk result (λ made. Word.number made.1 ≡ State.number made.0 % 2 ^ Word.BITS) }
+        head bulk.old result bulk.new }
+    ensures low { IfOk result (λ new. Word.number low.new ≡ State.number new % 2 ^ Word.BITS) }
+    ensures kept { OnErr result (low.new ≡ low.old) }
 {
     if !head.shifted_right(State::BITS - Word::BITS).is_nothing() {
-        return Ok((head, Word::narrow(head)));
+        *low = Word::narrow(head);
+        return Ok(head);
     }
     let word = match bulk.read() {
         Err(error) => return Err(error),
-        Ok(None) => return Ok((head, Word::narrow(head))),
+        Ok(None) => {
+            *low = Word::narrow(head);
+            return Ok(head);
+        }
         Ok(Some(word)) => word,
     };
-    Ok((head.shifted_left(Word::BITS).plus(word.widen()), word))
+    *low = word;
+    Ok(head.shifted_left(Word::BITS).plus(word.widen()))
 }
 
 /// Encodes the symbol of the interval `[left, left + p)` onto `head`, and returns the new head.

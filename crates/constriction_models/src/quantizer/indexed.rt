@@ -8,7 +8,7 @@ use crate::distribution::CumulativeDistribution;
 use crate::intervals::interval;
 use crate::quantizer::{LeakilyQuantizedDistribution, LeakyQuantizer};
 use constriction_base::model::{DecoderModel, EncoderModel, EntropyModel};
-use constriction_words::{BitArray, WordOf};
+use constriction_words::{BitArray, Reciprocal, WordOf};
 use std::marker::PhantomData;
 
 /// A distribution cut halfway between symbols, as a model of the symbols `0`, `1`, ..
@@ -95,6 +95,22 @@ impl<D: CumulativeDistribution, Probability: WordOf<u32>, const PRECISION: usize
         let left = self.model.start(place);
         let end = self.model.start(place + 1);
         Some(interval(left, end))
+    }
+
+    // The compiler doesn't inline the trait's own method, although an encode calls this one for each symbol.
+    #[inline(always)]
+    fn left_cumulative_and_reciprocal(
+        &self,
+        symbol: &usize,
+    ) -> Option<
+        (
+            Probability,
+            <Probability as BitArray>::NonZero,
+            Option<Reciprocal>,
+        ),
+    > {
+        let (left, p) = self.left_cumulative_and_probability(symbol)?;
+        Some((left, p, None))
     }
 }
 

@@ -228,10 +228,9 @@ impl<
             p.widen().widen(),
             precision,
         );
-        match refilled(&mut self.bulk, head) {
-            Ok((head, low)) => {
+        match refilled(&mut self.bulk, head, &mut self.low) {
+            Ok(head) => {
                 self.state = head;
-                self.low = low;
                 Ok(symbol)
             }
             Err(error) => Err(CoderError::Backend(error)),
