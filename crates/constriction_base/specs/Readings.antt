@@ -1,5 +1,5 @@
 -- Sequences of reads of a backend, and the head that a coder forms from the words.
-use Rattle.std.specs.Prelude.{◌≡◌, ℕ, ◌<◌, ◌≤◌, ◌^◌, ⊤, Bool, List, [], ◌∷◌, ◌++◌, Option, None, Some, Result, Ok, Err, MatchBool, MatchResult, map}
+use Rattle.std.specs.Prelude.{◌≡◌, ℕ, zero, suc, ◌<◌, ◌≤◌, ◌^◌, ⊤, Bool, List, [], ◌∷◌, ◌++◌, Option, None, Some, Result, Ok, Err, MatchBool, MatchResult, map}
 use Rattle.std.specs.Int.Digits.{number_from_digits, number_from_digits_after}
 use Rattle.constriction_base.specs.Backends.{Reads}
 use Rattle.constriction_base.specs.Steps.{InTurn}
@@ -9,6 +9,14 @@ use Rattle.constriction_base.specs.declared.backends.reading.ReadWords as readin
 -- No read of the backend is ever refused.
 abbrev pub NeverRefused : {W E B : Type 0} → (B → Result (Option W) E → B → Type 0) → Type 0
 NeverRefused {W} {E} {B} reads = (old : B) (e : E) (new : B) → reads old (Err e) new → ⊥
+
+-- At most `count` reads lead from the old backend to the new one. There are fewer reads only if a read fails: it is the
+-- last.
+abbrev pub TakesUpTo : {W E B : Type 0} → (B → Result (Option W) E → B → Type 0) → ℕ → B → B → Type 0
+TakesUpTo reads zero old new = new ≡ old
+TakesUpTo {W} {E} {B} reads (suc count) old new =
+    (answer : Result (Option W) E) × (between : B) × reads old answer between
+    × MatchResult answer (λ read. TakesUpTo reads count between new) (λ e. new ≡ between)
 
 -- The word that is read first, if there is one, isn't 0.
 abbrev pub BeginsHigh : List ℕ → Type 0

@@ -19,13 +19,13 @@ DecodesPairs {S = S} {M = M} decodes halts precision table symbols models old ne
 
 -- A list of decodes, one for each model, stops early on any decoder. `Refused(e)`: the first `taken` models gave
 -- symbols, and the decode under the next model fails with e. `NoMemory`: decodes under the first models of the list
--- gave symbols.
+-- gave symbols, and `taken` is 0.
 abbrev pub StopsAmong : {C S M E : Type 0} → (C → Step → Result (Unit {0}) E → C → Type 0) → (C → E → C → Type 0) → ℕ → (M → List (S × ℕ × ℕ)) → List M → ℕ → C → Stopped E → C → Type 0
 StopsAmong {C} {S} {M} {E} decodes halts precision table models taken old (Refused e) new = (given : List S) × (mid : C) × (model : M) × (rest : List M)
     × (length given ≡ taken) × (taken < length models) × (drop (length given) models ≡ model ∷ rest)
     × InTurn (λ (pair : S × M) old new. DecodesByModel decodes halts precision table old pair.1 (Ok pair.0) new) (zip given models) old mid
     × DecodesByModel {S = S} decodes halts precision table mid model (Err e) new
-StopsAmong {C} {S} {M} decodes halts precision table models taken old NoMemory new = (given : List S) × (length given ≤ length models)
+StopsAmong {C} {S} {M} decodes halts precision table models taken old NoMemory new = (taken ≡ 0) × (given : List S) × (length given ≤ length models)
     × InTurn (λ (pair : S × M) old new. DecodesByModel decodes halts precision table old pair.1 (Ok pair.0) new) (zip given models) old new
 
 -- At least one item has an impossible symbol: the table of the item's model has no entry for the symbol.

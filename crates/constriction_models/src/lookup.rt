@@ -5,7 +5,7 @@
 //! and a symbol takes 2 bytes. A load instruction can itself multiply an index by these sizes. At a precision of 12
 //! bits, both lists together then take 24 KiB, so they fit the first-level cache.
 
-ghost use Rattle.std.specs.Prelude.{◌≡◌, ◌+◌, ◌^◌, ◌<◌, ◌≤◌, IfOk, IsErrOf};
+ghost use Rattle.std.specs.Prelude.{◌≡◌, ◌+◌, ◌^◌, ◌<◌, ◌≤◌, IfOk, IfSome, IsErrOf, IsNone};
 ghost use Rattle.constriction_base.specs.Tables.{Has, Covers};
 ghost use Rattle.constriction_models.specs.Lookup.{AreRows, HasHighSymbol, HasLowSymbols};
 
@@ -75,33 +75,32 @@ pub struct ContiguousLookupDecoderModel<
 /// Returns the row of `quantile`, and the symbol and the end of the interval that holds `quantile`.
 ///
 /// The caller proves that `PRECISION` is at most 16 bits, and that `quantile` is below `2 ^ PRECISION`. The call
-/// returns `Err(LookupError::Symbol)` if the symbol is above 65535.
+/// returns `None` if and only if the symbol is above 65535.
 fn row_at<M: DecoderModel<PRECISION, Symbol = usize>, const PRECISION: usize>(
     model: &M,
     quantile: M::Probability,
-) -> Result<
+) -> Option<
     (
         Row<M::Probability, <M::Probability as BitArray>::NonZero>,
         u16,
         usize,
     ),
-    LookupError,
 >
     requires small { PRECISION ≤ 16 }
     requires quantile { M.Probability.number quantile < 2 ^ PRECISION }
-    ensures found { IfOk result (λ r. Has (M.table model.now) r.1 (M.Probability.number r.0.left)
+    ensures found { IfSome result (λ r. Has (M.table model.now) r.1 (M.Probability.number r.0.left)
         (M.Probability.nonzero_number r.0.weight)) }
-    ensures covers { IfOk result (λ r. Covers (M.Probability.number r.0.left)
+    ensures covers { IfSome result (λ r. Covers (M.Probability.number r.0.left)
         (M.Probability.nonzero_number r.0.weight) (M.Probability.number quantile)) }
-    ensures end { IfOk result (λ r. r.2 ≡ M.Probability.number r.0.left + M.Probability.nonzero_number r.0.weight) }
-    ensures fits { IfOk result (λ r. r.1 < 65536) }
-    ensures symbol { IsErrOf result LookupError.Symbol → HasHighSymbol (M.table model.now) }
+    ensures end { IfSome result (λ r. r.2 ≡ M.Probability.number r.0.left + M.Probability.nonzero_number r.0.weight) }
+    ensures fits { IfSome result (λ r. r.1 < 65536) }
+    ensures symbol { IsNone result → HasHighSymbol (M.table model.now) }
 {
     let (symbol, left, weight) = model.quantile_function(quantile);
     if symbol > 65535 {
-        return Err(LookupError::Symbol);
+        return None;
     }
-    Ok((
+    Some((
         Row { left, weight },
         symbol as u16,
         left.to_index() + M::Probability::from_nonzero(weight).to_index(),
@@ -110,40 +109,58 @@ fn row_at<M: DecoderModel<PRECISION, Symbol = usize>, const PRECISION: usize>(
 
 /// Returns the row and the symbol of each quantile of `model`, in ascending order of the quantiles.
 ///
-/// The caller proves that `PRECISION` is at most 16 bits. The call returns `Err(LookupError::Symbol)` if a symbol is
-/// above 65535, and `Err(LookupError::Memory)` if there is no memory for the lists.
+/// The caller proves that `PRECISION` is at most 16 bits. The call returns `None` if a symbol is above 65535, or if
+/// there is no memory for the lists. [`reason_against`] tells the two apart.
 fn rows_of<M: DecoderModel<PRECISION, Symbol = usize>, const PRECISION: usize>(
     alloc: Global,
     model: &M,
-) -> Result<(Rows<M::Probability>, Vec<u16>), LookupError>
+) -> Option<(Rows<M::Probability>, Vec<u16>)>
     requires { PRECISION ≤ 16 }
-    ensures found { IfOk result
+    ensures found { IfSome result
         (λ made. AreRows M.Probability.number M.Probability.nonzero_number (M.table model.now)
         made.1.items made.0.items (2 ^ PRECISION)) }
-    ensures fits { IfOk result (λ _. HasLowSymbols (M.table model.now)) }
-    ensures symbol { IsErrOf result LookupError.Symbol → HasHighSymbol (M.table model.now) }
+    ensures fits { IfSome result (λ _. HasLowSymbols (M.table model.now)) }
 {
     let count = 1usize << PRECISION;
-    let Ok(mut rows) = Vec::with_capacity(alloc, count) else {
-        return Err(LookupError::Memory);
-    };
-    let Ok(mut symbols) = Vec::with_capacity(alloc, count) else {
-        return Err(LookupError::Memory);
-    };
+    let mut rows = Vec::with_capacity(alloc, count).ok()?;
+    let mut symbols = Vec::with_capacity(alloc, count).ok()?;
     let (mut row, mut symbol, mut end) = row_at(model, M::Probability::nothing())?;
     for quantile in 0..count {
         if quantile >= end {
             let next = row.left.plus(M::Probability::from_nonzero(row.weight));
             (row, symbol, end) = row_at(model, next)?;
         }
-        if rows.push(row).is_err() {
-            return Err(LookupError::Memory);
-        }
-        if symbols.push(symbol).is_err() {
-            return Err(LookupError::Memory);
+        rows.push(row).ok()?;
+        symbols.push(symbol).ok()?;
+    }
+    Some((rows, symbols))
+}
+
+/// Returns why `model` has no lookup table: a symbol above 65535, or else no memory.
+///
+/// The caller proves that `PRECISION` is at most 16 bits. The call needs no memory. It looks at each symbol again, so a
+/// request for memory that fails doesn't hide a high symbol.
+fn reason_against<M: DecoderModel<PRECISION, Symbol = usize>, const PRECISION: usize>(
+    model: &M,
+) -> LookupError
+    requires { PRECISION ≤ 16 }
+    ensures symbol { result ≡ LookupError.Symbol → HasHighSymbol (M.table model.now) }
+    ensures memory { result ≡ LookupError.Memory → HasLowSymbols (M.table model.now) }
+{
+    let count = 1usize << PRECISION;
+    let Some((mut row, _, mut end)) = row_at(model, M::Probability::nothing()) else {
+        return LookupError::Symbol;
+    };
+    for number in 0..count {
+        if number >= end {
+            let start = row.left.plus(M::Probability::from_nonzero(row.weight));
+            match row_at(model, start) {
+                Some(found) => (row, _, end) = found,
+                None => return LookupError::Symbol,
+            }
         }
     }
-    Ok((rows, symbols))
+    LookupError::Memory
 }
 
 impl<
@@ -156,7 +173,7 @@ impl<
     ///
     /// # Errors
     ///
-    /// - `Symbol`: the model has a symbol above 65535.
+    /// - `Symbol`: returned if and only if the model has a symbol above 65535.
     /// - `Memory`: there is no memory for the lookup table.
     pub fn new(alloc: Global, model: M) -> Result<Self, LookupError>
         requires { PRECISION ≤ 16 }
@@ -164,8 +181,11 @@ impl<
             (λ t. ⟦<ContiguousLookupDecoderModel<M, PRECISION> as EntropyModel<PRECISION>>⟧.table t ≡ M.table model) }
         ensures fits { IfOk result (λ _. HasLowSymbols (M.table model)) }
         ensures symbol { IsErrOf result LookupError.Symbol → HasHighSymbol (M.table model) }
+        ensures memory { IsErrOf result LookupError.Memory → HasLowSymbols (M.table model) }
     {
-        let (rows, symbols) = rows_of(alloc, &model)?;
+        let Some((rows, symbols)) = rows_of(alloc, &model) else {
+            return Err(reason_against(&model));
+        };
         Ok(ContiguousLookupDecoderModel {
             model,
             rows,

@@ -6,9 +6,6 @@ use Rattle.constriction_queue.specs.Range.{Run}
 use Rattle.constriction_queue.specs.Symbols.{FindsAll, model_by}
 use Rattle.constriction_store.specs.Chunks.{chunk_in, lists_of}
 use Rattle.constriction_store.specs.Stores.{Entry, HoldsChunk, HoldsNoChunk, HoldsNoSymbol, Stored, entry_in, run_at}
-use Rattle.constriction_store.specs.Built.{BuildFails}
-use Rattle.constriction_store.specs.declared.laws.ThroughStore.{ThroughStore}
-use Rattle.constriction_store.specs.declared.laws.ThroughStore.TheVariants.{Build, LookUp}
 use Rattle.constriction_store.specs.declared.looking_up.ChunkError.{ChunkError}
 use Rattle.constriction_store.specs.declared.looking_up.ChunkError.TheVariants.{NoSuchChunk, Invalid, Memory}
 
@@ -73,8 +70,3 @@ CannotLookUp chunks places Memory = 0 < length places
 abbrev pub AreChunks : {A B : Type 0} → List (List ℕ) → List ℕ → Result (Vec (Vec ℕ A) B) ChunkError → Type 0
 AreChunks chunks places answer =
     MatchResult answer (λ found. lists_of found.items ≡ map (chunk_in chunks) places) (CannotLookUp chunks places)
-
--- A round trip of chunks through a store fails with this error.
-abbrev pub HasNoChunks : Model ℕ → List (List ℕ) → List ℕ → ThroughStore → Type 0
-HasNoChunks model chunks places (Build refusal) = BuildFails model chunks refusal
-HasNoChunks model chunks places (LookUp refusal) = CannotLookUp chunks places refusal

@@ -1,16 +1,16 @@
-//! Laws of stores: the words at an entry, and functions that build a store and look up its chunks in any order.
+//! Laws of stores: the words at an entry, and looking up chunks in any order.
 
-ghost use Rattle.std.specs.Prelude.{◌≡◌, ◌+◌, ◌/◌, ℕ, List, map, IfOk, IfErr};
+ghost use Rattle.std.specs.Prelude.{◌≡◌, ◌+◌, ◌/◌, ℕ, List, IfOk, IfErr};
 ghost use Rattle.constriction_base.specs.Models.{Model, IsModel};
 ghost use Rattle.constriction_base.specs.Steps.{IsSizes, AreWords};
 ghost use Rattle.constriction_queue.specs.Range.{Run};
 ghost use Rattle.constriction_queue.specs.Symbols.{model_by};
-ghost use Rattle.constriction_store.specs.Chunks.{chunk_in, lists_of};
-ghost use Rattle.constriction_store.specs.LookedUp.{AreChunks, FailsFirst, HasNoChunks, StoreHoldsEach};
-ghost use Rattle.constriction_store.specs.Stores.{Agree, Entry, FindsAt, HoldsChunk, HoldsNoChunk, IsBuilt};
+ghost use Rattle.constriction_store.specs.Chunks.{lists_of};
+ghost use Rattle.constriction_store.specs.LookedUp.{AreChunks, FailsFirst, StoreHoldsEach};
+ghost use Rattle.constriction_store.specs.Stores.{Agree, Entry, FindsAt, HoldsChunk, HoldsNoChunk};
 ghost use Rattle.constriction_store.specs.Stores.{StoreHoldsChunks};
 
-use crate::{BuildError, ChunkError, Store};
+use crate::{ChunkError, Store};
 use constriction_base::model::{DecoderModel, EncoderModel, EntropyModel};
 use constriction_words::{BitArray, WordOf};
 use std::alloc::Global;
@@ -79,101 +79,4 @@ where
         };
     }
     Ok(found)
-}
-
-/// The reason why building a store or looking up its chunks failed.
-#[derive(Debug, Clone, Copy, PartialEq, Eq)]
-pub enum ThroughStore {
-    /// [`Store::build`] returned this error.
-    Build(BuildError),
-    /// [`Store::chunk`] returned this error.
-    LookUp(ChunkError),
-}
-
-/// Builds a store of `chunks`, and looks up the chunks with the numbers in `places`.
-///
-/// `places` may list the numbers in any order. The call returns the store, and the looked-up chunks in the order of
-/// `places`. Each chunk looked up equals the chunk of `chunks` with the same number.
-///
-/// # Errors
-///
-/// - `Build(error)`: [`Store::build`] returned `error`.
-/// - `LookUp(NoSuchChunk)`: a number in `places` is at least the number of chunks.
-/// - `LookUp(Memory)`: there is no memory for the chunks looked up.
-pub fn chunks_in_any_order<
-    Word: WordOf<State>,
-    State: BitArray,
-    M: EncoderModel<PRECISION, Symbol = usize> + DecoderModel<PRECISION, Symbol = usize>,
-    const PRECISION: usize,
->(
-    alloc: Global,
-    chunks: &[Vec<usize>],
-    places: &[usize],
-    model: M,
-) -> Result<(Store<Word, State, M, PRECISION>, Vec<Vec<usize>>), ThroughStore>
-where
-    M::Probability: WordOf<Word>,
-    requires { IsSizes Word.BITS State.BITS }
-    ensures back { IfOk result (λ through. lists_of through.1.items ≡ map (chunk_in (lists_of chunks.now)) places.now) }
-    ensures store { IfOk result (λ through. IsBuilt Word.BITS State.BITS
-        (model_by PRECISION M.table model) (lists_of chunks.now) through.0.index through.0.words) }
-    ensures model { IfOk result (λ through. through.0.model ≡ model) }
-    ensures err { IfErr result (HasNoChunks (model_by PRECISION M.table model)
-        (lists_of chunks.now) places.now) }
-{
-    let store = match Store::<Word, State, M, PRECISION>::build(alloc, chunks, model) {
-        Ok(store) => store,
-        Err(refusal) => return Err(ThroughStore::Build(refusal)),
-    };
-    match look_up(alloc, &store, places) {
-        Ok(found) => Ok((store, found)),
-        Err(refusal) => Err(ThroughStore::LookUp(refusal)),
-    }
-}
-
-/// Builds a store, takes it apart, and looks up chunks in a store built from the parts.
-///
-/// The function calls `build`, `into_parts` and `from_parts`, and then `chunk` for each number in `places`. It returns
-/// the store built from the parts, and the looked-up chunks in the order of `places`. Each chunk looked up equals the
-/// chunk of `chunks` with the same number.
-///
-/// # Errors
-///
-/// - `Build(error)`: [`Store::build`] returned `error`.
-/// - `LookUp(NoSuchChunk)`: a number in `places` is at least the number of chunks.
-/// - `LookUp(Memory)`: there is no memory for the chunks looked up.
-pub fn chunks_through_parts<
-    Word: WordOf<State>,
-    State: BitArray,
-    M: EncoderModel<PRECISION, Symbol = usize> + DecoderModel<PRECISION, Symbol = usize>,
-    const PRECISION: usize,
->(
-    alloc: Global,
-    chunks: &[Vec<usize>],
-    places: &[usize],
-    model: M,
-) -> Result<(Store<Word, State, M, PRECISION>, Vec<Vec<usize>>), ThroughStore>
-where
-    M::Probability: WordOf<Word>,
-    requires { IsSizes Word.BITS State.BITS }
-    ensures back { IfOk result (λ through. lists_of through.1.items ≡ map (chunk_in (lists_of chunks.now)) places.now) }
-    ensures store { IfOk result (λ through. IsBuilt Word.BITS State.BITS
-        (model_by PRECISION M.table model) (lists_of chunks.now) through.0.index through.0.words) }
-    ensures model { IfOk result (λ through. through.0.model ≡ model) }
-    ensures err { IfErr result (HasNoChunks (model_by PRECISION M.table model)
-        (lists_of chunks.now) places.now) }
-{
-    let built = match Store::<Word, State, M, PRECISION>::build(alloc, chunks, model) {
-        Ok(store) => store,
-        Err(refusal) => return Err(ThroughStore::Build(refusal)),
-    };
-    let (words, index, model) = built.into_parts();
-    let made = match Store::<Word, State, M, PRECISION>::from_parts(words, index, model) {
-        Ok(made) => made,
-        Err(_) => unreachable!(),
-    };
-    match look_up(alloc, &made, places) {
-        Ok(found) => Ok((made, found)),
-        Err(refusal) => Err(ThroughStore::LookUp(refusal)),
-    }
 }

@@ -1,5 +1,5 @@
 -- Codewords as codebooks emit and read them, and as bit streams write them.
-use Rattle.std.specs.Prelude.{◌≡◌, ℕ, ◌<◌, ◌^◌, reverse, Bool, List, [], ◌∷◌, ◌++◌, ◌⊎◌, Option, Some, None, Result, Ok, Err, map, ⊤}
+use Rattle.std.specs.Prelude.{◌≡◌, ℕ, ◌<◌, ◌^◌, reverse, Bool, List, [], ◌∷◌, ◌++◌, ◌⊎◌, Option, Some, None, Result, Ok, Err, map, MatchResult, ⊤}
 use Rattle.std.specs.Iterator.{Yields}
 use Rattle.constriction_symbol.specs.Bits.{bits_of, top_bits}
 use Rattle.std.specs.Fn.{Mut, Called}
@@ -158,6 +158,16 @@ ReadsSymbol next codeword reads_on is_invalid old (Err (Frontend (InvalidCodewor
     (bits : List Bool) × is_invalid bits e × GivesBits next old bits new
 ReadsSymbol next codeword reads_on is_invalid old (Err (Backend e)) new =
     (bits : List Bool) × reads_on bits × FailsAfter next old bits e new
+
+-- After this error of a decode the fact holds, unless the error says that the bits ended.
+abbrev pub OrEnded : {V E : Type 0} → CoderError (SymbolCodeError V) E → Type 0 → Type 0
+OrEnded (Frontend OutOfCompressedData) Fact = ⊤
+OrEnded (Frontend (InvalidCodeword _)) Fact = Fact
+OrEnded (Backend _) Fact = Fact
+
+-- After a decode the fact holds, unless the bits ended before a codeword was complete.
+abbrev pub UnlessEnded : {S V E : Type 0} → Result S (CoderError (SymbolCodeError V) E) → Type 0 → Type 0
+UnlessEnded answer Fact = MatchResult answer (λ _. Fact) (λ e. OrEnded e Fact)
 
 -- A decode of bits that begin with a symbol's codeword reads exactly the codeword, and returns a symbol that means the
 -- same. It fails only if the source returns an error.

@@ -12,6 +12,7 @@ use Rattle.constriction_chain.specs.Steps.{DecodeCall, Halted}
 use Rattle.constriction_chain.specs.Symbols.{PutsBackAll, TakesOffAll}
 use Rattle.constriction_chain.specs.Words.{remainder_words}
 use Rattle.constriction_laws.specs.chain.Endings.{Ended, EndsEarly, NotPutBack, RefusedAmong, TookOff, UnlessEnded}
+use Rattle.constriction_laws.specs.Outcomes.{DecodesPairs}
 use Rattle.constriction_laws.specs.chain.Isolating.{decodings_by}
 use Rattle.constriction_laws.specs.declared.chain.errors.PutBackError.{PutBackError}
 use Rattle.constriction_laws.specs.declared.errors.RoundTripError.{RoundTripError}
@@ -79,6 +80,13 @@ module _ {W C R Q E F : Type 0} (number : W → ℕ) (holds : holding.Ghosts C W
   abbrev pub PairsRefused : {S M : Type 0} → (M → List (S × ℕ × ℕ)) → List M → ChainValue C R → ChainValue C R → Type 0
   PairsRefused {S} table models old new = RefusedAmong {S = S} (DecodeCall number holds reads keeps writes w s)
       (Halted number holds reads keeps writes w s precision) precision table models old new
+
+  -- Decodes of the symbols, each with its own model, lead from the old coder to the new one. Each decode makes its reads
+  -- and its write, and no others.
+  abbrev pub DecodesByReads : {S M : Type 0} → (M → List (S × ℕ × ℕ)) → List S → List M → ChainValue C R → ChainValue C R
+      → Type 0
+  DecodesByReads table symbols models old new = DecodesPairs (DecodeCall number holds reads keeps writes w s)
+      (Halted number holds reads keeps writes w s precision) precision table symbols models old new
 
   -- Either the first coder is refused and the second coder doesn't change, or the first coder decodes its symbols and
   -- the second coder is refused.

@@ -4,6 +4,7 @@ use Rattle.constriction_base.specs.Iterators.{FusedRead}
 use Rattle.constriction_base.specs.Steps.{InTurn}
 use Rattle.constriction_base.specs.Tables.{AtEntry}
 use Rattle.constriction_base.specs.Models.{Model, Item}
+use Rattle.constriction_stack.specs.Binary.{BinaryFilledBy}
 use Rattle.constriction_stack.specs.Imports.{FilledBy, ImportRefused}
 use Rattle.constriction_stack.specs.Ans.{AnsState, AnsValue, IsNext, RefillsBy, empty, popped_head}
 use Rattle.constriction_laws.specs.Outcomes.{IfItems}
@@ -29,6 +30,14 @@ DecodesAllBy number reads w s items old new = InTurn (λ item. DecodesBy number 
 abbrev pub DecodesFrom : {S W E B : Type 0} → (W → ℕ) → (B → Result (Option W) E → B → Type 0) → ℕ → ℕ → B → List (Item S) → AnsValue B → Type 0
 DecodesFrom {B = B} number reads w s given items last =
     (start : AnsValue B) × FilledBy number reads w s given start.state.head start.backend × (start.state.head < 2 ^ s) × DecodesAllBy number reads w s items start last
+
+-- An import of the binary form by reads from the backend `given` makes a head below 2 ^ s. Decodes of the items then
+-- lead to the coder `last`.
+abbrev pub DecodesFromBinary : {S W E B : Type 0} → (W → ℕ) → (B → Result (Option W) E → B → Type 0) → ℕ → ℕ → B
+    → List (Item S) → AnsValue B → Type 0
+DecodesFromBinary {B = B} number reads w s given items last =
+    (start : AnsValue B) × BinaryFilledBy number reads w s given start.state.head start.backend
+    × (start.state.head < 2 ^ s) × DecodesAllBy number reads w s items start last
 
 -- The function `words` lists the words that reads return. For the backend `given`, an empty coder exports these words
 -- after encoding the items.

@@ -8,7 +8,7 @@
 //! in contracts couldn't identify the coder that the guard borrows. The contract of `backend` states that the backend
 //! holds the coder's words, so a caller who decodes lent words needs no other contract.
 
-ghost use Rattle.constriction_base.specs.Readings.{NeverRefused};
+ghost use Rattle.constriction_base.specs.Readings.{NeverRefused, TakesUpTo};
 ghost use Rattle.std.specs.Prelude.{◌≡◌, ◌↔◌, ◌^◌, ◌++◌, ℕ, drop, map, Ok, Err, IfOk, IfErr, OnOk};
 ghost use Rattle.std.specs.Borrow.{sem, RestsIfErr};
 ghost use Rattle.constriction_base.specs.Digits.{fixed_digits};
@@ -80,6 +80,8 @@ where
         ensures kept { (lent_back self.exit).now.state.head ≡ (lender self.entry).now.state.head }
         ensures back { NeverRefused Backend.reads →
             (lent_back self.exit).now.state ≡ without (written self.entry) (lender self.entry).now.state }
+        ensures reads { TakesUpTo Backend.reads (written self.entry)
+            (lender self.entry).now.backend (lent_back self.exit).now.backend }
         ensures coder { IsCoder Word.number Backend.Holds Word.BITS State.BITS (lent_back self.exit).now }
     {
         let CoderGuard { inner, count } = self;
@@ -107,7 +109,7 @@ where
     /// Writes the head's words onto the backend, keeps the head, and returns how many words it wrote.
     ///
     /// If the backend refuses room or a write, the call returns the backend's error. Before it returns, it removes the
-    /// words that it wrote by reading them back, and stops at the first read that fails.
+    /// words that it wrote by reading them back.
     fn put_compressed(&mut self) -> Result<usize, Backend::WriteError>
         ensures coder { IsCoder Word.number Backend.Holds Word.BITS State.BITS self.old }
         ensures shows { OnOk result (ShowsExported Word.BITS self.old.state self.new.state) }
@@ -129,8 +131,7 @@ where
     ///
     /// The head is unchanged. The call returns `Frontend(())` if and only if the head is 0 or its bit length minus 1
     /// isn't a multiple of `Word::BITS`. If the backend refuses room or a write, the call returns the backend's error.
-    /// Before it returns, it removes the words that it wrote by reading them back, and stops at the first read that
-    /// fails.
+    /// Before it returns, it removes the words that it wrote by reading them back.
     fn put_binary(&mut self) -> Result<usize, CoderError<(), Backend::WriteError>>
         ensures coder { IsCoder Word.number Backend.Holds Word.BITS State.BITS self.old }
         ensures shows { OnOk result (ShowsBinary Word.BITS self.old.state self.new.state) }
@@ -245,8 +246,7 @@ where
 /// Writes the lowest `count` words of `head` onto `bulk`, lowest first.
 ///
 /// The call first asks for room for these words. If the backend refuses room or a write, the call returns the backend's
-/// error. Before it returns, it removes the words that it wrote by reading them back, and stops at the first read that
-/// fails.
+/// error. Before it returns, it removes the words that it wrote by reading them back.
 fn show_words<Word: WordOf<State>, State: BitArray, Backend>(
     bulk: &mut Backend,
     head: State,

@@ -1,4 +1,4 @@
-use Rattle.std.proofs.Common.{◌≡◌, ◌∙◌, [], ◌∷◌, ◌++◌, length, drop, sym, ap, subst, arith, rules}
+use Rattle.std.proofs.Common.{◌≡◌, ◌∙◌, [], ◌∷◌, ◌++◌, length, drop, refl, sym, ap, subst, arith, rules}
 use Rattle.std.specs.List.{zip}
 use Rattle.std.specs.Slice.Iter.{iter_rest}
 use Rattle.std.proofs.lemmas.List.{length-append}
@@ -69,6 +69,7 @@ returns-in_default-clause-err g c =
     let next : drop (length xs) models ≡ model.now ∷ iter_rest after.models = sym kept.3 ∙ given.1.1 in
     let gave = subst (λ d. GavePairs g.C.Decode.decodes g.C.Decode.halts g.row.PRECISION table (zip xs models) d before.decoder.now) begun kept.5 in
     let all = pairs_more g.C.Decode.decodes g.C.Decode.halts g.row.PRECISION table models c.args.decoder.now xs before.decoder.now x model.now (iter_rest after.models) c.in-Some.answer after.decoder.now gave next c.in-Ok.is given.1.2 in (
+      refl,
       xs ++ x ∷ [],
       omega (arith, length-append xs (x ∷ []), kept.4, ap length given.1.1),
       subst (λ d. GavePairs g.C.Decode.decodes g.C.Decode.halts g.row.PRECISION table (zip (xs ++ x ∷ []) models) c.args.decoder.now d) (search rules) all,

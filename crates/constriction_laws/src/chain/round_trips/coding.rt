@@ -7,7 +7,7 @@ ghost use Rattle.constriction_base.specs.Models.{pairs_of};
 ghost use Rattle.constriction_chain.specs.Symbols.{TakesOffAll, PutsBackAll};
 ghost use Rattle.constriction_laws.specs.Outcomes.{IfRefused};
 ghost use Rattle.constriction_laws.specs.chain.Endings.{NotEncoded, UnlessEnded};
-ghost use Rattle.constriction_laws.specs.chain.Pairs.{PairsEndEarly, PairsRefused};
+ghost use Rattle.constriction_laws.specs.chain.Pairs.{DecodesByReads, PairsEndEarly, PairsRefused};
 
 use crate::errors::{RoundTripError, Stopped};
 use crate::round_trips as any_coder;
@@ -45,6 +45,8 @@ where
     ensures count { IfOk result (λ again. length again.items ≡ length models.now) }
     ensures decoded { C.is_list → IfOk result (λ again. TakesOffAll Word.BITS State.BITS
         (pairs_of PRECISION M.table again.items models.now) coder.old.state coder.new.state) }
+    ensures reads { IfOk result (λ again. DecodesByReads Word.number C.Holds C.ReadWords.own R.Holds R.WriteWords.own
+        Word.BITS State.BITS PRECISION M.table again.items models.now coder.old coder.new) }
     ensures err { IfErr result (UnlessEnded (λ taken. PairsEndEarly C.is_list Word.BITS State.BITS PRECISION M.table
         models.now coder.old.state taken coder.new.state)) }
     ensures refused { IfErr result (IfRefused (PairsRefused Word.number C.Holds C.ReadWords.own R.Holds R.WriteWords.own

@@ -5,7 +5,8 @@
 ghost use Rattle.std.specs.Prelude.{IfErr, IfOk};
 ghost use Rattle.constriction_laws.specs.Outcomes.{IfRefused};
 ghost use Rattle.constriction_laws.specs.chain.Lists.{FromSameBits};
-ghost use Rattle.constriction_laws.specs.chain.Pairs.{AreIsolatedBy, AreOneEach, EndsInTwo, RefusedInTwo, TakesPairs};
+ghost use Rattle.constriction_laws.specs.chain.Pairs.{AreIsolatedBy, AreOneEach, DecodesByReads, EndsInTwo};
+ghost use Rattle.constriction_laws.specs.chain.Pairs.{RefusedInTwo, TakesPairs};
 
 use crate::chain::isolation::symbols_are_isolated;
 use crate::chain::round_trips::coding::decode_pairs;
@@ -59,6 +60,10 @@ where
         models.now coder.old coder.new) }
     ensures other { C.is_list → IfOk result (λ both. TakesPairs Word.BITS State.BITS PRECISION L.table both.1.items
         others.now same.old same.new) }
+    ensures reads { IfOk result (λ both. DecodesByReads Word.number C.Holds C.ReadWords.own R.Holds R.WriteWords.own
+        Word.BITS State.BITS PRECISION M.table both.0.items models.now coder.old coder.new
+        × DecodesByReads Word.number C.Holds C.ReadWords.own R.Holds R.WriteWords.own
+        Word.BITS State.BITS PRECISION L.table both.1.items others.now same.old same.new) }
     ensures isolated { C.is_list → FromSameBits coder.old.state same.old.state (IfOk result (AreIsolatedBy PRECISION
         M.table models.now L.table others.now)) }
     ensures err { IfErr result (EndsInTwo C.is_list Word.BITS State.BITS PRECISION M.table models.now coder.old

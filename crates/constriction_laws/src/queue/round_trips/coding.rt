@@ -29,9 +29,9 @@ use std::alloc::Global;
 ///
 /// # Errors
 ///
-/// - `ImpossibleSymbol`: a model has no entry for its symbol. The symbols before that symbol are encoded.
-/// - `TooManySymbols`: there are more symbols than `symbols_left` returns. No symbol is encoded.
-/// - `Refused`: the backend refused a word of a symbol. The symbols before that symbol are encoded.
+/// - `ImpossibleSymbol`: a model has no entry for its symbol.
+/// - `TooManySymbols`: there are more symbols than `symbols_left` returns.
+/// - `Refused`: the backend refused a word of a symbol.
 pub fn encode_pairs<
     Word: WordOf<State>,
     State: BitArray,

@@ -7,6 +7,7 @@ ghost use Rattle.constriction_laws.specs.Outcomes.{IfItemsWith, OnlyRefused};
 ghost use Rattle.constriction_stack.specs.Ans.{IsValid};
 ghost use Rattle.constriction_laws.specs.stack.Exporting.{ExportsBinary, NoBinary};
 ghost use Rattle.constriction_laws.specs.stack.Lists.{DecodesBinary, LeavesOfBinary};
+ghost use Rattle.constriction_laws.specs.stack.Readings.{DecodesFromBinary};
 
 use crate::errors::RoundTripError;
 use crate::stack::binary::{binary_words_come_back, one_binary_form};
@@ -44,6 +45,8 @@ where
     ensures count { IfOk result (λ back. length back.0.items ≡ length models.now) }
     ensures read { Backend.is_list → IfItemsWith PRECISION M.table models.now result (LeavesOfBinary Word.BITS
         State.BITS (map Word.number (Backend.words words))) }
+    ensures reads { IfOk result (λ back. DecodesFromBinary Word.number Backend.reads Word.BITS State.BITS words
+        (pairs_of PRECISION M.table back.0.items models.now) back.1) }
     ensures err { IfErr result OnlyRefused }
 {
     let Ok(mut coder) = AnsCoder::<Word, State, Backend>::from_binary(words) else {

@@ -11,6 +11,6 @@ pub returns-in-Err-clause-kept : goal.returns-in-Err-clause-kept
 returns-in-Err-clause-kept g c =
     let state : List g.row.Word.Denot → AnsState = λ ws. record { head = g.State.BitArray.number c.args.head; words = map g.Word.BitArray.number ws } in
     elim c.in-Err.ensures.refused [
-      | inl none ↦ inl (ap state (ap g.Backend.Holds.words (c.take_back.ensures.untouched none) ∙ (rw none at c.in-Err.ensures.back)))
+      | inl none ↦ inl (ap state (ap g.Backend.Holds.words (rw none at c.take_back.ensures.reads) ∙ (rw none at c.in-Err.ensures.back)))
       | inr some ↦ inr (refl, λ never. ap state (c.take_back.ensures.words never ∙ c.in-Err.ensures.back), (_, c.in-Err.ensures.written.begun, some))
     ]

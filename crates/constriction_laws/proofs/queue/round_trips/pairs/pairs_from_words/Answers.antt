@@ -26,6 +26,17 @@ returns-clause-read g c =
       λ yes. nears_of w s _ decoded.0 c.decode_pairs.new.decoder (pow_pos s) decoded.2 (told.value.0 yes).1,
     )
 
+pub returns-clause-ended : goal.returns-clause-ended
+returns-clause-ended g c =
+    let known = g.met.Words.IntoReadWords.BoundedReadWords.knows_words in
+    let decoded = c.in_ok-again.ensures.decoded known _ (initial g.State.BitArray.BITS) (c.in-Ok.ensures.ok known) in (
+      decoded.0,
+      c.decode_pairs.new.decoder,
+      decoded.1,
+      decoded.2,
+      c.has_ended-ended.ensures.value,
+    )
+
 pub returns-clause-back : goal.returns-clause-back
 returns-clause-back g c =
     let w = g.Word.BitArray.BITS in
