@@ -1,11 +1,13 @@
 //! The coder and its parts.
 //!
 //! - [`symbols`]: the two steps, `encode_symbol` and `decode_symbol`.
+//! - [`intervals`]: the step of an encode for a given interval, `encode_interval`.
 //! - [`lists`]: encoding lists of symbols from last to first.
 //! - [`precision`]: changing the precision.
 //! - [`words`]: importing and exporting words.
 //! - [`seeking`]: recording positions and seeking to them.
 
+pub mod intervals;
 pub mod lists;
 pub mod precision;
 pub mod seeking;
