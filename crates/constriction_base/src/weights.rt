@@ -5,9 +5,8 @@
 //! weights, so that the start of each remaining symbol fits `Probability`. Contracts describe a table by its list of
 //! entries (`entries` in `specs/WeightTables.antt`).
 //!
-//! Computing a reciprocal takes 33 to 41 ns in a prototype, because it divides a 128-bit number. Building the rest of a
-//! table takes 10.4 to 10.8 ns a symbol. Two 64-bit divisions would take 19 to 29 ns, but would work only for weights
-//! below 2^32. Therefore `new` divides 128-bit numbers.
+//! `new` spends more than half of its time on the reciprocals. The reciprocal of a weight below 2^32 takes two quotients
+//! of 64-bit numbers. The reciprocal of a larger weight divides a 128-bit number.
 //!
 //! With a table from `for_decoding`, an encoder that divides by weights, such as the stack coder, executes a division
 //! for each symbol. With a table from `new`, at a precision of at most 63 bits, the encoder never divides if its state

@@ -8,9 +8,8 @@
 //! multiplier is `q + 1` and the addend is 0. Multiplier and addend fit 64 bits: `q + 1` is `2^64` only if `p` is a
 //! power of two, and then `r < 2^k`.
 //!
-//! Reciprocals of 64 bits work for every coder state of at most 64 bits. On x86-64, one instruction
-//! computes the 128-bit product of two 64-bit numbers. So
-//! reciprocals of 32 bits would save no multiplication there.
+//! Reciprocals of 64 bits work for every coder state of at most 64 bits. On x86-64, one instruction computes the
+//! 128-bit product of two 64-bit numbers. So reciprocals of 32 bits would save no multiplication there.
 
 ghost use Rattle.std.specs.Prelude.{◌≡◌, ◌+◌, ◌*◌, ◌/◌, ◌<◌, ℕ};
 

@@ -112,7 +112,7 @@ class QueueDecoder(Coder):
         """Decodes the next symbol, or a list of the next ``amt`` symbols.
 
         Raises :class:`OutOfDataError` if the words end before all symbols are decoded, and :class:`InvalidDataError` if
-        the next bits don't begin with a codeword. After an error the decoder is unchanged.
+        the next bits can't begin a codeword. After an error the decoder is unchanged.
         """
         codebook_wanted(codebook)
         if amt is None:
@@ -239,7 +239,7 @@ class StackCoder(Coder):
         """Decodes the symbol on top of the stack, or a list of the ``amt`` symbols on top.
 
         Raises :class:`OutOfDataError` if the stack has too few bits, and :class:`InvalidDataError` if the bits on top
-        don't begin with a codeword. After an error the stack is unchanged.
+        can't begin a codeword. After an error the stack is unchanged.
         """
         codebook_wanted(codebook)
         if amt is None:
