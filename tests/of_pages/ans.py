@@ -83,6 +83,22 @@ def rounding(page):
     page.has("For `DefaultAnsCoder` at 24 bits and heads of at least 2^32, the bound is 2^-8")
 
 
+def commands(page):
+    """Two pushes at the program's sizes. readme.py runs the coders' definitions for the commands below them."""
+    weights, word, state = [3, 2, 16777211], 32, 64
+    (left, length), precision = entries(weights)[1], 24
+    judge(sum(weights) == 2**precision and length << state - precision == 2**41, "the program's table")
+    page.has(f"The program's tables have {precision} bits of precision, and its words have {word} bits")
+    page.has(f"The weights 3, 2 and {weights[2]} belong to the symbols 0, 1 and 2. Symbol 1 has `left = {left}` and `p = {length}`")
+    page.has(f"a head below 2^41 gives `head / {length} * 2^{precision} + {left} + head % {length}`")
+    heads = [0]
+    for _ in range(2):
+        heads.append(heads[-1] // length * 2**precision + left + heads[-1] % length)
+    page.has(f"The first push turns {heads[0]} into {heads[1]}, and the second turns {heads[1]} into {heads[2]}")
+    page.has(f"printf '3 2 {weights[2]}\\n1 1\\n' | ./constriction ans-encode # prints {heads[2]}")
+    page.has(f"printf '3 2 {weights[2]}\\n2 {heads[2]}\\n' | ./constriction ans-decode # prints 1 1")
+
+
 def test():
     page = Page("docs/ANS.md")
     for (left, length), name in zip(entries(WEIGHTS), NAMES):
@@ -95,5 +111,6 @@ def test():
     pops(page, head, words, before)
     page.has("`log2(16 / p)` bits")
     rounding(page)
+    commands(page)
     # Sizes, the quantile by 16, the steps of bits back, and the weights.
     page.rest("0", "1", "2", "3", "4", "5", "8", "12", "16")

@@ -1,4 +1,4 @@
-"""README.md and docs/PROGRAM.md: what commands print, the table of speed, the number of crates, the gate's multiple."""
+"""README.md, docs/PROGRAM.md and docs/ANS.md: what commands print; README's speed, number of crates and gate's multiple."""
 
 from __future__ import annotations
 
@@ -12,23 +12,32 @@ HALVES = [[8388608, 8388608]]
 
 
 def times():
-    """The ratio of each case of docs/TIMES.md, which is that of its two times."""
+    """Returns each case of docs/TIMES.md with its time and its ratio, which is that of its two times."""
     row = r"^\| (\w+) \| ([\d.]+) \| ([\d.]+) \| \**([\d.]+)\** \|$"
     rows = re.findall(row, read("docs/TIMES.md"), flags=re.M)
     judge(len(rows) >= 40 and len({case for case, *_ in rows}) == len(rows), "docs/TIMES.md: each case once")
     for case, ours, theirs, ratio in rows:
         exact = float(ours) / float(theirs)
         judge(abs(exact - float(ratio)) < 0.0101, f"docs/TIMES.md: {case}: {exact:.3f} is not {ratio}")
-    return {case: ratio for case, _, _, ratio in rows}
+    return {case: (float(ours), ratio) for case, ours, _, ratio in rows}
+
+
+def cell(found):
+    """Returns a cell of README's table: up to two cases with a ratio each, or both ranges."""
+    shown = [(f"{time:.1f}", ratio) for time, ratio in found]
+    if len(shown) <= 2:
+        return ", ".join(f"{time} ({ratio})" for time, ratio in shown)
+    least, most = (f([float(time) for time, _ in shown]) for f in (min, max))
+    ratios = sorted(ratio for _, ratio in shown)
+    return f"{least} to {most} ({ratios[0]} to {ratios[-1]})"
 
 
 def speed(page):
-    """The table of speed has the ratios of docs/TIMES.md."""
-    ratios = times()
+    """README's tables have the times and the ratios of docs/TIMES.md."""
+    found = times()
 
     def of(pattern):
-        found = sorted(ratio for case, ratio in ratios.items() if re.fullmatch(pattern, case))
-        return ", ".join(found) if len(found) <= 2 else f"{found[0]} to {found[-1]}"
+        return cell([it for case, it in found.items() if re.fullmatch(pattern, case)])
 
     for coder, name in (("Stack coder (ANS)", "ans"), ("Range coder", "range"), ("Chain coder", "chain")):
         encodes = of(f"{name}_encode_.*_table"), of(f"{name}_encode_.*_flat")
@@ -37,6 +46,8 @@ def speed(page):
     page.row("Single bits", of("bits_write_.*"), of("bits_read_.*"))
     page.row("Huffman coding", of("huffman_encode_.*"), of("huffman_decode_.*"))
     page.row("Building a Huffman tree", of("huffman_make_encoder_.*"), of("huffman_make_decoder_.*"))
+    each = [f"{1000 / found[f'{it}_decode_u32u64p24_table'][0]:.0f}" for it in ("range", "ans")]
+    page.has(f"{each[0]} (range coder) to {each[1]} (stack coder) million decoded symbols a second")
 
 
 def gate():
@@ -72,8 +83,8 @@ def crates(page):
     page.has(f"the program's {len(crates_below('constriction_cli'))} crates")
 
 
-def commands(readme, program):
-    """The program's commands, by the coders' definitions: all in docs/PROGRAM.md, and the first two in README.md too."""
+def commands(readme, program, ans):
+    """The program's commands, by the coders' definitions: README has the first one, docs/ANS.md the first two."""
 
     def prints(command, text, answer, page=program):
         page.has(f"printf '{text}\\n' | ./constriction {command} # {answer}")
@@ -81,10 +92,13 @@ def commands(readme, program):
     def shown(numbers):
         return " ".join(map(str, numbers))
 
-    readme.has(f"turns 0 into 3. The second turns 3 into {3 // 2 * 2**24 + 3 + 3 % 2}")
+    head = 3 // 2 * 2**24 + 3 + 3 % 2
+    ans.has(f"The first push turns 0 into 3, and the second turns 3 into {head}")
     words = shown(by.ans_words([[3, 2, 16777211]] * 2, [1, 1]))
+    judge(words == str(head), "docs/ANS.md: the word of two pushes")
     prints("ans-encode", "3 2 16777211\\n1 1", f"prints {words}", readme)
-    prints("ans-decode", f"3 2 16777211\\n2 {words}", "prints 1 1", readme)
+    prints("ans-encode", "3 2 16777211\\n1 1", f"prints {words}", ans)
+    prints("ans-decode", f"3 2 16777211\\n2 {words}", "prints 1 1", ans)
     words = shown(by.range_words(HALVES, [1]))
     prints("range-encode", "8388608 8388608\\n1", words)
     prints("range-decode", f"8388608 8388608\\n1 {words}", "1")
@@ -126,7 +140,7 @@ def trial_first():
 def test():
     page = Page("README.md")
     program = Page("docs/PROGRAM.md")
-    commands(page, program)
+    commands(page, program, Page("docs/ANS.md"))
     faults(program)
     trial_first()
     crates(page)
