@@ -12,8 +12,8 @@ from links import pages
 README = 1300
 ALL = 33000
 
-# Pages whose length follows from something else. A script writes the first, and each program of the second has a row.
-UNLIMITED = ("docs/DEFINITIONS.md", "examples/c/README.md")
+# Pages whose length follows from something else. Scripts write the first two, and each program of the last has a row.
+UNLIMITED = ("docs/DEFINITIONS.md", "docs/python.md", "examples/c/README.md")
 
 MONTHS = "January|February|March|April|May|June|July|August|September|October|November|December"
 DATE = re.compile(rf"\b(?:19|20)\d\d-\d\d\b|\b(?:{MONTHS}) (?:\d\d?, )?(?:19|20)\d\d\b")
