@@ -1,11 +1,11 @@
-"""Proves a program or a static library and the crates below it, those that don't wait for each other side by side, and builds it.
+"""Proves a program or a static library and the crates below it, in parallel where none waits for another, and builds it.
 
-A program's crates are all proved from nothing in the one run. For a static library, what an earlier run of this file proved from nothing is kept,
-where neither it nor anything below has changed; with --over-gate the libraries that `rt ci` has just left are taken as they are. How far it
-is goes to standard error: on a terminal as one line that is drawn again each second, elsewhere as a line for each crate and each half minute
-(PROGRESS_SECONDS: each so many seconds).
+Libraries that an earlier run of this file proved are kept where neither they nor anything below has changed, also from a run that was ended early.
+With --over-gate the libraries that `rt ci` has just left are taken as they are. Progress goes to standard error: on a terminal as one line
+that is drawn again each second, elsewhere as a line for each crate and each half minute (PROGRESS_SECONDS: each so many seconds). With --answer a
+trial run answers a command of the program meanwhile, on the input that the launcher puts into a folder.
 
-usage: first_call.py KIT REPOSITORY CRATE [--over-gate]"""
+usage: first_call.py KIT REPOSITORY CRATE [--over-gate | --answer FOLDER COMMAND..]"""
 
 import json
 import os
@@ -16,8 +16,9 @@ import time
 from concurrent.futures import FIRST_COMPLETED, ThreadPoolExecutor, wait
 
 sys.dont_write_bytecode = True
-from schedule import SPEEDS, Part, Schedule
-from toolchain import Toolchain
+from schedule import SPEEDS, Part, Schedule, share_done
+from toolchain import toolchain_of
+from unproved_answer import UnprovedAnswer
 
 # The processor time of each proof from nothing with one job, in multiples of that of constriction_words.
 WEIGHTS = {
@@ -71,13 +72,13 @@ class Progress:
 class Record:
     """What a run of this file has proved and built of a crate: by a sum over its files and those below, and when these builds were made."""
 
-    def __init__(self, crate):
-        self.crate, self.path = crate, f"{crate.folder}/out/proved"
-        self.stamp = crate.stamp()
+    def __init__(self, toolchain, crate):
+        self.toolchain, self.crate, self.path = toolchain, crate, f"{crate.folder}/out/proved"
+        self.stamp = toolchain.stamp(crate)
 
     def made(self):
         """Returns when each library below, and the crate itself, was built."""
-        return {it.name: os.stat(built(it)).st_mtime_ns for it in [*self.crate.below(), self.crate]}
+        return {it.name: os.stat(it.built()).st_mtime_ns for it in [*self.crate.below(), self.crate]}
 
     def kept(self):
         """Returns what was written, if it still holds."""
@@ -90,24 +91,18 @@ class Record:
 
     def write(self, unit):
         """Writes it, if no file has changed since the proof began, with the seconds that a unit of work takes here."""
-        if self.stamp == self.crate.stamp():
+        if self.stamp == self.toolchain.stamp(self.crate):
             with open(self.path, "w", encoding="utf-8") as file:
                 json.dump({"stamp": self.stamp, "made": self.made(), "unit": unit}, file)
 
 
-def built(crate):
-    """Returns where a crate's build lies."""
-    if crate.is_program:
-        return f"{crate.folder}/out/{crate.name}"
-    return f"{crate.folder}/out/lib{crate.name}.a" if crate.is_static else crate.rlib
-
-
 class Run:
-    """The proofs of some crates, of which those by the names of `done` need none."""
+    """The proofs of some crates, of which those by the names of `done` need none, and an unproved answer that is shown meanwhile, or None."""
 
-    def __init__(self, toolchain, crates, done, unit, progress):
+    def __init__(self, toolchain, crates, done, unit, progress, answer=None):
         self.toolchain, self.crates, self.done, self.progress = toolchain, {it.name: it for it in crates}, set(done), progress
         self.unit = unit  # the seconds of a proof of weight 1 with one job, once they are known
+        self.answer = [answer.said] if answer else []
         self.ended = []  # the seconds and the weight of each proof that ended here
         self.running = {}  # a name leads to its jobs, and to when it began
         parts = {it.name: Part({below.name for below in it.below()}, weight(it), toolchain.memory(it)) for it in crates}
@@ -121,8 +116,11 @@ class Run:
                 self.running[name] = jobs, time.time()
                 tasks[pool.submit(self.prove, self.crates[name], jobs)] = name
             self.progress.draw(self.line())
-            for task in wait(tasks, timeout=self.progress.pause, return_when=FIRST_COMPLETED).done:
-                if not self.end(tasks.pop(task), task.result()):
+            for task in wait([*tasks, *self.answer], timeout=self.progress.pause, return_when=FIRST_COMPLETED).done:
+                if task in self.answer:
+                    self.answer.remove(task)
+                    self.say_answer(task.result())
+                elif not self.end(tasks.pop(task), task.result()):
                     return False
         return True
 
@@ -132,7 +130,7 @@ class Run:
     def prove(self, crate, jobs):
         """Proves and builds a crate, and returns what is to be noted of it, or None where that failed."""
         os.makedirs(f"{crate.folder}/out", exist_ok=True)
-        record = Record(crate)
+        record = Record(self.toolchain, crate)
         return record if self.toolchain.prove(crate, jobs, log_of(crate)) else None
 
     def end(self, name, record):
@@ -150,24 +148,32 @@ class Run:
         return True
 
     def rest(self, name):
-        """Returns the work that is left of a crate: of one that runs a fiftieth at least, however long it has taken."""
+        """Returns the work that is left of a crate, by how long it has run."""
         whole = weight(self.crates[name])
         if name in self.done:
             return 0.0
-        if name in self.running and self.unit:
+        if name in self.running:
             jobs, began = self.running[name]
-            return max(whole - (time.time() - began) * SPEEDS[jobs] / self.unit, whole / 50)
+            return whole * (1 - share_done((time.time() - began) * SPEEDS[jobs] / (self.unit * whole)))
         return whole
 
-    def line(self):
-        """Returns how far the run is, by the work and not by the number of crates."""
-        rest = {name: self.rest(name) for name in self.crates}
-        whole = sum(map(weight, self.crates.values()))
-        at_work = ", ".join(self.running)
+    def left(self):
+        """Returns how many seconds the run is likely to take from now, or None before the first proof has ended."""
         if not self.unit:
-            return f"at work on {at_work} for {self.progress.seconds():.0f} s"
-        left = about(self.unit * self.schedule.left(self.done, self.jobs(), rest))
-        return f"{100 * (1 - sum(rest.values()) / whole):.0f} % after {self.progress.seconds():.0f} s, {left} left; at work on {at_work}"
+            return None
+        return self.unit * self.schedule.left(self.done, self.jobs(), {name: self.rest(name) for name in self.crates})
+
+    def line(self):
+        """Returns how far the run is, as the share of the time that has passed of all that it is likely to take."""
+        seconds, left, at_work = self.progress.seconds(), self.left(), ", ".join(self.running)
+        if left is None:
+            return f"at work on {at_work} for {seconds:.0f} s"
+        return f"{100 * seconds / (seconds + left):.1f} % after {seconds:.0f} s, {about(left)} left; at work on {at_work}"
+
+    def say_answer(self, answer):
+        """Says the answer of a trial run."""
+        left = self.left()
+        self.progress.say(f"unproved, of a trial run:{answer}; the proof goes on" + (f", {about(left)} left" if left is not None else ""))
 
 
 def weight(crate):
@@ -183,43 +189,47 @@ def about(seconds):
     return f"about {minutes} minute{'s' * (minutes > 1)}" if minutes else "less than a minute"
 
 
-def kept_of(crates):
+def kept_of(toolchain, crates):
     """Returns the crates that need no proof, since an earlier run of this file proved them and all below, and the seconds of a unit of work then."""
     kept, unit = set(), None
     for crate in crates:
-        said = Record(crate).kept() if kept.issuperset(it.name for it in crate.below()) else None
+        said = Record(toolchain, crate).kept() if kept.issuperset(it.name for it in crate.below()) else None
         if said:
             kept.add(crate.name)
             unit = said["unit"]
     return kept, unit
 
 
-def begin(progress, crate, count, kept):
+def begin(progress, toolchain, crate, count, kept):
     """Says what is to be done, and what can be had meanwhile."""
-    first = "; the first one tells how long that takes here" if count > 1 else ""
+    first = "; the first one tells how long that takes here" if count > 1 and not kept else ""
+    of = f"the {count}" if not kept else f"{count} of the {count + kept}"
     if crate.is_program:
         trial = "./constriction --trial COMMAND < INPUT answers in a minute, unproved"
-        progress.say(f"proving the {count} crates of the program from nothing and building it, once{first}. {trial}")
+        progress.say(f"proving {of} crates of the program {toolchain.how} and building it, once{first}. {trial}")
     else:
-        progress.say(f"proving {count} of the {count + kept} crates of {crate.name} and building it{first}")
+        progress.say(f"proving {of} crates of {crate.name} {toolchain.how} and building it{first}")
 
 
 def main(kit, top, name, *how):
     signal.signal(signal.SIGINT, signal.SIG_DFL)  # the proofs end with this process
-    toolchain = Toolchain(kit, top)
-    crates = toolchain.crates(name)
+    toolchain = toolchain_of(kit, top)
+    crates = toolchain.and_below(name)
     toolchain.lock(crates)
-    crate, done, unit = crates[-1], set(), None
-    if how == ("--over-gate",):
-        done = {it.name for it in crates[:-1]}
-    elif not crate.is_program:
-        done, unit = kept_of(crates)
+    crate = crates[-1]
+    done, unit = ({it.name for it in crates[:-1]}, None) if how == ("--over-gate",) else kept_of(toolchain, crates)
     progress = Progress("constriction" if crate.is_program else "library")
     if len(done) == len(crates):
         progress.say(f"{name} is proved already")
         return 0
-    begin(progress, crate, len(crates) - len(done), len(done))
-    if not Run(toolchain, crates, done, unit, progress).all():
+    begin(progress, toolchain, crate, len(crates) - len(done), len(done))
+    answer = UnprovedAnswer(kit, crate, how[1], how[2:]) if how[:1] == ("--answer",) else None
+    if answer:
+        answer.start()
+    is_proved = Run(toolchain, crates, done, unit, progress, answer).all()
+    if answer:
+        answer.end()
+    if not is_proved:
         sys.stderr.flush()
         os._exit(1)  # what still runs is not waited for
     progress.say(f"all is proved (after {progress.seconds():.0f} s)")
