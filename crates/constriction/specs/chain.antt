@@ -3,7 +3,6 @@ pub mod Endings
 pub mod Fits
 pub mod Imports
 pub mod Isolating
-pub mod Positions
 pub mod Runs
 pub mod Steps
 pub mod Symbols

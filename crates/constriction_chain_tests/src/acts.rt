@@ -63,7 +63,7 @@ enum Says {
 /// - `compressed` and `remainders` compare the words of the two sides in the raw parts of a clone.
 /// - `prefix` and `suffix` compare the two lists of words that `into_remainders` returns for a clone.
 /// - `export` compares the words that `into_compressed` exports from a clone, and `rest` compares the words of the
-///   remainders. `export-binary` compares the words that `into_binary` exports.
+///   remainders. `export-binary` and `rest-binary` compare the two lists of words that `into_binary` returns.
 /// - `heads` compares the two heads.
 /// - `whole` checks that the coder is whole. `full` checks that it may be full. `exhausted` checks that it may be
 ///   exhausted, and `unfinished` that it isn't exhausted.
@@ -80,6 +80,7 @@ const VERBS: &[(&str, Verb)] = &[
     ("export", Verb::Part(Parts::Words, true)),
     ("rest", Verb::Part(Parts::Words, false)),
     ("export-binary", Verb::Part(Parts::Binary, true)),
+    ("rest-binary", Verb::Part(Parts::Binary, false)),
     ("heads", Verb::Says(Says::Heads)),
     ("whole", Verb::Says(Says::Whole)),
     ("full", Verb::Says(Says::Full)),

@@ -56,7 +56,7 @@ fn chain_binary(rt: HostRuntime) -> Result<(), Fail> {
          prefix 10 20 suffix 254 1
          import-remainders 254 1
          put 1
-         export-binary 30",
+         export-binary 30 rest-binary",
     )
 }
 

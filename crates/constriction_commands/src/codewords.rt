@@ -1,10 +1,11 @@
 //! Finds the bits of codewords, and writes bits as the digits 0 and 1.
 
-ghost use Rattle.std.specs.Prelude.{◌≡◌, ◌++◌, Some, IfOk, OnOk};
+ghost use Rattle.std.specs.Prelude.{◌≡◌, ◌++◌, None, Some, IfOk, IsSome, MatchOption, OnErr, OnOk};
 ghost use Rattle.constriction_symbol.specs.Bits.{PutsBit};
 ghost use Rattle.constriction_commands.specs.Codewords.{digits};
 
 use constriction_base::backends::Queue;
+use constriction_base::errors::CoderError;
 use constriction_symbol::codebooks::EncoderCodebook;
 use constriction_symbol::writing::WriteBitStream;
 use std::alloc::{AllocError, Global};
@@ -28,24 +29,27 @@ impl WriteBitStream<Queue> for Bits {
     }
 }
 
-/// Returns the bits of the codeword of `symbol`.
+/// Returns the bits of the codeword of `symbol`, or `None` if `codebook` has no codeword for `symbol`.
 ///
 /// # Errors
 ///
-/// Returns `AllocError` if there is no memory, or if `codebook` has no codeword for `symbol`.
+/// Returns `AllocError` if `symbol` has a codeword, and there is no memory for it.
 pub fn codeword<C: EncoderCodebook>(
     alloc: Global,
     symbol: &C::Symbol,
     codebook: C,
-) -> Result<Vec<bool>, AllocError>
-    ensures { IfOk result (λ bits. C.codeword codebook symbol.now ≡ Some bits.items) }
+) -> Result<Option<Vec<bool>>, AllocError>
+    ensures found { IfOk result (λ found. MatchOption found (C.codeword codebook symbol.now ≡ None)
+        (λ bits. C.codeword codebook symbol.now ≡ Some bits.items)) }
+    ensures known { OnErr result (IsSome (C.codeword codebook symbol.now)) }
 {
     let mut bits = Bits {
         list: Vec::new(alloc),
     };
     match bits.encode_symbol(symbol, codebook) {
-        Ok(()) => Ok(bits.list),
-        Err(_) => Err(AllocError),
+        Ok(()) => Ok(Some(bits.list)),
+        Err(CoderError::Frontend(_)) => Ok(None),
+        Err(CoderError::Backend(error)) => Err(error),
     }
 }
 

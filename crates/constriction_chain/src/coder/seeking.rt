@@ -1,7 +1,7 @@
 //! Positions of a coder: the positions of both backends, and the heads.
 
 ghost use Rattle.constriction_chain.specs.Chain.{at_heads, value_of};
-ghost use Rattle.constriction_chain.specs.Positions.{neither};
+ghost use Rattle.std.proofs.Common.{inl, inr};
 ghost use Rattle.std.specs.Prelude.{◌≡◌, ◌⊎◌};
 
 use crate::coder::ChainCoder;
@@ -139,7 +139,8 @@ impl<
       R.reach_law coder.remainders position.0.remainders stands.1,
     ) };
 
-    ghost accept_law = { λ coder position stands fails. neither
-        (C.accept_law coder.compressed position.0.compressed stands.0)
-        (R.accept_law coder.remainders position.0.remainders stands.1) fails };
+    ghost accept_law = { λ coder position stands fails. elim fails [
+      | inl first ↦ C.accept_law coder.compressed position.0.compressed stands.0 first
+      | inr second ↦ R.accept_law coder.remainders position.0.remainders stands.1 second
+    ] };
 }

@@ -21,8 +21,10 @@ use std::alloc::{AllocError, Global};
 fn push_codeword(alloc: Global, line: &mut Vec<u8>, number: u32) -> Result<(), AllocError>
     ensures { OnOk result (line.new.items ≡ line.old.items ++ digits (golomb number)) }
 {
-    let bits = codeword(alloc, &number, ExpGolomb::<u32>::new())?;
-    push_digits(line, bits.as_slice())
+    match codeword(alloc, &number, ExpGolomb::<u32>::new())? {
+        Some(bits) => push_digits(line, bits.as_slice()),
+        None => unreachable!(),
+    }
 }
 
 /// Returns a line of the codewords of `numbers` as binary digits, separated by spaces.

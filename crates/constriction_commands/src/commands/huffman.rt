@@ -34,6 +34,8 @@ fn make_tree(alloc: Global, weights: &[usize]) -> Result<EncoderHuffmanTree, Fau
 }
 
 /// Appends the codeword of `symbol` in `tree` to `line`, as binary digits, or a hyphen for the empty codeword.
+///
+/// If the symbol has no codeword, the call appends nothing.
 fn push_codeword(
     alloc: Global,
     line: &mut Vec<u8>,
@@ -42,7 +44,9 @@ fn push_codeword(
 ) -> Result<(), AllocError>
     ensures { OnOk result (line.new.items ≡ line.old.items ++ codeword_text (path tree.now symbol)) }
 {
-    let bits = codeword(alloc, &symbol, tree)?;
+    let Some(bits) = codeword(alloc, &symbol, tree)? else {
+        return Ok(());
+    };
     if bits.is_empty() {
         line.push(b'-')?;
         return Ok(());
