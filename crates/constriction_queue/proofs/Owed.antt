@@ -1,5 +1,5 @@
 -- What is owed at once, in its parts.
-use Rattle.std.specs.Prelude.{Result, Ok, Err}
+use Rattle.std.specs.Prelude.{Result, Ok, Err, OnOk, OnErr, IfErr}
 use Rattle.std.proofs.Common.{◌≡◌, ℕ, ◌+◌, ◌-◌, ◌<◌, ◌≤◌, List, [], ◌∷◌, ◌++◌, length, length-append, append_assoc, map, replicate, refl, sym, ap, subst, ◌∙◌, arith, inl, inr}
 use Rattle.std.proofs.lemmas.Bool.{cases_lt}
 use Rattle.constriction_base.specs.Writing.{WritesAll}
@@ -42,6 +42,13 @@ module _ {Word B E S : Type 0} (number : Word → ℕ) (holds : holding.Ghosts B
         short = elim (cases_lt (writes.room old) 1) [ inl less ↦ less | inr more ↦ absurd (law old e (omega (arith, more)) fails) ];
         error = stops_at_once number holds writes word old new e refused fails same;
       }
+
+  -- whether it was refused or not
+  pub one_write : ((b : B) (e : E) → 0 < writes.room b → writes.write_fails b e → ⊥) → (word : Word) (old new : B) (answer : Result (Unit {0}) E) → writes.writes old word answer new
+      → OnOk answer (holds.words new ≡ word ∷ holds.words old) → OnOk answer (writes.room old ≤ writes.room new + 1) → OnErr answer (holds.words new ≡ holds.words old) → IfErr answer (λ e. writes.write_fails old e)
+      → WritesAll number holds writes (number word ∷ []) old answer new
+  one_write law word old new (Ok done) wrote is room same fails = one_written word old new wrote is room
+  one_write law word old new (Err e) wrote is room same fails = one_refused law word old new e wrote same fails
 
   -- a first part and the rest
   pub then_all : (first last : List ℕ) (old mid new : B) (answer : Result (Unit {0}) E) → WritesAll number holds writes first old (Ok tt) mid → WritesAll number holds writes last mid answer new

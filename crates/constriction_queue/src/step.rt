@@ -204,8 +204,6 @@ pub fn step_onto<Word: WordOf<State>, State: BitArray, Backend: WriteWords<Word>
 {
     let part = narrowed(lower, range, situation, left, p, precision);
     let after = grow(part.lower, part.range, part.situation);
-    match write_step(bulk, part.released, after.top) {
-        Ok(()) => Ok(after),
-        Err(refusal) => Err(refusal),
-    }
+    write_step(bulk, part.released, after.top)?;
+    Ok(after)
 }

@@ -1,8 +1,8 @@
 //! Writing words to a backend.
 //!
 //! Most steps write at most one word. [`write_step`] is inlined, with the code for a step that releases at most one
-//! pending word. If a step releases several pending words, `write_step` calls a function that isn't inlined. Therefore
-//! an encode usually makes no call, except when a vector grows.
+//! pending word. If a step releases several pending words, `write_step` calls [`write_owed`], which isn't inlined. So an
+//! encode usually makes no call, except when a vector grows.
 
 ghost use Rattle.std.specs.Prelude.{◌≡◌, ◌+◌, ◌<◌, ◌≤◌, ◌^◌, ◌++◌, ◌∷◌, ◌⊎◌, [], None, Some, length, IfErr};
 ghost use Rattle.constriction_base.specs.Writing.{Appends, WritesAll};
@@ -20,15 +20,9 @@ fn write_held<Word: BitArray, Backend: WriteWords<Word>>(
     ensures { WritesAll Word.number Backend.Holds Backend.WriteWords.own
         (released_of Word.number (Some held)) bulk.old result bulk.new }
 {
-    match bulk.write(held.first) {
-        Ok(()) => {}
-        Err(error) => return Err(error),
-    }
+    bulk.write(held.first)?;
     for i in 1..held.count.get() {
-        match bulk.write(held.others) {
-            Ok(()) => {}
-            Err(error) => return Err(error),
-        }
+        bulk.write(held.others)?;
     }
     Ok(())
 }
@@ -57,10 +51,7 @@ fn write_word<Word: BitArray, Backend: WriteWords<Word>>(
         (word_of Word.number word) bulk.old result bulk.new }
 {
     match word {
-        Some(word) => match bulk.write(word) {
-            Ok(()) => Ok(()),
-            Err(error) => Err(error),
-        },
+        Some(word) => bulk.write(word),
         None => Ok(()),
     }
 }
@@ -101,32 +92,13 @@ pub fn owed_count<Word: BitArray>(
     held_count(held) + count_in(top) + count_in(last)
 }
 
-/// Writes the words of `held`, then `top`, then `last`, without asking for room. Skips each argument that is `None`.
-fn write_parts<Word: BitArray, Backend: WriteWords<Word>>(
-    bulk: &mut Backend,
-    held: Option<HeldWords<Word>>,
-    top: Option<Word>,
-    last: Option<Word>,
-) -> Result<(), Backend::WriteError>
-    ensures { WritesAll Word.number Backend.Holds Backend.WriteWords.own
-        (owed_of Word.number held top last) bulk.old result bulk.new }
-{
-    match write_released(bulk, held) {
-        Ok(()) => {}
-        Err(error) => return Err(error),
-    }
-    match write_word(bulk, top) {
-        Ok(()) => {}
-        Err(error) => return Err(error),
-    }
-    write_word(bulk, last)
-}
-
 /// Writes the words of `held`, then `top`, then `last`, then the words of `behind`. Skips each `None`.
 ///
 /// If there is any word to write, the call first asks for room for all of them. If the backend refuses room or a write,
-/// the call returns the backend's error.
-pub fn write_owed_behind<Word: BitArray, Backend: WriteWords<Word>>(
+/// the call returns the backend's error. Most steps don't call this function, so it isn't inlined.
+#[cold]
+#[inline(never)]
+pub fn write_owed<Word: BitArray, Backend: WriteWords<Word>>(
     bulk: &mut Backend,
     held: Option<HeldWords<Word>>,
     top: Option<Word>,
@@ -141,32 +113,11 @@ pub fn write_owed_behind<Word: BitArray, Backend: WriteWords<Word>>(
     if count == 0 {
         return Ok(());
     }
-    match bulk.prepare(count) {
-        Ok(()) => {}
-        Err(error) => return Err(error),
-    }
-    match write_parts(bulk, held, top, last) {
-        Ok(()) => {}
-        Err(error) => return Err(error),
-    }
+    bulk.prepare(count)?;
+    write_released(bulk, held)?;
+    write_word(bulk, top)?;
+    write_word(bulk, last)?;
     write_released(bulk, behind)
-}
-
-/// Writes the words of `held`, then `top`, then `last`. Skips each argument that is `None`.
-///
-/// If there is any word to write, the call first asks for room for all of them. If the backend refuses room or a write,
-/// the call returns the backend's error.
-pub fn write_owed<Word: BitArray, Backend: WriteWords<Word>>(
-    bulk: &mut Backend,
-    held: Option<HeldWords<Word>>,
-    top: Option<Word>,
-    last: Option<Word>,
-) -> Result<(), Backend::WriteError>
-    requires { length (released_of Word.number held) + 2 < 2 ^ 64 }
-    ensures { Appends Word.number Backend.Holds Backend.WriteWords.own
-        (owed_of Word.number held top last) bulk.old result bulk.new }
-{
-    write_owed_behind(bulk, held, top, last, None)
 }
 
 /// Writes `first`, then `second` if there is one, after asking for room for all words to write.
@@ -182,42 +133,12 @@ fn write_two<Word: BitArray, Backend: WriteWords<Word>>(
         ⊎ ((Backend.makes_room → ⊥) × Backend.write_fails bulk.old e)) }
 {
     let Some(second) = second else {
-        match bulk.prepare(1) {
-            Ok(()) => {}
-            Err(error) => return Err(error),
-        }
-        return match bulk.write(first) {
-            Ok(()) => Ok(()),
-            Err(error) => Err(error),
-        };
+        bulk.prepare(1)?;
+        return bulk.write(first);
     };
-    match bulk.prepare(2) {
-        Ok(()) => {}
-        Err(error) => return Err(error),
-    }
-    match bulk.write(first) {
-        Ok(()) => {}
-        Err(error) => return Err(error),
-    }
-    match bulk.write(second) {
-        Ok(()) => Ok(()),
-        Err(error) => Err(error),
-    }
-}
-
-/// Writes the words of `held`, then `top` if there is one. This call is rare, so it isn't inlined.
-#[cold]
-#[inline(never)]
-fn write_several<Word: BitArray, Backend: WriteWords<Word>>(
-    bulk: &mut Backend,
-    held: HeldWords<Word>,
-    top: Option<Word>,
-) -> Result<(), Backend::WriteError>
-    requires { length (released_of Word.number (Some held)) + 2 < 2 ^ 64 }
-    ensures { Appends Word.number Backend.Holds Backend.WriteWords.own
-        (owed_of Word.number (Some held) top None) bulk.old result bulk.new }
-{
-    write_owed(bulk, Some(held), top, None)
+    bulk.prepare(2)?;
+    bulk.write(first)?;
+    bulk.write(second)
 }
 
 /// Writes the words of a step: the words of `held`, then `top`. Skips each argument that is `None`.
@@ -246,5 +167,5 @@ pub fn write_step<Word: BitArray, Backend: WriteWords<Word>>(
     if held.count.get() == 1 {
         return write_two(bulk, held.first, top);
     }
-    write_several(bulk, held, top)
+    write_owed(bulk, Some(held), top, None, None)
 }

@@ -7,7 +7,7 @@ ghost use Rattle.constriction_queue.specs.Calls.{SealRefused, SelfDelimitingRefu
 
 use crate::encoder::RangeEncoder;
 use crate::seal::{Seal, sealing, without_first};
-use crate::writing::{owed_count, write_owed, write_owed_behind};
+use crate::writing::{owed_count, write_owed};
 use constriction_base::backends::{BoundedReadWords, Holds, Stack, Words, WriteWords};
 use constriction_words::{BitArray, WordOf};
 use std::marker::Model;
@@ -41,10 +41,8 @@ impl<Word: WordOf<State>, State: BitArray, Backend: WriteWords<Word>> RangeEncod
             situation,
         } = self;
         let seal = sealing(state, situation);
-        match write_owed(&mut bulk, seal.held, seal.point, seal.zero) {
-            Ok(()) => Ok(bulk),
-            Err(refusal) => Err(refusal),
-        }
+        write_owed(&mut bulk, seal.held, seal.point, seal.zero, None)?;
+        Ok(bulk)
     }
 
     /// Returns whether the backend may be full.
@@ -97,10 +95,8 @@ impl<Word: WordOf<State>, State: BitArray, Backend: WriteWords<Word>> RangeEncod
             situation,
         } = self;
         let seal = sealing(state, situation);
-        match write_owed_behind(&mut bulk, seal.held, seal.point, seal.zero, seal.behind) {
-            Ok(()) => Ok(bulk),
-            Err(refusal) => Err(refusal),
-        }
+        write_owed(&mut bulk, seal.held, seal.point, seal.zero, seal.behind)?;
+        Ok(bulk)
     }
 }
 

@@ -78,10 +78,7 @@ impl<Word: WordOf<State>, State: BitArray, A: Allocator> RangeEncoder<Word, Stat
     {
         let seal = sealing(self.state, self.situation);
         let count = owed_count(&seal.held, &seal.point, &seal.zero);
-        match write_owed(&mut self.bulk, seal.held, seal.point, seal.zero) {
-            Ok(()) => {}
-            Err(error) => return Err(error),
-        }
+        write_owed(&mut self.bulk, seal.held, seal.point, seal.zero, None)?;
         Ok(count)
     }
 }

@@ -45,10 +45,7 @@ impl<Word: WordOf<State>, State: BitArray, A: Allocator> RangeEncoder<Word, Stat
         ensures room { OnErr result
             (SealLacksRoom (⟦<Vec<Word, A> as WriteWords<Word>>⟧.room) Word.BITS State.BITS self.old) }
     {
-        let count = match self.put_seal() {
-            Ok(count) => count,
-            Err(error) => return Err(error),
-        };
+        let count = self.put_seal()?;
         let answer = f(self.bulk.as_slice());
         take_back::<Word, Vec<Word, A>>(&mut self.bulk, count);
         Ok(answer)

@@ -2,7 +2,7 @@
 
 ghost use Rattle.std.specs.Prelude.{◌≡◌, ◌+◌, ◌≤◌, ◌<◌, []};
 ghost use Rattle.std.specs.Bool.{OnFalse};
-ghost use Rattle.constriction_base.specs.Steps.{Step};
+ghost use Rattle.constriction_base.specs.Steps.{IsStep};
 ghost use Rattle.constriction_base.specs.declared.errors.DefaultEncoderFrontendError.TheVariants.{ImpossibleSymbol};
 ghost use Rattle.constriction_stream.specs.Symbols.{ByBackend, EncodesSymbol, HasRoom, IsBackendError, never_frontend};
 ghost use Rattle.constriction_queue.specs.States.{lower_of, range_of};
@@ -33,6 +33,60 @@ impl<Word: WordOf<State>, State: BitArray, Backend: Holds<Word, Stack>> Code
     #[inline]
     fn state(&self) -> RangeCoderState<Word, State> {
         self.state
+    }
+}
+
+impl<Word: WordOf<State>, State: BitArray, Backend: WriteWords<Word>> RangeEncoder<
+    Word,
+    State,
+    Backend,
+> {
+    /// Encodes the symbol whose interval begins at quantile `left` and has the length `p`.
+    ///
+    /// `encode_symbol` asks a model for these numbers. A caller who already has them doesn't need a model.
+    ///
+    /// The caller proves that `PRECISION` is at least 1 and at most the number of bits of a word. The caller also proves
+    /// that the interval ends at or below `2^PRECISION`, and that `symbols_left` is at least 1.
+    ///
+    /// # Errors
+    ///
+    /// Returns an error only if the encoder has to write words, and the backend refuses room for the words or refuses a
+    /// write. The interval and the pending words are unchanged. The backend keeps the words that it took before it
+    /// refused. If the backend is a vector, its words are unchanged.
+    ///
+    /// # Examples
+    ///
+    /// ```
+    /// // The same step as that of symbol 1 under a model with the weights 255 and 1.
+    /// if let Some(p) = NonZero::<u8>::new(1) {
+    ///     encoder.encode_interval::<u8, 8>(255, p)?;
+    /// }
+    /// ```
+    #[inline(always)]
+    pub fn encode_interval<P: WordOf<Word>, const PRECISION: usize>(
+        &mut self,
+        left: P,
+        p: P::NonZero,
+    ) -> Result<(), Backend::WriteError>
+        requires step { IsStep Word.BITS
+            record { precision = PRECISION; left = P.number left; p = P.nonzero_number p } }
+        requires symbols_left { 0 < left_to_encode self.old }
+        ensures { EncodeCall Word.number Backend.Holds Backend.WriteWords.own Word.BITS State.BITS self.old
+            record { precision = PRECISION; left = P.number left; p = P.nonzero_number p } result self.new }
+    {
+        let p = P::from_nonzero(p);
+        let after = step_onto(
+            &mut self.bulk,
+            self.state.lower,
+            self.state.range,
+            self.situation,
+            left.widen().widen(),
+            p.widen().widen(),
+            PRECISION as u32,
+        )?;
+        self.state = RangeCoderState::long(after.lower, after.range);
+        self.situation = after.situation;
+        Ok(())
     }
 }
 
@@ -107,22 +161,8 @@ impl<
         let Some((left, p)) = model.left_cumulative_and_probability(symbol) else {
             return Err(CoderError::Frontend(DefaultEncoderFrontendError::ImpossibleSymbol));
         };
-        let p = M::Probability::from_nonzero(p);
-        let (left, p) = (left.widen().widen(), p.widen().widen());
-        match step_onto(
-            &mut self.bulk,
-            self.state.lower,
-            self.state.range,
-            self.situation,
-            left,
-            p,
-            PRECISION as u32,
-        ) {
-            Ok(after) => {
-                self.state = RangeCoderState::long(after.lower, after.range);
-                self.situation = after.situation;
-                Ok(())
-            }
+        match self.encode_interval::<M::Probability, PRECISION>(left, p) {
+            Ok(()) => Ok(()),
             Err(refusal) => Err(CoderError::Backend(refusal)),
         }
     }

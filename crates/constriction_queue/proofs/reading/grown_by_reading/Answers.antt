@@ -1,4 +1,5 @@
 use Rattle.std.proofs.Common.{◌≡◌, ◌+◌, ◌-◌, ◌*◌, ◌%◌, ◌^◌, ◌∷◌, pow_pos, arith, refl, ◌∙◌, sym, inl, inr}
+use Rattle.std.proofs.lemmas.Result.{err_from_is_err_and}
 use Rattle.constriction_base.proofs.Heads.{large_of_shr, small_of_shr}
 use Rattle.constriction_queue.proofs.Parts.{lower_fits, range_fits}
 use Rattle.constriction_queue.proofs.Pointing.{at_long, at_short}
@@ -42,16 +43,17 @@ returns-then-not-is_nothing g c =
       err = tt;
     }
 
-pub returns-in-Err : goal.returns-in-Err
-returns-in-Err g c =
+pub returns-in_err-word : goal.returns-in_err-word
+returns-in_err-word g c =
     let is = rw (c.BITS.ensures, c.BITS-2.ensures) at c.shifted_right.ensures in
     let short = small_of_shr _ _ (sym is ∙ c.if-not-is_nothing.ensures.0 refl) in
-    record {
+    let told = err_from_is_err_and c.from_residual.result c.from_residual.ensures.1 in
+    rw (told.1, told.2) record {
       wide = tt;
       list = λ _. tt;
-      kept = λ list. c.in-Err.ensures.kept list;
+      kept = λ list. c.in_err-word.ensures.kept list;
       reads = tt;
-      err = (short, c.in-Err.ensures.err);
+      err = (short, c.in_err-word.ensures.err);
     }
 
 pub returns : goal.returns
@@ -62,20 +64,20 @@ returns g c =
     let range = rw c.BITS-4.ensures at c.shifted_left-range.ensures in
     let distance = rw (c.shifted_left.ensures, c.BITS-5.ensures, c.widen.ensures) at c.plus-distance.ensures in
     let point : (g.State.BitArray.number c.plus-distance.result + g.State.BitArray.number c.shifted_left-lower.result) % 2 ^ g.State.BitArray.BITS
-    ≡ (g.State.BitArray.number c.args.distance + g.State.BitArray.number c.args.lower) % 2 ^ g.State.BitArray.BITS % 2 ^ (g.State.BitArray.BITS - g.Word.BitArray.BITS) * 2 ^ g.Word.BitArray.BITS + g.Word.BitArray.number c.in-Ok.word =
-    rw (distance, lower) (point_shifted g.Word.BitArray.BITS g.State.BitArray.BITS (g.State.BitArray.number c.args.distance) (g.State.BitArray.number c.args.lower) _ (omega arith) (g.met.Word.BitArray.number_law c.in-Ok.word)) in
+    ≡ (g.State.BitArray.number c.args.distance + g.State.BitArray.number c.args.lower) % 2 ^ g.State.BitArray.BITS % 2 ^ (g.State.BitArray.BITS - g.Word.BitArray.BITS) * 2 ^ g.Word.BitArray.BITS + g.Word.BitArray.number c.in_ok-word.word =
+    rw (distance, lower) (point_shifted g.Word.BitArray.BITS g.State.BitArray.BITS (g.State.BitArray.number c.args.distance) (g.State.BitArray.number c.args.lower) _ (omega arith) (g.met.Word.BitArray.number_law c.in_ok-word.word)) in
     record {
       wide = rw range c.requires.wide;
       list = λ list ws r h.
-          at_short _ _ ws r _ _ _ _ _ _ _ _ _ (omega arith) (g.met.Word.BitArray.number_law _) short lower range point (c.in-Ok.ensures.word list) (c.in-Ok.ensures.rest list) h;
+          at_short _ _ ws r _ _ _ _ _ _ _ _ _ (omega arith) (g.met.Word.BitArray.number_law _) short lower range point (c.in_ok-word.ensures.word list) (c.in_ok-word.ensures.rest list) h;
       kept = λ _. tt;
       reads = inl (
         short,
         (
-          g.Word.BitArray.number c.in-Ok.word,
-          c.in-Ok.ensures.reads,
+          g.Word.BitArray.number c.in_ok-word.word,
+          c.in_ok-word.ensures.reads,
           λ ws r rest h.
-              at_short _ _ ws r _ _ _ _ _ _ _ (g.Word.BitArray.number c.in-Ok.word ∷ rest) rest (omega arith) (g.met.Word.BitArray.number_law _) short lower range point refl refl h,
+              at_short _ _ ws r _ _ _ _ _ _ _ (g.Word.BitArray.number c.in_ok-word.word ∷ rest) rest (omega arith) (g.met.Word.BitArray.number_law _) short lower range point refl refl h,
         ),
       );
       err = tt;

@@ -22,10 +22,10 @@ loop-i-preserved g c =
     record {
       fits = rw is (next_below g.Word.BitArray.BITS c.loop-i.i (g.State.BitArray.number c.loop-i.point) _ c.loop-i.invariant.fits (g.met.Word.BitArray.number_law _));
       point = λ list.
-          let point : number c.in-Ok.next.0 ≡ get_or before c.loop-i.i 0 =
-          c.in-Ok.ensures.word list ∙ ap (λ (ws : List ℕ). get_or ws 0 0) (c.loop-i.invariant.rest list) ∙ first_of c.loop-i.i before in
+          let point : number c.in_ok-next.next.0 ≡ get_or before c.loop-i.i 0 =
+          c.in_ok-next.ensures.word list ∙ ap (λ (ws : List ℕ). get_or ws 0 0) (c.loop-i.invariant.rest list) ∙ first_of c.loop-i.i before in
           rw (add-one, is, point, c.loop-i.invariant.point list) refl;
-      taken = rw add-one (asked_next number g.Backend.ReadWords (2 ^ g.Word.BitArray.BITS) c.loop-i.i (g.State.BitArray.number c.loop-i.point) (number c.in-Ok.next.0) _ c.loop-i.ended c.in-Ok.next.1 _ _ _ c.loop-i.invariant.taken c.in-Ok.ensures.reads is);
-      rest = λ list. rw add-one (c.in-Ok.ensures.rest list ∙ ap (λ (ws : List ℕ). drop 1 ws) (c.loop-i.invariant.rest list) ∙ drop_one c.loop-i.i before);
-      end = c.in-Ok.ensures.end;
+      taken = rw add-one (asked_next number g.Backend.ReadWords (2 ^ g.Word.BitArray.BITS) c.loop-i.i (g.State.BitArray.number c.loop-i.point) (number c.in_ok-next.next.0) _ c.loop-i.ended c.in_ok-next.next.1 _ _ _ c.loop-i.invariant.taken c.in_ok-next.ensures.reads is);
+      rest = λ list. rw add-one (c.in_ok-next.ensures.rest list ∙ ap (λ (ws : List ℕ). drop 1 ws) (c.loop-i.invariant.rest list) ∙ drop_one c.loop-i.i before);
+      end = c.in_ok-next.ensures.end;
     }

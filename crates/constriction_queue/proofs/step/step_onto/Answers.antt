@@ -1,4 +1,5 @@
 use Rattle.std.proofs.Common.{◌++◌, map, arith, ap, refl, sym, ◌∙◌, append_assoc, inl, inr}
+use Rattle.std.proofs.lemmas.Result.{err_from_is_err_and}
 use Rattle.constriction_queue.specs.Range.{grown}
 use Rattle.constriction_queue.specs.Encoder.{released_of, word_of}
 use Rattle.constriction_queue.proofs.Encoders.{is_encoder, owed_are_words}
@@ -9,8 +10,8 @@ pub grow-after-requires-clause-wide : goal.grow-after-requires-clause-wide
 grow-after-requires-clause-wide g c =
     rw c.narrowed-part.ensures.range (cut_wide _ _ _ _ _ c.requires.step.within_word c.requires.sizes.two_words c.requires.step.not_empty c.requires.wide)
 
-pub returns-in-Ok : goal.returns-in-Ok
-returns-in-Ok g c =
+pub returns : goal.returns
+returns g c =
     let number = g.Word.BitArray.number in
     let words = map number (g.Backend.Holds.words c.args.bulk.now) in
     let released = released_of number c.narrowed-part.result.released in
@@ -21,7 +22,7 @@ returns-in-Ok g c =
       ok = record {
         before = is_encoder number g.Backend.Holds _ _ _ _ _ c.args.situation c.requires.sizes c.requires.fit c.requires.wide (g.met.State.BitArray.number_law _) (g.met.State.BitArray.number_law _);
         after = is_encoder number g.Backend.Holds _ _ _ _ _ c.grow-after.result.situation c.requires.sizes c.grow-after.ensures.fit c.grow-after.ensures.wide (g.met.State.BitArray.number_law _) (g.met.State.BitArray.number_law _);
-        narrowed = rw c.in-Ok.ensures.written.words is;
+        narrowed = rw c.in_ok-write_step.ensures.written.words is;
         written = record {
           owed = top ++ released;
           owes = record {
@@ -33,9 +34,9 @@ returns-in-Ok g c =
             fits = c.grow-after.ensures.fit;
             is = is;
           };
-          words = c.in-Ok.ensures.written.words;
-          room_used = c.in-Ok.ensures.written.room_used;
-          untouched = λ none. (c.in-Ok.ensures.written.untouched none).1;
+          words = c.in_ok-write_step.ensures.written.words;
+          room_used = c.in_ok-write_step.ensures.written.room_used;
+          untouched = λ none. (c.in_ok-write_step.ensures.written.untouched none).1;
         };
         held = omega (arith, c.grow-after.ensures.held, c.narrowed-part.ensures.held);
         heads = tt;
@@ -47,15 +48,16 @@ returns-in-Ok g c =
       err = tt;
     }
 
-pub returns-in-Err : goal.returns-in-Err
-returns-in-Err g c =
+pub returns-in_err-write_step : goal.returns-in_err-write_step
+returns-in_err-write_step g c =
     let number = g.Word.BitArray.number in
     let words = map number (g.Backend.Holds.words c.args.bulk.now) in
     let released = released_of number c.narrowed-part.result.released in
     let top = word_of number c.grow-after.result.top in
     let all = c.grow-after.ensures.run (released ++ words) ∙ ap (grown g.Word.BitArray.BITS g.State.BitArray.BITS) (c.narrowed-part.ensures.run words) in
     let is = rw (sym (append_assoc top released words)) at all in
-    record {
+    let told = err_from_is_err_and c.from_residual.result c.from_residual.ensures.1 in
+    rw (told.1, told.2) record {
       err = record {
         before = is_encoder number g.Backend.Holds _ _ _ _ _ c.args.situation c.requires.sizes c.requires.fit c.requires.wide (g.met.State.BitArray.number_law _) (g.met.State.BitArray.number_law _);
         after = is_encoder number g.Backend.Holds _ _ _ _ _ c.args.situation c.requires.sizes c.requires.fit c.requires.wide (g.met.State.BitArray.number_law _) (g.met.State.BitArray.number_law _);
@@ -63,7 +65,7 @@ returns-in-Err g c =
         written = tt;
         held = omega arith;
         heads = record { held = refl; lower = refl; range = refl };
-        kept = λ makes. ap (map number) (c.in-Err.ensures.written.kept makes);
+        kept = λ makes. ap (map number) (c.in_err-write_step.ensures.written.kept makes);
         error = record {
           owed = top ++ released;
           owes = record {
@@ -75,13 +77,13 @@ returns-in-Err g c =
             fits = c.grow-after.ensures.fit;
             is = is;
           };
-          begun = c.in-Err.ensures.written.begun;
-          short = c.in-Err.ensures.written.short;
-          error = elim c.in-Err.ensures.written.error [
+          begun = c.in_err-write_step.ensures.written.begun;
+          short = c.in_err-write_step.ensures.written.short;
+          error = elim c.in_err-write_step.ensures.written.error [
             | inl room ↦ inl room.0
             | inr write ↦ inr write
           ];
-          one = λ none. c.in-Err.ensures.one (c.narrowed-part.ensures.none none);
+          one = λ none. c.in_err-write_step.ensures.one (c.narrowed-part.ensures.none none);
         };
       };
       ok = tt;
