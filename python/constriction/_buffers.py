@@ -10,10 +10,10 @@ import ctypes
 import sys
 from array import array
 from collections.abc import Iterable, Sequence
-from typing import TYPE_CHECKING, Any, SupportsFloat, SupportsIndex, Union
+from typing import TYPE_CHECKING, Any, SupportsFloat, SupportsIndex, Union, overload
 
 __all__ = [
-    "NUMBER", "SYMBOL", "WORD", "Answer", "List", "Numbers", "Parameter", "Real", "Reals", "Symbols", "answered", "lent", "listed",
+    "NUMBER", "SYMBOL", "WORD", "Answer", "Array", "List", "Numbers", "Parameter", "Real", "Reals", "Symbols", "answered", "lent", "listed",
     "room",
 ]  # fmt: skip
 
@@ -95,6 +95,28 @@ class Numbers(Array):
 
     __hash__ = None  # type: ignore[assignment]
 
+    def __getitem__(self, place: Any) -> Any:
+        found = super().__getitem__(place)
+        return self._like(found) if isinstance(place, slice) else found
+
+    def __add__(self, other: Any) -> Numbers:
+        return self._like(super().__add__(other))
+
+    def __mul__(self, times: Any) -> Numbers:
+        return self._like(super().__mul__(times))
+
+    __rmul__ = __mul__
+
+    def __copy__(self) -> Numbers:
+        return self._like(self)
+
+    def __deepcopy__(self, memo: object) -> Numbers:
+        return self._like(self)
+
+    def _like(self, numbers: Array) -> Numbers:
+        """Returns a copy of numbers as this class."""
+        return Numbers(self.typecode, numbers)
+
 
 def lent(memory: Any) -> Any:
     """Returns the memory of a writable buffer as an argument of a C function.
@@ -109,11 +131,24 @@ def listed(memory: Any) -> tuple[Any, int]:
     return lent(memory), len(memory)
 
 
+@overload
 def room(code: str, count: int) -> Numbers:
-    """Returns a list of ``count`` zeros. All memory for C functions comes from this function."""
+    ...
+
+
+@overload
+def room(code: str, count: int, kind: type[array[Any]]) -> array[Any]:
+    ...
+
+
+def room(code: str, count: int, kind: type[array[Any]] = Numbers) -> array[Any]:
+    """Returns a list of ``count`` zeros. All memory for C functions comes from this function.
+
+    An ``array`` has quicker indexing than ``Numbers``, and no caller gets one.
+    """
     if count < 0:
-        raise ValueError("a count is wanted, which isn't negative")
-    numbers = Numbers(code, (0,))
+        raise ValueError(f"expected a count of at least 0, got {count}")
+    numbers = kind(code, (0,))
     numbers *= count
     return numbers
 

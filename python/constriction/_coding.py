@@ -23,13 +23,14 @@ _SYMBOLS_AT_A_TIME, _WEIGHTS_AT_A_TIME = 1 << 16, 4
 #: A C function of a coder. Its arguments are the part of the function's name for the kind of models, a state, the
 #: number of symbols, and the arguments for models and symbols. It returns the state after the call.
 Call = Callable[[str, Any, int, "tuple[Any, ...]"], Any]
+#: Returns an equal state for an encode of so many symbols.
+Ready = Callable[[Any, int], Any]
 
 
-def _parts(count: int, weights: int) -> Iterator[slice]:
-    """Yields slices of a list. There is at least one slice, because a call also checks the weights."""
+def _parts(count: int, weights: int) -> list[slice]:
+    """Returns slices of a list. There is at least one slice, because a call also checks the weights."""
     size = max(_SYMBOLS_AT_A_TIME, _WEIGHTS_AT_A_TIME * weights)
-    for start in range(0, max(count, 1), size):
-        yield slice(start, min(start + size, count))
+    return [slice(start, min(start + size, count)) for start in range(0, max(count, 1), size)]
 
 
 def model_wanted(model: Any, symbols: Any = None) -> NoReturn:
@@ -40,39 +41,46 @@ def model_wanted(model: Any, symbols: Any = None) -> NoReturn:
 
 
 def encoded(
-    state: Any, symbols: Symbols, model: Model, parameters: tuple[Any, ...], encode: Call, backwards: bool
+    state: Any,
+    symbols: Symbols,
+    model: Model,
+    parameters: tuple[Any, ...],
+    encode: Call,
+    backwards: bool,
+    ready: Ready = lambda state, count: state,
 ) -> Any:
     """Returns the state after an encode of the symbols.
 
-    With ``backwards`` the last symbol is encoded first.
+    With ``backwards`` the last symbol is encoded first. The C functions get the state that ``ready`` returns.
     """
     if not isinstance(model, Model):
         model_wanted(model, symbols)
     one = is_one(symbols)
     if not one:
         symbols = sequence_of(symbols)
-        parameters = tuple(it if is_one(it) else sequence_of(it) for it in parameters)
+    parameters = tuple(it if is_one(it) else sequence_of(it) for it in parameters)
     try:
-        return _encoded(state, symbols, model, parameters, encode, backwards)
+        return _encoded(state, symbols, model, parameters, encode, backwards, ready)
     except Refusal as refused:
         given = tuple([it] for it in parameters) if one else parameters
         raise _explained(refused, symbols, model, given) from None
 
 
 def _encoded(
-    state: Any, symbols: Symbols, model: Model, parameters: tuple[Any, ...], encode: Call, backwards: bool
+    state: Any, symbols: Symbols, model: Model, parameters: tuple[Any, ...], encode: Call, backwards: bool, ready: Ready
 ) -> Any:
     if parameters and model.has_rows:
-        return _encoded_under_rows(state, symbols, model, parameters, encode, backwards)
+        return _encoded_under_rows(state, symbols, model, parameters, encode, backwards, ready)
     located = model.located(parameters) if parameters else None
     if parameters and located is None:
         lefts, ps = model.intervals(symbols, parameters)
-        return encode("_intervals", state, len(ps), (*listed(lefts), *listed(ps)))
+        return encode("_intervals", ready(state, len(ps)), len(ps), (*listed(lefts), *listed(ps)))
     weights = model.table() if located is None else ()
     places = places_of(symbols, model.first)
     if located is not None and len(places) != located.symbols:
         raise _other_lengths(len(places), located.symbols, "sets of parameters")
-    parts = list(_parts(len(places), len(weights)))
+    state = ready(state, len(places))
+    parts = _parts(len(places), len(weights))
     for part in reversed(parts) if backwards else parts:
         some = places if len(parts) == 1 else places[part]
         if located is None:
@@ -123,7 +131,7 @@ def _rows(model: Model, given: tuple[Any, ...]) -> Iterator[Sequence[int]]:
 
 
 def _encoded_under_rows(
-    state: Any, symbols: Symbols, model: Model, given: tuple[Any, ...], encode: Call, backwards: bool
+    state: Any, symbols: Symbols, model: Model, given: tuple[Any, ...], encode: Call, backwards: bool, ready: Ready
 ) -> Any:
     """Returns the state after an encode of the symbols, each with its own row of weights."""
     places = places_of(symbols, model.first)
@@ -133,6 +141,7 @@ def _encoded_under_rows(
         end += count
     if len(places) != end:
         raise _other_lengths(len(places), end, f"rows of {model.missing[0]}")
+    state = ready(state, len(places))
     for weights, width, part in reversed(parts) if backwards else parts:
         some = places[part]
         state = encode("_each", state, len(some), (*listed(weights), width, *listed(some)))
@@ -155,11 +164,11 @@ def _in_parts(
 ) -> tuple[Any, Numbers]:
     """Returns the state after decoding ``count`` symbols in several parts, and the symbols."""
     symbols = room(SYMBOL, count)  # Comes first: without memory for all symbols, none is decoded.
-    size = next(_parts(count, weights)).stop
-    if size == count:
-        return decode(state, slice(0, count), symbols), symbols
+    parts = _parts(count, weights)
+    if len(parts) == 1:
+        return decode(state, parts[0], symbols), symbols
     view = memoryview(symbols)
-    for part in _parts(count, weights):
+    for part in parts:
         some = room(SYMBOL, part.stop - part.start)
         state = decode(state, part, some)
         view[part] = memoryview(some)
@@ -229,10 +238,12 @@ def decoded(
     amt: Any,
     decode: Call,
     quantile: Callable[[Any], int],
+    most: Callable[[Any], int] | None = None,
 ) -> tuple[Any, Any]:
     """Returns the state after the next symbols, and the symbols: one, ``amt``, or one for each set of parameters.
 
-    ``quantile`` returns the quantile that selects the next symbol, a number in 0 .. 2^24 - 1.
+    ``quantile`` returns the quantile that selects the next symbol, a number in 0 .. 2^24 - 1. ``most`` returns a number
+    of symbols. A decode of more symbols is refused.
     """
     if not isinstance(model, Model):
         model_wanted(model)
@@ -246,17 +257,22 @@ def decoded(
     counted = len(rest) == 1 and not model.missing and is_one(rest[0]) and hasattr(rest[0], "__index__")
     if len(rest) == 1 and model.complete and not counted:
         raise TypeError(f"a number of symbols is wanted, a whole one, and not {rest[0]!r}")
-    given = rest
+    given, single = rest, not rest
     try:
         if not rest or counted:
-            given = ()
-            state, places = _under_table(state, model, count_of(rest[0]) if rest else 1, decode)
+            given, count = (), count_of(rest[0]) if rest else 1
+            if most is not None:
+                count = min(count, most(state) + 1)  # Enough for the refusal, without memory for all symbols.
+            state, places = _under_table(state, model, count, decode)
         else:
             given = tuple(it if is_one(it) else sequence_of(it) for it in rest)
+            single = model.is_single(given)
+            if single and model.has_rows:
+                given = tuple([it] for it in given)
             state, places = _under_parameters(state, model, given, decode, quantile)
     except (WrongWeightsError, WrongLengthError) as refused:
         own = not given or model.has_rows
         raise (_explained_weights(refused, model, given) if own else model.explained(refused, given)) from None
     symbols = shifted(places, model.first)
-    one = not counted and model.is_single(rest)
+    one = not counted and single
     return state, symbols[0] if one else answered(symbols)

@@ -8,14 +8,15 @@ from __future__ import annotations
 import sys
 from array import array
 from collections.abc import Callable, Iterable, Mapping, Set
+from itertools import islice
 from operator import index
 from typing import Any
 
 from ._buffers import NUMBER, SYMBOL, WORD, List, numpy_module, room
-from .errors import IMPOSSIBLE_SYMBOL, ImpossibleSymbolError, InvalidDataError, Refusal, WrongLengthError
+from .errors import IMPOSSIBLE_SYMBOL, ImpossibleSymbolError, InvalidDataError, Refusal, WrongLengthError, shown
 
 __all__ = [
-    "count_of", "floats_of", "grid_of", "is_one", "listed_of", "places_of", "plain_of", "real", "reals_of", "rows_of",
+    "count_of", "floats_of", "grid_of", "is_one", "is_row", "listed_of", "places_of", "plain_of", "real", "reals_of", "rows_of",
     "sequence_of", "table_of", "whole", "wholes_of", "words_of",
 ]  # fmt: skip
 
@@ -36,6 +37,16 @@ def is_one(it: Any) -> bool:
     return not hasattr(it, "__len__") and not hasattr(it, "__iter__") or getattr(it, "shape", None) == ()
 
 
+def is_row(numbers: Any) -> bool:
+    """Returns whether these are a list of numbers that isn't empty, and no list of rows."""
+    dimensions = getattr(numbers, "ndim", None)
+    if dimensions is not None:
+        return bool(dimensions == 1 and len(numbers))
+    if not hasattr(numbers, "__len__"):
+        return False
+    return isinstance(numbers, array) and len(numbers) > 0 or any(map(is_one, islice(numbers, 1)))
+
+
 def whole(number: Any) -> int:
     """Converts a number to an int. Raises TypeError for floats, even for 2.0."""
     try:
@@ -51,8 +62,11 @@ def real(number: Any) -> float:
         return number  # type: ignore[no-any-return]
     _unmasked(number)
     if issubclass(kind, (str, bytes, bytearray)) or not (hasattr(kind, "__float__") or hasattr(kind, "__index__")):
-        raise TypeError(f"a number is wanted, and not a {kind.__name__}")
-    return float(number)
+        raise TypeError(f"expected a number, got {kind.__name__}")
+    try:
+        return float(number)
+    except OverflowError:
+        raise ValueError(f"expected a number within the range of floats, got a greater {kind.__name__}") from None
 
 
 def count_of(number: Any) -> int:
@@ -62,7 +76,7 @@ def count_of(number: Any) -> int:
     except TypeError:
         raise TypeError(f"a number of symbols is wanted, a whole one, and not {number!r}") from None
     if not 0 <= count <= _MOST:
-        raise ValueError(f"a number of symbols lies between 0 and 2^48, and {count} doesn't")
+        raise ValueError(f"expected a number of symbols between 0 and 2^48, got {shown(count)}")
     return count
 
 
@@ -98,10 +112,15 @@ def _listed(numbers: Any) -> Any:
     except TypeError:
         return numbers
     _flat(view.ndim)
+    return _items(view)
+
+
+def _items(view: memoryview) -> list[Any]:
+    """Returns the items of memory. Raises TypeError if their format is unknown."""
     try:
         return view.tolist()
     except NotImplementedError:
-        text = f"numbers of the form {view.format!r} are not known: import numpy, or convert them"
+        text = f"expected numbers in a format that Python knows, got {view.format!r}: convert them, or import numpy"
         raise TypeError(text) from None
 
 
@@ -197,7 +216,7 @@ def words_of(words: List, name: str = "word", refused: type[Refusal] = InvalidDa
         return wholes_of(WORD, given)
     except OverflowError:
         place, number = next((i, it) for i, it in enumerate(map(whole, listed_of(given))) if it >> 32)
-        raise refused(f"{name} {place} is {number}: a {name} is at least 0 and below 2^32") from None
+        raise refused(f"expected a {name} of at least 0 and below 2^32, got {shown(number)} at place {place}") from None
 
 
 def _signed(symbols: Any) -> Iterable[int]:
@@ -296,20 +315,20 @@ def grid_of(numbers: Any) -> tuple[Any, int]:
 
 def _listed_rows(numbers: Any) -> Any:
     if isinstance(numbers, (str, bytes, bytearray, Mapping, Set)) or is_one(numbers):
-        raise TypeError(f"a list of rows is wanted, one for each symbol, and not a {type(numbers).__name__}")
-    return numbers
+        raise TypeError(f"expected a list of rows, one for each symbol, got {type(numbers).__name__}")
+    if isinstance(numbers, (list, tuple)):
+        return numbers
+    try:
+        view = memoryview(numbers)
+    except TypeError:
+        return numbers
+    return _items(view) if view.ndim == 2 else numbers
 
 
 def rows_of(numbers: Any, row: Callable[[Any], array[Any]]) -> list[array[Any]]:
     """Returns a row for each symbol, from a list of lists or a table of two dimensions."""
     table = _as_numpy(numbers)
     if table is None:
-        if not isinstance(numbers, (list, tuple)):
-            try:
-                view = memoryview(numbers)
-                numbers = view.tolist() if view.ndim == 2 else numbers
-            except TypeError:
-                pass
         return [row(it) for it in _listed_rows(numbers)]
     if table.ndim != 2:
         raise TypeError(f"a row for each symbol is wanted, and not a list of {table.ndim} dimensions")

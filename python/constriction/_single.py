@@ -15,13 +15,15 @@ from ctypes import byref, c_int32, c_int64, c_size_t, c_uint32, c_void_p
 from functools import partial
 from typing import Any
 
-from ._buffers import SYMBOL, WORD, Numbers
+from ._buffers import SYMBOL, WORD, Array
 from ._library import plain_function
 from .stream.model._base import ENDS, TOTAL, UNITS, Model
 
-__all__ = ["Buffer", "Lane", "made", "memory_of"]
+__all__ = ["MANY", "Buffer", "Lane", "made", "memory_of"]
 
 _Way = Callable[[], int]
+#: More calls than a program makes.
+MANY = 1 << 62
 #: Creates an instance of a subclass of ``tuple`` without a call of its ``__new__``.
 made: Any = tuple.__new__
 
@@ -50,14 +52,15 @@ class Lane:
         self._decode_units = _bound(decode.format("_quantized"), *lead, *family, *symbol, *behind_decode)
         self._decode_row = _bound(decode.format(""), *lead, *row, *symbol, *behind_decode)
 
-    #: The state in this memory, or None if it isn't known, and the number of calls for which its buffers have room.
+    #: The state in this memory, or None if it isn't known.
     _kept: Any = None
-    _spare = 0
+    #: The number of encodes, and the number of decodes, before the next ``load``.
+    _encodes = _decodes = 0
 
-    def load(self, state: Any) -> Any:
-        """Writes a state to this memory, and returns the state.
+    def load(self, state: Any, encodes: bool) -> Any:
+        """Writes a state to this memory, and returns an equal state.
 
-        The state then has room for at least one more word.
+        An encode, or a decode, then finds room for its word, and the state doesn't depend on the words in this room.
         """
         raise NotImplementedError
 
@@ -71,36 +74,38 @@ class Lane:
 
     def encode(self, coder: Any, symbol: int, model: Model, given: tuple[Any, ...]) -> bool:
         """Encodes a symbol. Returns whether this succeeded. Otherwise the coder is unchanged."""
-        order = None if given else model._often
-        if order is None:
-            order = model.alone(given)
-            if order is None:
-                return False
-        kind, first, second = order
-        place = symbol - model.first
-        if not 0 <= place < (model.size if kind == UNITS else len(first)):
-            return False
         with coder._lock:
             if coder._busy:
                 return False
-            state = coder._state
-            if state is not self._kept or not self._spare:
-                state = self.load(state)
-            self._spare, self._kept = (
-                self._spare - 1,
-                None,
-            )  # After an interrupt the state in this memory isn't known.
-            if kind == ENDS:
-                left = first[place - 1] if place else 0
-                interval = self._interval
-                interval[0], interval[1] = left, first[place] - left
-                refused = self._encode_interval()
-            else:
-                refused = self._encode_by(kind, place, model, first, second)
-            if refused:
-                return False
-            self._kept = coder._state = self.loaded(state)
-            return True
+            try:
+                coder._busy = True
+                order = None if given else model._often
+                if order is None:
+                    order = model.alone(given)
+                    if order is None:
+                        return False
+                kind, first, second = order
+                place = symbol - model.first
+                if not 0 <= place < (model.size if kind == UNITS else len(first)):
+                    return False
+                state = coder._state
+                if state is not self._kept or not self._encodes:
+                    state = coder._state = self.load(state, True)
+                self._kept = None  # After an interrupt the state in this memory isn't known.
+                self._encodes -= 1
+                if kind == ENDS:
+                    left = first[place - 1] if place else 0
+                    interval = self._interval
+                    interval[0], interval[1] = left, first[place] - left
+                    refused = self._encode_interval()
+                else:
+                    refused = self._encode_by(kind, place, model, first, second)
+                if refused:
+                    return False
+                self._kept = coder._state = self.loaded(state)
+                return True
+            finally:
+                coder._busy = False
 
     def _encode_by(self, kind: int, place: int, model: Model, first: Any, second: Any) -> int:
         """Calls the C function for a location and a scale, or for a row of weights."""
@@ -113,44 +118,51 @@ class Lane:
 
     def decode(self, coder: Any, model: Model, given: tuple[Any, ...]) -> int | None:
         """Decodes the next symbol. Returns None if this isn't possible, and the coder is then unchanged."""
-        order = None if given else model._often
-        if order is None:
-            if given and model.has_rows and hasattr(given[0], "__len__"):
-                return None  # A list of rows decodes to a list of symbols.
-            order = model.alone(given)
-            if order is None:
-                return None
-        kind, first, second = order
         with coder._lock:
             if coder._busy:
                 return None
-            state, place = coder._state, 0
-            if state is not self._kept or not self._spare:
-                state = self.load(state)
-            self._spare, self._kept = (
-                self._spare - 1,
-                None,
-            )  # After an interrupt the state in this memory isn't known.
-            if kind == ENDS:
-                quantile = self.quantile(state)
-                if quantile >= TOTAL:
+            try:
+                coder._busy = True
+                order = None if given else model._often
+                if order is None:
+                    if given and not model.is_single(given):
+                        return None
+                    order = model.alone(given)
+                    if order is None:
+                        return None
+                kind, first, second = order
+                state, place = coder._state, 0
+                if state is not self._kept or not self._decodes:
+                    state = coder._state = self.load(state, False)
+                self._kept = None  # After an interrupt the state in this memory isn't known.
+                self._decodes -= 1
+                if kind == ENDS:
+                    quantile = self.quantile(state)
+                    if quantile >= TOTAL:
+                        return None
+                    place = bisect_right(first, quantile)
+                    left, end = first[place - 1] if place else 0, first[place]
+                    three = self._three
+                    three[0], three[1], three[2] = left, end - left, TOTAL - end
+                    refused = self._decode_three()
+                    place -= 1
+                else:
+                    refused = self._decode_by(kind, model, first, second)
+                if refused:
                     return None
-                place = bisect_right(first, quantile)
-                left, end = first[place - 1] if place else 0, first[place]
-                three = self._three
-                three[0], three[1], three[2] = left, end - left, TOTAL - end
-                refused = self._decode_three()
-                place -= 1
-            elif kind == UNITS:
-                self._take_units(model, first, second)
-                refused = self._decode_units()
-            else:
-                self._row.value, self._width.value = first.buffer_info()
-                refused = self._decode_row()
-            if refused:
-                return None
-            self._kept = coder._state = self.loaded(state)
-            return place + self._place[0] + model.first
+                place += self._place[0] + model.first
+                self._kept = coder._state = self.loaded(state)
+                return place
+            finally:
+                coder._busy = False
+
+    def _decode_by(self, kind: int, model: Model, first: Any, second: Any) -> int:
+        """Calls the C function for a location and a scale, or for a row of weights."""
+        if kind == UNITS:
+            self._take_units(model, first, second)
+            return self._decode_units()
+        self._row.value, self._width.value = first.buffer_info()
+        return self._decode_row()
 
     def _take_units(self, model: Any, location: int, scale: int) -> None:
         if model is not self._model:
@@ -165,7 +177,7 @@ class Buffer:
     def __init__(self) -> None:
         self.address, self.capacity, self._memory = c_void_p(), c_size_t(), None
 
-    def take(self, memory: Numbers) -> None:
+    def take(self, memory: Array) -> None:
         """Stores the address of ``memory``. The memory doesn't move while it exists, because no code makes it longer.
         """
         if memory is not self._memory:

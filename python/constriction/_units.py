@@ -156,13 +156,11 @@ def wrong_row(floats: Any, width: int) -> WrongWeightsError:
         return WrongWeightsError("a mixture has at least one component, and rows of none were handed in")
     for start in range(0, len(floats), width):
         row = [float(it) for it in floats[start : start + width]]
-        total = sum(round(it * _SHARES) for it in row)
-        if not 0 < total <= _MOST_SHARES * _SHARES:
+        if max(row) >= _MOST_SHARES or not 0 < sum(round(it * _SHARES) for it in row) <= _MOST_SHARES * _SHARES:
             return WrongWeightsError(
-                f"the weights of symbol {start // width} add up to {sum(row)},"
-                " and have to add up to more than 0, and to 2 at most"
+                f"expected weights with a sum above 0 and of at most 2, got a sum of {sum(row)} for symbol {start // width}"
             )
-    return WrongWeightsError("the weights of each symbol have to add up to more than 0, and to 2 at most")
+    return WrongWeightsError("expected weights with a sum above 0 and of at most 2")
 
 
 def parts_of(probabilities: array[float]) -> array[int]:

@@ -3,12 +3,15 @@
 from __future__ import annotations
 
 import sys
-from typing import Any, NamedTuple
+from array import array
+from typing import Any, NamedTuple, TypeVar
 
-from ._buffers import WORD, List, Numbers, lent, room
+from ._buffers import WORD, Array, List, Numbers, lent, room
 from ._numbers import words_of
 
 __all__ = ["Words", "copied", "packed", "unpacked"]
+
+Memory = TypeVar("Memory", bound=Array)
 
 
 class Words(NamedTuple):
@@ -17,19 +20,20 @@ class Words(NamedTuple):
     A longer list of words may be in the same buffer. A coder's lock makes sure that only one list is used at a time.
     """
 
-    memory: Numbers
+    memory: Array
     length: int
 
-    def reserve(self, more: int) -> Words:
+    def reserve(self, more: int, kept: int = 0) -> Words:
         """Returns the same words, with room for ``more`` more words.
 
-        The words are copied only if the buffer has too little room.
+        Only if the buffer has too little room, the words are copied to a new buffer, or the buffer's first ``kept``
+        words if these are more.
         """
         wanted, capacity = self.length + more, len(self.memory)
         if wanted <= capacity:
             return self
-        memory = room(WORD, max(wanted, capacity + capacity // 2))
-        memoryview(memory)[: self.length] = memoryview(self.memory)[: self.length]
+        memory, kept = room(WORD, max(wanted, capacity + capacity // 2), array), max(kept, self.length)
+        memoryview(memory)[:kept] = memoryview(self.memory)[:kept]
         return Words(memory, self.length)
 
     def lent(self) -> tuple[Any, int]:
@@ -37,20 +41,20 @@ class Words(NamedTuple):
         return lent(self.memory), len(self.memory)
 
     def numbers(self) -> Numbers:
-        """Returns a copy of the words in use."""
+        """Returns a copy of the words in use, as a caller gets it."""
         copy = room(WORD, self.length)
         memoryview(copy)[:] = memoryview(self.memory)[: self.length]
         return copy
 
     def clone(self) -> Words:
         """Returns a copy in a buffer of its own."""
-        return Words(self.numbers(), self.length)
+        return Words(self.memory[: self.length], self.length)
 
 
 def copied(given: List = ()) -> Words:
     """Returns a copy of these words."""
     memory = words_of(given)
-    copy = room(WORD, max(len(memory), 4))
+    copy = room(WORD, max(len(memory), 4), array)
     memoryview(copy)[: len(memory)] = memoryview(memory)
     return Words(copy, len(memory))
 
@@ -62,12 +66,12 @@ def packed(numbers: Words) -> bytes:
 
 def unpacked(data: bytes) -> Words:
     """Returns the words from bytes. This is the inverse of ``packed``."""
-    memory = room(WORD, 0)
+    memory = room(WORD, 0, array)
     memory.frombytes(data)
     return Words(swapped(memory), len(memory))
 
 
-def swapped(numbers: Numbers) -> Numbers:
+def swapped(numbers: Memory) -> Memory:
     """Returns these words with the lowest byte first. The function is its own inverse."""
     if sys.byteorder == "big":
         numbers.byteswap()

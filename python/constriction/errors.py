@@ -74,13 +74,19 @@ NO_WHOLE_WORDS = "the coder holds no whole number of words"
 NO_SUCH_POSITION = "there is no such position"
 
 
+def shown(number: int) -> str:
+    """Returns a whole number as text, or the number of its bits if these are more than 128."""
+    bits = number.bit_length()
+    return str(number) if bits <= 128 else f"a {'negative ' * (number < 0)}number of {bits} bits"
+
+
 def impossible(symbol: int, place: int | None, first: int, count: int) -> ImpossibleSymbolError:
     """Returns the exception for a symbol. The model has the ``count`` symbols from ``first`` upwards."""
     where = "" if place is None else f" at place {place}"
     if 0 <= symbol - first < count:
         text = f"{IMPOSSIBLE_SYMBOL} Its model gives symbol {symbol}{where} the weight 0."
     else:
-        text = f"{IMPOSSIBLE_SYMBOL} Its model has {first} .. {first + count - 1}, and symbol {symbol}{where} is none of them."
+        text = f"{IMPOSSIBLE_SYMBOL} Expected {first} .. {first + count - 1}, got {shown(symbol)}{where}."
     it = ImpossibleSymbolError(text)
     it.symbol, it.place = symbol, place
     return it

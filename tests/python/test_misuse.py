@@ -3,6 +3,7 @@ nothing changes."""
 
 from __future__ import annotations
 
+import ctypes
 import math
 import os
 import subprocess
@@ -10,6 +11,7 @@ import sys
 import unittest
 from array import array
 from collections.abc import Callable
+from fractions import Fraction
 from pathlib import Path
 from typing import Any
 
@@ -20,7 +22,8 @@ from constriction.store import Store
 from constriction.stream.chain import ChainCoder
 
 from constriction.stream.model import (
-    Bernoulli, Binomial, Categorical, CustomModel, QuantizedCauchy, QuantizedGaussian, QuantizedLaplace, Uniform, WeightTable,
+    Bernoulli, Binomial, Categorical, CustomModel, QuantizedCauchy, QuantizedGaussian, QuantizedLaplace, QuantizedMixture, Uniform,
+    WeightTable,
 )  # fmt: skip
 from constriction.stream.queue import RangeDecoder, RangeEncoder
 from constriction.stream.stack import AnsCoder
@@ -357,6 +360,58 @@ class WholeCounts(unittest.TestCase):
         for counts in ([3, 0, 5], [1], [7, 7, 7], [0, 0, 1], [10**15, 1]):
             self.assertEqual(list(Categorical(counts).table()), models.weights_of(counts))
             self.assertEqual(list(Categorical([float(it) for it in counts]).table()), models.weights_of(counts))
+
+
+class PastFloats(Misuse):
+    """Numbers past the floats, and memory of unknown formats, raise what the page says."""
+
+    def test_numbers(self) -> None:
+        for huge in (10**400, -(10**400), Fraction(10**400), 10**5000):
+            calls: list[Callable[[], Any]] = [
+                lambda: QuantizedGaussian(-9, 9, huge, 1.0), lambda: QuantizedGaussian(-9, 9, 0.0, huge), lambda: QuantizedCauchy(-9, 9, huge, 1.0),
+                lambda: Bernoulli(huge), lambda: Binomial(9, huge), lambda: Categorical([0.5, huge]), lambda: EncoderHuffmanTree([0.5, huge]),
+                lambda: AnsCoder([5]).decode(CustomModel(lambda x: huge, None, 0, 9)), lambda: AnsCoder([5]).decode(Bernoulli(), [huge]),
+                lambda: AnsCoder([5]).decode(QuantizedGaussian(-9, 9), [huge], [1.0]), lambda: AnsCoder([5]).decode(QuantizedGaussian(-9, 9), 0.0, huge),
+                lambda: AnsCoder([5]).decode(Binomial(), [huge], [0.5]), lambda: AnsCoder([5]).decode(Uniform(), [huge]),
+            ]  # fmt: skip
+            for call in calls:
+                self.assertRaises(ValueError, call)
+        for size in (10**400, -(10**400), 10**5000):
+            for call in (lambda: Binomial(size, 0.5), lambda: Uniform(size), lambda: AnsCoder([5]).decode(Uniform(3), size)):
+                self.assertRaises(ValueError, call)
+            self.assertRaises(errors.ImpossibleSymbolError, AnsCoder().encode_reverse, size, Uniform(3))
+            self.assertRaises(errors.WrongWeightsError, WeightTable, [size])
+
+    def test_weights_of_a_mixture(self) -> None:
+        of, coder = QuantizedMixture(QuantizedGaussian(-9, 9)), AnsCoder([5, 6])
+        for weights in ([1e308], [1e308, 1e308], [0.5, 1.7e308], [1e10, 1.0]):
+            rest = [0.0] * len(weights), [1.0] * len(weights)
+            for calls in ((coder.decode, (of, [weights], [rest[0]], [rest[1]])), (coder.encode_reverse, (1, of, weights, *rest))):
+                self.assertRaisesRegex(errors.WrongWeightsError, "sum", calls[0], *calls[1])  # type: ignore[arg-type]
+
+    def test_rows_of_an_unknown_format(self) -> None:
+        turned = (ctypes.c_uint32.__ctype_be__ * 2 * 3)()
+        for model in (WeightTable(), Categorical()):
+            self.assertRaises(TypeError, AnsCoder([5]).decode, model, turned)
+            self.assertRaises(TypeError, AnsCoder([5]).encode_reverse, [1, 1, 1], model, turned)
+
+
+class WholeNumbersOfClasses(unittest.TestCase):
+    def test_counts(self) -> None:
+        class Count:
+            def __init__(self, of: int) -> None:
+                self.of = of
+
+            def __index__(self) -> int:
+                return self.of
+
+        for counts in ([5, 3, 0, 1 << 63], [1], [2, 2]):
+            given: Any = list(map(Count, counts))
+            for some in (given, tuple(given), [counts[0], *given[1:]]):
+                self.assertEqual(list(Categorical(some).table()), list(Categorical(counts).table()))
+            coder = AnsCoder()
+            coder.encode_reverse([0], Categorical(), [given])
+            self.assertEqual(coder.decode(Categorical(), given), 0)
 
 
 class Stores(unittest.TestCase):

@@ -152,6 +152,23 @@ class Equal(unittest.TestCase):
         other.encode_reverse(other.decode(Uniform(7), 200), Uniform(7))
         self.assertEqual(coder, other)
 
+    def test_bits_past_the_length(self) -> None:
+        """What a buffer has above a coder's bits makes no difference."""
+        golomb, tree = ExpGolomb(), EncoderHuffmanTree([2, 2, 4, 1, 1])
+        for count in range(40):
+            stack, queue = StackCoder(), QueueEncoder()
+            stack.encode_reverse([5] * count, golomb), queue.encode([5] * count, golomb)
+            longer, again = stack.clone(), StackCoder(stack.get_compressed()[0])
+            longer.encode_reverse([7, 9], golomb)
+            longer.decode(golomb, 2)
+            for it in (longer, again):
+                self.assertEqual((it, pickle.dumps(it)), (stack, pickle.dumps(stack)))
+            other = queue.clone()
+            with self.assertRaises(errors.ImpossibleSymbolError):
+                other.encode([3, 4, 5], tree)  # Two codewords are in the buffer by then.
+            self.assertEqual((other, pickle.dumps(other)), (queue, pickle.dumps(queue)))
+            self.assertNotEqual(longer, other)
+
     def test_models(self) -> None:
         def made() -> list[Any]:
             return [
@@ -280,6 +297,26 @@ class Threads(unittest.TestCase):
         with self.assertRaises(RuntimeError):
             coder.decode(CustomModel(cdf, None, 0, 9), [1.0, 2.0])
         self.assertEqual(coder.pos(), before)
+
+        def fixed(x: float) -> float:
+            coder.encode_reverse(1, HALVES)
+            return x / 9
+
+        class Half:
+            def __float__(self) -> float:
+                coder.decode(HALVES)
+                return 0.5
+
+        coder.decode(HALVES), coder.encode_reverse(1, HALVES)
+        before = coder.pos()
+        calls: list[Callable[[], Any]] = [
+            lambda: coder.decode(CustomModel(fixed, None, 0, 9)), lambda: coder.encode_reverse(1, CustomModel(fixed, None, 0, 9)),
+            lambda: coder.decode(QuantizedGaussian(-9, 9), Half(), 1.0), lambda: coder.encode_reverse(1, QuantizedGaussian(-9, 9), 0.0, Half()),
+        ]  # fmt: skip
+        for call in calls:
+            for _ in range(4):
+                self.assertRaises(RuntimeError, call)
+                self.assertEqual(coder.pos(), before)
         coder.decode(HALVES)
 
 
@@ -291,12 +328,12 @@ class Memory(unittest.TestCase):
             seen = 0
             original = definitions_room
 
-            def room(code: str, count: int) -> Any:
+            def room(*given: Any) -> Any:
                 nonlocal seen
                 seen += 1
                 if seen == place + 1:
                     raise MemoryError
-                return original(code, count)
+                return original(*given)
 
             with mock.patch.multiple(_words, room=room), patched(room):
                 try:

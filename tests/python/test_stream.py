@@ -7,9 +7,12 @@ import pickle
 import random
 import unittest
 from array import array
+from collections.abc import Iterator
+from typing import Any
+from unittest import mock
 
 import definitions
-from constriction import _library, errors
+from constriction import _buffers, _coding, _library, _words, errors
 from constriction.stream import chain, queue, stack
 from constriction.stream.chain import ChainCoder
 from constriction.stream.model import Categorical, QuantizedGaussian, Uniform, WeightTable
@@ -183,6 +186,45 @@ class Ans(unittest.TestCase):
         with self.assertRaises(TypeError):
             AnsCoder(b"words")
         self.assertEqual((coder.pos(), coder.get_compressed()), before)
+
+    def test_words_ahead_of_a_refused_list(self) -> None:
+        """A list with rows of several widths is refused in its last part, or a list of 2^17 symbols in its second."""
+        coder, symbols = AnsCoder(), [i * 11 % 256 for i in range(256)]
+        coder.encode_reverse(symbols, Uniform(256))
+        end, begin, words = coder.pos(), coder.clone(), coder.get_compressed().tolist()
+        begin.decode(Uniform(256), 256)
+        for wrong, model, *rows in (
+            ([9] + [1] * 200, WeightTable(), [[1 << 24]] + [[1 << 23, 1 << 23]] * 200),
+            ([9] + [1] * (1 << 17), HALVES),
+        ):
+            self.assertEqual(coder.decode(Uniform(256), 256).tolist(), symbols)
+            self.assertRaises(errors.ImpossibleSymbolError, coder.encode_reverse, wrong, model, *rows)
+            self.assertEqual((coder, pickle.dumps(coder)), (begin, pickle.dumps(begin)))
+            coder.seek(*end)
+            self.assertEqual(coder.get_compressed().tolist(), words)
+
+    def test_words_ahead_of_an_encode(self) -> None:
+        """Only an encode that writes a word gives up the words ahead, whatever room the buffer has."""
+        fixed = WeightTable([1, (1 << 24) - 1])
+        for count in (1, 2, 3, 4, 7, 40):
+            for symbols in (1, [1], [1] * 9, [1] * 99):
+                coder = AnsCoder(list(range(5, 5 + count)))
+                coder.decode(Uniform(2), 7)
+                end, words = coder.pos(), coder.get_compressed().tolist()
+                coder.seek(0, 1)
+                before = coder.clone()
+                coder.encode_reverse(symbols, fixed)
+                if isinstance(symbols, list):
+                    coder.decode(fixed, len(symbols))
+                else:
+                    coder.decode(fixed)
+                self.assertEqual(pickle.dumps(coder), pickle.dumps(before))
+                coder.seek(*end)
+                self.assertEqual(coder.get_compressed().tolist(), words)
+                coder.seek(0, (1 << 64) - 1)
+                coder.encode_reverse([0], fixed)  # It writes a word.
+                if end[0] > 1:
+                    self.assertRaises(errors.WrongLengthError, coder.seek, *end)
 
     def test_lists_beside_the_definition(self) -> None:
         dice = random.Random(2)
@@ -389,6 +431,38 @@ class Chain(unittest.TestCase):
         one, other = ChainCoder(words), ChainCoder(words)
         one.decode(TWO, 5), other.decode(Uniform(1000), 5)
         self.assertEqual(one.decode(Uniform(7), 20), other.decode(Uniform(7), 20))
+
+    def test_counts_past_the_words(self) -> None:
+        """A decode of more symbols than the words have asks for no memory for all of them."""
+        asked: list[int] = []
+        original = _buffers.room
+
+        def room(code: str, count: int, *kind: Any) -> Any:
+            asked.append(count)
+            return original(code, count, *kind)
+
+        for words, seal in (([1, 2, 3, 4], False), ([1, 2, 3, 4], True), ([9] * 60, True), ([1 << 31] * 3, False)):
+            coder = ChainCoder(words, seal=seal)
+            for skipped in range(4):
+                most = sum(1 for _ in self.symbols(coder.clone()))
+                with mock.patch.object(_coding, "room", room), mock.patch.object(_words, "room", room):
+                    for count in (most + 1, most + 2, 10**6, 10**13):
+                        before, asked[:] = coder.get_remainders(), []
+                        self.assertRaisesRegex(errors.OutOfDataError, r"^Out of compressed data\.$", coder.decode, Uniform(7), count)
+                        self.assertRaises(errors.WrongWeightsError, coder.decode, WeightTable([5]), count)
+                        self.assertLess(max(asked), 200)
+                        self.assertEqual(coder.get_remainders(), before)
+                self.assertEqual(len(coder.clone().decode(Uniform(7), most)), most)
+                if most:
+                    coder.decode(Uniform(7))
+
+    def symbols(self, coder: ChainCoder) -> Iterator[int]:
+        """Decodes symbols until the words end."""
+        try:
+            while True:
+                yield coder.decode(Uniform(7))
+        except errors.OutOfDataError:
+            pass
 
     def test_refusals(self) -> None:
         coder = ChainCoder([1, 2, 3, 4])

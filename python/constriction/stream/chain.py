@@ -69,6 +69,11 @@ def _quantile(state: _State) -> int:
     return bits & 0xFFFFFF
 
 
+def _most(state: _State) -> int:
+    """Returns the number of symbols that the compressed words suffice for. Each symbol takes 24 bits."""
+    return (32 * state.compressed.length + state.heads[1].bit_length() - 1) // 24
+
+
 class _Lane(Lane):
     def __init__(self) -> None:
         self._heads, self._below, self._above = ChainHeads(), Buffer(), Buffer()
@@ -78,7 +83,7 @@ class _Lane(Lane):
         lead = byref(self._heads), *below, *above
         super().__init__(lead, "chain_encode{}_reverse", "chain_decode{}", (byref(c_size_t()),))
 
-    def load(self, state: _State) -> _State:
+    def load(self, state: _State, encodes: bool) -> _State:
         """Writes a state to this memory, and returns the state.
 
         Each stack gets room for one more word, because a decode or an encode moves at most one word.
@@ -88,7 +93,7 @@ class _Lane(Lane):
         self._above.take(remainders.memory)
         self._lengths[0].value, self._lengths[1].value = compressed.length, remainders.length
         self._heads.remainders, self._heads.compressed = state.heads
-        self._spare = min(len(it.memory) - it.length for it in (compressed, remainders))
+        self._encodes, self._decodes = (len(it.memory) - it.length for it in (compressed, remainders))
         return _State(compressed, remainders, state.heads)
 
     def loaded(self, before: _State) -> _State:
@@ -169,7 +174,7 @@ class ChainCoder(Coder):
                 symbol = self._decoded_alone(model, amt_or_parameters)
             if symbol is not None:
                 return symbol
-        return self._changed(lambda it: decoded(it, model, amt_or_parameters, amt, _decode, _quantile))
+        return self._changed(lambda it: decoded(it, model, amt_or_parameters, amt, _decode, _quantile, _most))
 
     def _made_lane(self) -> Lane:
         self._lane = _Lane()

@@ -12,7 +12,7 @@ from .._coder import Coder
 from .._coding import decoded, encoded
 from .._library import RangeDecoderState, RangeEncoderState, call
 from .._numbers import whole
-from .._single import Buffer, Lane, made, memory_of
+from .._single import MANY, Buffer, Lane, made, memory_of
 from .._words import Words, copied, packed, unpacked
 from .model import Model
 
@@ -84,14 +84,14 @@ class _WritingLane(Lane):
         lead = byref(self._state), self._words.address, self._words.capacity, byref(self._length)
         super().__init__(lead, "range_encode{}", "")
 
-    def load(self, state: _Writing) -> _Writing:
+    def load(self, state: _Writing, encodes: bool) -> _Writing:
         numbers, it = state.numbers, self._state
         words = state.words.reserve(numbers[2] + 1)
         if words is not state.words:
             state = _Writing(words, numbers)
         self._words.take(words.memory)
         it.lower, it.range, it.held, it.first = numbers
-        self._length.value, self._spare = words.length, len(words.memory) - words.length - numbers[2]
+        self._length.value, self._encodes = words.length, len(words.memory) - words.length - numbers[2]
         return state
 
     def loaded(self, before: _Writing) -> _Writing:
@@ -107,12 +107,12 @@ class _ReadingLane(Lane):
         self._words, self._numbers, self._length = Buffer(), array("Q", (0,) * 4), c_size_t()
         super().__init__((memory_of(self._numbers), self._words.address, self._length), "", "range_decode{}")
 
-    def load(self, state: _Reading) -> _Reading:
+    def load(self, state: _Reading, encodes: bool) -> _Reading:
         words, numbers = state
         self._words.take(words.memory)
         for i, number in enumerate(numbers):
             self._numbers[i] = number
-        self._length.value, self._spare = words.length, 1 << 62  # A decoder writes no words.
+        self._length.value, self._decodes = words.length, MANY  # A decoder writes no words.
         return state
 
     def loaded(self, before: _Reading) -> _Reading:

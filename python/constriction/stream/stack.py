@@ -12,7 +12,7 @@ from .._coder import Coder
 from .._coding import decoded, encoded
 from .._library import call
 from .._numbers import whole
-from .._single import Buffer, Lane, made, memory_of
+from .._single import MANY, Buffer, Lane, made, memory_of
 from .._words import Words, copied, packed, unpacked
 from .model import Model
 
@@ -20,26 +20,51 @@ __all__ = ["AnsCoder"]
 
 
 class _State(NamedTuple):
-    """The words in use, and the head above them.
+    """The words in use, the head above them, and the words ahead, to which ``seek`` goes forward.
 
-    The first ``top`` words of the buffer are as they were when the coder had ``top`` words. A decode leaves the words
-    that it takes off in the buffer, until an encode writes other words in their place.
+    The first ``top`` words of the buffer are the words in use and then the words ahead. A decode leaves the words that
+    it takes off as words ahead, until an encode writes a word.
+
+    An encode may write over words ahead and then fail. So their copies are in ``saved`` before it begins: the index of
+    the first of them in the buffer, and the words. What the buffer has in their place has no meaning.
     """
 
     words: Words
     head: int
     top: int
+    saved: tuple[int, array[Any]] | None = None
+
+
+def _whole(state: _State) -> _State:
+    """Returns an equal state, whose words ahead are all in the buffer."""
+    if state.saved is None:
+        return state
+    start, ahead = state.saved
+    memoryview(state.words.memory)[start : start + len(ahead)] = memoryview(ahead)
+    return state._replace(saved=None)
+
+
+def _writable(state: _State, count: int) -> _State:
+    """Returns an equal state that doesn't depend on the buffer where an encode of ``count`` symbols writes words."""
+    length, top = state.words.length, state.top
+    if length == top:
+        return state  # There are no words ahead.
+    state = _whole(state)
+    return state._replace(saved=(length, state.words.memory[length : min(top, length + count)]))
 
 
 def _behind(before: _State, words: Words, length: int, head: int) -> _State:
     """Returns the state after a step. The step left ``length`` words in use in the buffer of ``words``, and ``head``.
+
+    Only an encode that writes words gives up the words ahead.
     """
-    kept = length <= before.words.length and words.memory is before.words.memory
-    return _State(Words(words.memory, length), head, before.top if kept else length)
+    if length > before.words.length:
+        return _State(Words(words.memory, length), head, length)
+    return _State(Words(words.memory, length), head, before.top, before.saved)
 
 
 def _encode(kind: str, state: _State, count: int, arguments: tuple[Any, ...]) -> _State:
-    words = state.words.reserve(count)  # A step writes at most one word.
+    words = state.words.reserve(count, state.top)  # A step writes at most one word.
     head, length, needed = c_uint64(state.head), c_size_t(words.length), c_size_t(0)
     call(f"ans_encode{kind}_reverse", byref(head), *words.lent(), byref(length), *arguments, byref(needed))
     return _behind(state, words, length.value, head.value)
@@ -62,22 +87,29 @@ class _Lane(Lane):
         lead = memory_of(self._head), self._words.address, self._words.capacity, byref(self._length)
         super().__init__(lead, "ans_encode{}_reverse", "ans_decode{}")
 
-    def load(self, state: _State) -> _State:
-        words = state.words.reserve(1)
-        memory, length = words
-        if words is not state.words:
-            state = _State(words, state.head, length)
+    def load(self, state: _State, encodes: bool) -> _State:
+        if encodes:
+            state = _writable(state, 1)
+            words = state.words.reserve(1, state.top)
+            if words is not state.words:
+                state = state._replace(words=words)
+        memory, length = state.words
         self._words.take(memory)
-        self._head[0], self._length.value, self._spare = state.head, length, len(memory) - length
+        self._head[0], self._length.value = state.head, length
+        self._encodes, self._decodes = len(memory) - length if encodes else 0, MANY
         return state
 
     def loaded(self, before: _State) -> _State:
-        words, _, top = before
+        words, _, top, saved = before
         memory, old = words
         length = self._length.value
         if length != old:
-            words, top = made(Words, (memory, length)), top if length < old else length
-        return made(_State, (words, self._head[0], top))  # type: ignore[no-any-return]
+            words = made(Words, (memory, length))
+            if length < old:
+                self._encodes = 0  # The word that was taken off is ahead, so ``load`` comes before the next encode.
+            else:
+                top, saved = length, None
+        return made(_State, (words, self._head[0], top, saved))  # type: ignore[no-any-return]
 
     def quantile(self, state: _State) -> int:
         return state[1] & 0xFFFFFF
@@ -130,7 +162,12 @@ class AnsCoder(Coder):
         ):
             return
         if not self._encoded_alone(symbols, model, parameters):
-            self._changed(lambda it: (encoded(it, symbols, model, parameters, _encode, True), None))
+            self._changed(lambda it: (encoded(it, symbols, model, parameters, _encode, True, self._ready), None))
+
+    def _ready(self, state: _State, count: int) -> _State:
+        """Replaces the state by an equal one before an encode of ``count`` symbols writes over words ahead."""
+        self._state = state = _writable(state, count)
+        return state
 
     @overload
     def decode(self, model: Model) -> int:
@@ -225,8 +262,8 @@ class AnsCoder(Coder):
     def seek(self, position: SupportsIndex, state: SupportsIndex) -> None:
         """Moves the coder to a position that ``pos`` returned.
 
-        The coder can move back, and forward again as long as no encode has written over the words in between. The call
-        copies no words, so a coder can visit many positions of the same words in any order.
+        The coder can move back, and forward again until an encode writes a word. The call copies no words, so a coder
+        can visit many positions of the same words in any order.
 
         Raises :class:`WrongLengthError` if the coder has no such position.
         """
@@ -235,7 +272,7 @@ class AnsCoder(Coder):
         def go(now: _State) -> tuple[_State, None]:
             if not 0 <= length <= now.top or not 0 <= head < 1 << 64:
                 raise errors.WrongLengthError(errors.NO_SUCH_POSITION)
-            return _State(Words(now.words.memory, length), head, now.top), None
+            return _State(Words(_whole(now).words.memory, length), head, now.top), None
 
         self._changed(go)
 
@@ -250,7 +287,7 @@ class AnsCoder(Coder):
         return f"{state.words.length} words, and a head of {state.head.bit_length()} bits"
 
     def _plain(self, state: _State) -> tuple[Any, ...]:
-        return packed(Words(state.words.memory, state.top)), state.head, state.words.length
+        return packed(Words(_whole(state).words.memory, state.top)), state.head, state.words.length
 
     def _unplain(self, plain: tuple[Any, ...]) -> _State:
         kept = unpacked(plain[0])

@@ -39,8 +39,11 @@ class Bits(NamedTuple):
         return number & ((1 << (end - start)) - 1)
 
     def clone(self) -> Bits:
-        """Returns a copy in a buffer of its own."""
-        return Bits(self.memory[: (self.length + 7) >> 3], self.length)
+        """Returns a copy in a buffer of its own, in which zero bits fill the last byte."""
+        copy = self.memory[: (self.length + 7) >> 3]
+        if self.length & 7:
+            copy[-1] &= (1 << (self.length & 7)) - 1
+        return Bits(copy, self.length)
 
 
 def bits_of(words: List) -> Bits:

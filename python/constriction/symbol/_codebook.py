@@ -35,6 +35,10 @@ class Codebook:
         """Reads bits with ``bit`` until they are a codeword, and returns the codeword's symbol."""
         raise NotImplementedError
 
+    def shortest(self) -> int:
+        """Returns the length of the shortest codeword in bits."""
+        raise NotImplementedError
+
     def longest(self) -> int:
         """Returns the length of the longest codeword in bits."""
         raise NotImplementedError

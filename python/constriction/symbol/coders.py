@@ -155,8 +155,8 @@ def _read_list(state: _Place, codebook: Codebook, count: int) -> tuple[_Place, N
 
     For a long list the call uses a C function, if the words hold the whole list.
     """
-    if count >= _LONG:
-        bits, place = state
+    bits, place = state
+    if count >= _LONG and count * codebook.shortest() <= bits.length - place:
         end = min(bits.length, place + count * codebook.longest())
         found = _by_library(codebook, bits.part(place, end), end - place, count, False)
         if found is not None:
@@ -303,7 +303,7 @@ def _take_list(bits: Bits, codebook: Codebook, count: int) -> tuple[Bits, Number
 
     For a long list the call uses a C function, if the stack holds the whole list.
     """
-    if count >= _LONG:
+    if count >= _LONG and count * codebook.shortest() <= bits.length:
         start = max(0, bits.length - count * codebook.longest())
         found = _by_library(codebook, bits.part(start, bits.length), bits.length - start, count, True)
         if found is not None:

@@ -42,6 +42,9 @@ class ExpGolomb(Codebook):
             raise errors.InvalidDataError(errors.INVALID_CODEWORD)
         return number - 1
 
+    def shortest(self) -> int:
+        return 1
+
     def longest(self) -> int:
         return 65
 

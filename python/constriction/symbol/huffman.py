@@ -101,6 +101,9 @@ class _Tree(Codebook):
             node = unions[node - leaves][bit()]
         return node
 
+    def shortest(self) -> int:
+        return min(count for _, count in self._tree()[0])
+
     def longest(self) -> int:
         return max(count for _, count in self._tree()[0])
 

@@ -10,7 +10,7 @@ from typing import Any, NamedTuple
 
 from ..._buffers import WORD, listed
 from ..._numbers import floats_of, is_one, listed_of, whole
-from ...errors import ImpossibleSymbolError, Refusal, WrongLengthError, impossible
+from ...errors import ImpossibleSymbolError, Refusal, WrongLengthError, impossible, shown
 
 __all__ = [
     "ENDS",
@@ -288,7 +288,7 @@ def spread(count: int, share: Callable[[int], float]) -> Bound:
 def sized(count: int) -> int:
     """Returns ``count``. Raises ValueError if weights can't be shared out to that number of symbols."""
     if not 1 <= count <= TOTAL:
-        raise ValueError(f"a model has between 1 and 2^24 symbols, and not {count}")
+        raise ValueError(f"expected a model of 1 to 2^24 symbols, got {shown(count)}")
     return count
 
 

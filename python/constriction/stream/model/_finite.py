@@ -11,6 +11,7 @@ from typing import Any, SupportsIndex
 from ..._buffers import NUMBER, WORD, Real, numpy_module, room
 from ..._numbers import floats_of, is_one, real, whole
 from ..._units import parts_of
+from ...errors import shown
 from ._base import ROW, TOTAL, Bound, Model, sized, spread
 from ._table import ROWS_AT_A_TIME, Rows
 
@@ -38,6 +39,9 @@ class Bernoulli(Rows):
 
     def _said(self) -> str:
         return "" if self._fixed is None else repr(self._fixed[1] / TOTAL)
+
+    def is_single(self, given: Sequence[Any]) -> bool:
+        return all(map(is_one, given))
 
     def _alone_by(self, given: tuple[Any, ...]) -> tuple[int, Any, Any] | None:
         if len(given) != 1 or not self.missing or not is_one(given[0]):
@@ -126,7 +130,7 @@ class Binomial(Model):
     def _trials(n: Any) -> int:
         trials = _whole_float(n, "a number of trials")
         if trials < 0:
-            raise ValueError("a number of trials isn't negative")
+            raise ValueError(f"expected a number of trials of at least 0, got {shown(trials)}")
         return trials
 
     def _bounds(self, parameters: tuple[Any, ...]) -> tuple[int, Bound]:
@@ -150,6 +154,8 @@ def _chance(n: int, k: int, p: float) -> float:
 
 def _whole_float(number: Any, what: str) -> int:
     """Converts a whole number that may be a float to an int. Raises ValueError if it isn't whole."""
+    if isinstance(number, int):
+        return number
     if not math.isfinite(number) or int(number) != number:
-        raise ValueError(f"{what} is a whole number, and {number} isn't one")
+        raise ValueError(f"expected a whole number for {what}, got {number}")
     return int(number)

@@ -7,7 +7,7 @@ from collections.abc import Sequence
 from typing import Any, NamedTuple
 
 from ..._buffers import listed
-from ..._numbers import grid_of, is_one, listed_of
+from ..._numbers import grid_of, is_row
 from ..._units import component_weights_of, locations_of, moved, scales_of, wrong_row
 from ...errors import Refusal, WrongLengthError, WrongWeightsError
 from ._base import Model, shown_range
@@ -95,7 +95,7 @@ class QuantizedMixture(Model):
 
     def is_single(self, given: Sequence[Any]) -> bool:
         """Returns whether these are the parameters of a single symbol."""
-        return all(not is_one(it) and getattr(it, "ndim", None) != 2 and _is_flat(it) for it in given)
+        return all(map(is_row, given))
 
     def explained(self, refused: Refusal, given: Sequence[Any]) -> Refusal:
         """Returns the exception with a text that names the symbol whose weights have a wrong sum."""
@@ -119,9 +119,3 @@ class QuantizedMixture(Model):
     def table(self) -> array[int]:
         """Raises an exception, because a mixture has no table of its own."""
         raise TypeError("a mixture has no weights and no means and no scales: hand in a row of each for each symbol")
-
-
-def _is_flat(numbers: Any) -> bool:
-    """Returns whether a list has numbers, and no rows."""
-    first = next(iter(listed_of(numbers)), None)
-    return first is not None and is_one(first)

@@ -4,11 +4,12 @@ from __future__ import annotations
 
 from array import array
 from collections.abc import Iterator, Sequence
+from operator import index
 from typing import Any
 
 from ..._buffers import WORD, List, Reals, listed, room
 from ..._library import call
-from ..._numbers import is_one, plain_of, reals_of, rows_of, sequence_of, table_of, words_of
+from ..._numbers import is_one, is_row, plain_of, reals_of, rows_of, sequence_of, table_of, words_of
 from ..._units import counts_of, counts_of_rows, counts_of_wholes
 from ...errors import WrongWeightsError
 from ._base import ROW, Model, sized
@@ -40,8 +41,11 @@ class Rows(Model):
         """Returns the weights that a list of parameters stands for."""
         raise NotImplementedError
 
+    def is_single(self, given: Sequence[Any]) -> bool:
+        return len(given) == 1 and is_row(given[0])
+
     def _alone_by(self, given: tuple[Any, ...]) -> tuple[int, Any, Any] | None:
-        if len(given) != 1 or not self.missing or is_one(given[0]):
+        if len(given) != 1 or not self.missing or not hasattr(given[0], "__len__") or is_one(given[0]):
             return None
         row = self._row(given[0])
         return (ROW, row, None) if len(row) else None
@@ -123,7 +127,8 @@ class Categorical(Rows):
             raise TypeError(f"a list of probabilities is wanted, and not a {type(numbers).__name__}")
         given = sequence_of(numbers)
         sized(len(given))
-        counts = counts_of_wholes(plain_of(given)) if _are_whole(given) else counts_of(reals_of(given))
+        wholes = _wholes(given)
+        counts = counts_of(reals_of(given)) if wholes is None else counts_of_wholes(wholes)
         weights = room(WORD, len(counts))
         call("weights_of_counts", *listed(counts), *listed(weights))
         return weights
@@ -149,13 +154,24 @@ class Categorical(Rows):
             yield weights, width, len(some)
 
 
-def _are_whole(numbers: Any) -> bool:
-    """Returns whether all items of a list are whole numbers, by their types."""
+def _wholes(numbers: Any) -> Any:
+    """Returns whole numbers as a numpy array if they are one, and otherwise as a list of ints.
+
+    Returns None for other numbers.
+    """
     kind = getattr(numbers, "dtype", None)
     if kind is not None:
-        return getattr(kind, "kind", "") in "iub" and getattr(numbers, "ndim", 0) == 1
+        whole = getattr(kind, "kind", "") in "iub" and getattr(numbers, "ndim", 0) == 1
+        return plain_of(numbers) if whole else None
     if isinstance(numbers, (array, memoryview)):
-        return (numbers.typecode if isinstance(numbers, array) else numbers.format) in _WHOLE_FORMATS
-    if not isinstance(numbers, (list, tuple, range)) or len(numbers) and not hasattr(type(numbers[0]), "__index__"):
-        return False
-    return all(hasattr(it, "__index__") for it in set(map(type, numbers)))
+        format = numbers.typecode if isinstance(numbers, array) else numbers.format
+        return plain_of(numbers) if format in _WHOLE_FORMATS else None
+    if not isinstance(numbers, (list, tuple, range)):
+        return None
+    kinds = set(map(type, numbers))
+    if kinds == _INT:
+        return list(numbers)
+    try:
+        return list(map(index, numbers)) if all(hasattr(it, "__index__") for it in kinds) else None
+    except TypeError:
+        return None  # Arrays without dimensions may have floats.

@@ -1,0 +1,635 @@
+"""Coders as wholes, after calls that are refused, interrupted, or made from inside another call of the same coder.
+
+Each coder has a twin that gets only the calls that are done. After each other call both are compared: their pickles,
+``==``, exports, and the words at each recorded position. Words ahead, which ``seek`` goes forward to, are in a pickle.
+
+An interrupt is an exception that comes at some event of Python: a call or the end of a call, of Python code or of a C
+function. These are the moments at which handlers of signals run.
+"""
+
+from __future__ import annotations
+
+import pickle
+import random
+import signal
+import sys
+import unittest
+from array import array
+from collections.abc import Callable, Iterator
+from typing import Any
+from unittest import mock
+
+import definitions as by
+from constriction import _buffers, _coding, errors
+from constriction.stream.chain import ChainCoder
+from constriction.stream.model import (
+    Bernoulli, Categorical, CustomModel, Model, QuantizedGaussian, QuantizedLaplace, QuantizedLogistic, QuantizedMixture, Uniform, WeightTable,
+)  # fmt: skip
+from constriction.stream.model import _finite, _table
+from constriction.stream.queue import RangeDecoder, RangeEncoder
+from constriction.stream.stack import AnsCoder
+from constriction.symbol import EncoderHuffmanTree, ExpGolomb, QueueDecoder, QueueEncoder, StackCoder
+
+#: The number of calls that are refused, interrupted, or made from inside another call.
+CALLS = 21_000
+Change = Callable[[Any], Any]
+#: A model under which a symbol takes 12 bits.
+WIDE = Uniform(1 << 12)
+
+
+class Interrupt(BaseException):
+    """What an interrupted call raises."""
+
+
+def with_events(call: Callable[[], Any], at: Callable[[int], None]) -> Any:
+    """Makes the call, and calls ``at`` with the number of each event meanwhile."""
+    seen = 0
+
+    def event(frame: Any, kind: str, argument: Any) -> None:
+        nonlocal seen
+        seen += 1
+        at(seen)
+
+    sys.setprofile(event)
+    try:
+        return call()
+    finally:
+        sys.setprofile(None)
+
+
+def events(call: Callable[[], Any]) -> int:
+    """Makes the call, and returns the number of its events."""
+    seen: list[int] = []
+    with_events(call, seen.append)
+    return len(seen)
+
+
+def interrupted(call: Callable[[], Any], place: int) -> Any:
+    """Makes the call, and raises an exception at the event with this number."""
+
+    def raise_it(number: int) -> None:
+        if number == place:
+            raise Interrupt
+
+    return with_events(call, raise_it)
+
+
+def twin_of(coder: Any) -> Any:
+    return pickle.loads(pickle.dumps(coder))
+
+
+def whole(coder: Any) -> tuple[Any, ...]:
+    """Returns all that a coder's calls tell without a change of the coder."""
+    told: list[Any] = [pickle.dumps(coder), repr(coder)]
+    for name in ("pos", "get_compressed", "num_words", "num_valid_bits", "get_remainders", "maybe_exhausted", "is_empty"):
+        if hasattr(coder, name):
+            found = getattr(coder, name)()
+            told.append([it.tolist() if hasattr(it, "tolist") else it for it in found] if type(found) is tuple else found)
+    return tuple(it.tolist() if hasattr(it, "tolist") else it for it in told)
+
+
+class Case:
+    """Random models, symbols and changes of one kind of coders."""
+
+    #: The names of the calls.
+    encode, decode = "encode_reverse", "decode"
+    kinds: tuple[Any, ...] = (QuantizedGaussian, QuantizedLaplace, QuantizedLogistic)
+    forms: tuple[Callable[[Any], Any], ...] = (list, tuple, iter)
+
+    def __init__(self, dice: random.Random) -> None:
+        self.dice = dice
+
+    def made(self) -> Any:
+        """Returns a coder with some symbols in it."""
+        raise NotImplementedError
+
+    def recorded(self, coder: Any, before: int) -> None:
+        """Records a position of the coder after a call that is done. ``before`` is the number of words before it."""
+
+    def found(self, coder: Any) -> Any:
+        """Returns what is found at each position that the coder promises."""
+
+    def form(self, numbers: list[Any], integral: bool = False) -> Any:
+        """Returns the numbers in one of the forms in which a call takes them."""
+        kind = self.dice.choice((*self.forms, lambda it: array("q" if integral else "d", it)))
+        return kind(numbers)
+
+    def fixed(self) -> tuple[Model, list[int]]:
+        """Returns a model with all its parameters, and its symbols that have a weight."""
+        dice = self.dice
+        weights = by.random_weights(dice, dice.choice((1, 2, 3, 5)))
+        some: list[tuple[Model, list[int]]] = [
+            (WeightTable(weights), [i for i, it in enumerate(weights) if it]), (Uniform(7), list(range(7))), (Categorical([3, 0, 9]), [0, 1, 2]),
+            (self.dice.choice(self.kinds)(-9, 9, 0.5, dice.uniform(0.1, 5)), list(range(-9, 10))), (CustomModel(abs, None, 0, 0), [0]), (WIDE, [0, 5, (1 << 12) - 1]),
+            (CustomModel(lambda x: (x + 4) / 8, None, -4, 4), list(range(-4, 5))),
+        ]  # fmt: skip
+        return dice.choice(some)
+
+    def each(self, count: int) -> tuple[Model, list[list[Any]], list[int]]:
+        """Returns a model with missing parameters, lists of these for so many symbols, and a symbol for each."""
+        dice = self.dice
+        means, stds = [dice.uniform(-12, 12) for _ in range(count)], [dice.uniform(0.01, 9) for _ in range(count)]
+        which = dice.randrange(6)
+        if which == 0:
+            rows = [by.random_weights(dice, dice.choice((1, 2, 2, 3))) for _ in range(count)]
+            return WeightTable(), [rows], [by.random_symbol(dice, it) for it in rows]
+        if which == 1:
+            rows = [[dice.randrange(1, 9) for _ in range(dice.choice((2, 2, 3)))] for _ in range(count)]
+            return Categorical(), [rows], [dice.randrange(len(it)) for it in rows]
+        if which == 2:
+            return Bernoulli(), [[dice.random() for _ in range(count)]], [dice.randrange(2) for _ in range(count)]
+        symbols = [dice.randint(-9, 9) for _ in range(count)]
+        if which == 3:
+            of = QuantizedMixture(dice.choice(self.kinds)(-9, 9))
+            return of, [[[0.25, 0.75]] * count, [[it, -it] for it in means], [[it, it + 1] for it in stds]], symbols
+        if which == 4:
+            spread: Any = CustomModel(lambda x, k: min(max((x - k) / 40 + 0.5, 0), 1), None, -9, 9)
+            return spread, [means], symbols
+        return dice.choice(self.kinds)(-9, 9), [means, stds], symbols
+
+    def change(self, encodes: bool) -> Change:
+        """Returns a valid call."""
+        dice, name = self.dice, self.encode if encodes else self.decode
+        if dice.random() < 0.5:
+            model, known = self.fixed()
+            if dice.random() < 0.5:
+                symbol = (dice.choice(known),) if encodes else ()
+                return lambda it: getattr(it, name)(*symbol, model)
+            symbols = [dice.choice(known) for _ in range(dice.randrange(12))]
+            if encodes:
+                form = dice.random()
+                return lambda it: getattr(it, name)(iter(symbols) if form < 0.2 else array("q", symbols) if form < 0.5 else symbols, model)
+            return lambda it: getattr(it, name)(model, len(symbols))
+        model, given, symbols = self.each(dice.choice((1, 1, 2, 5, 9)))
+        if len(symbols) == 1 and dice.random() < 0.7 and (encodes or not model.has_rows or type(model) is Bernoulli):
+            one = [it[0] for it in given]
+            return lambda it: getattr(it, name)(*symbols[:encodes], model, *one)
+        form = self.dice.random()
+        return lambda it: getattr(it, name)(
+            *([symbols] if encodes else []), model, *(map(iter, given) if form < 0.2 else map(tuple, given) if form < 0.4 else given)
+        )  # fmt: skip
+
+    def refused(self) -> Change:
+        """Returns a call that raises an exception."""
+        dice, name = self.dice, self.encode
+        which = dice.randrange(8)
+        model, known = self.fixed()
+        symbols: list[Any] = [dice.choice(known) for _ in range(dice.randrange(9))]
+        wrong = max(known) + 1 if type(model) is not WeightTable else 5
+        if which == 0:
+            return lambda it: getattr(it, name)(wrong, model)
+        if which == 1:
+            return lambda it: getattr(it, name)([wrong, *symbols], model)
+        if which == 2:
+            return lambda it: getattr(it, name)([*symbols, wrong], model)
+        if which == 3:
+            return lambda it: getattr(it, name)([1.5, *symbols], model)
+        if which == 4:
+            return lambda it: getattr(it, self.decode)(model, -1)
+        if which == 5:
+            return lambda it: getattr(it, name)(0, WeightTable([5]))
+        many = dice.randrange(1, 9)
+        if which == 6:  # The last part that is encoded is refused. The first has rows of another width.
+            rows = [[1 << 24], *[[1 << 23, 1 << 23]] * many, [1 << 24]]
+            return lambda it: getattr(it, name)([9, *[1] * many, 9], WeightTable(), rows)
+
+        def ends() -> Iterator[int]:
+            yield from symbols
+            raise KeyError("no more")
+
+        return lambda it: getattr(it, name)(ends(), model)
+
+    def from_inside(self, inner: Change) -> tuple[Callable[[list[Any]], Change], Change]:
+        """Returns a call whose arguments use the coder, and the same call with arguments that don't.
+
+        The first gets a list to which it adds what the inner call raised, or None. It raises the same again if the list
+        has an item to begin with.
+        """
+        dice, name = self.dice, self.encode
+
+        def using(coder: Any, raised: list[Any]) -> None:
+            again = raised[:1] == ["again"]
+            try:
+                inner(coder)
+                raised.append(None)
+            except RuntimeError as it:
+                raised.append(it)
+                if again:
+                    raise
+
+        class Number:
+            def __init__(self, of: Any, coder: Any, raised: list[Any]) -> None:
+                self.of, self.coder, self.raised = of, coder, raised
+
+            def __index__(self) -> Any:
+                using(self.coder, self.raised)
+                return self.of
+
+            def __float__(self) -> float:
+                using(self.coder, self.raised)
+                return float(self.of)
+
+        class Real(Number):
+            __index__ = None  # type: ignore[assignment]
+
+        def model_of(coder: Any, raised: list[Any]) -> Model:
+            def cdf(x: float) -> float:
+                using(coder, raised)
+                return (x + 4) / 8
+
+            return CustomModel(cdf, None, -4, 4)
+
+        plain, family, which = CustomModel(lambda x: (x + 4) / 8, None, -4, 4), QuantizedGaussian(-9, 9), dice.randrange(5)
+        if which == 0:
+            return (lambda raised: lambda it: getattr(it, name)(3, model_of(it, raised))), lambda it: getattr(it, name)(3, plain)
+        if which == 1:
+            return (lambda raised: lambda it: getattr(it, self.decode)(model_of(it, raised))), lambda it: getattr(it, self.decode)(plain)
+        if which == 2:
+            return (lambda raised: lambda it: getattr(it, name)([1, Number(2, it, raised), 3], Uniform(9))), lambda it: getattr(it, name)([1, 2, 3], Uniform(9))
+        if which == 3:
+            return (
+                lambda raised: lambda it: getattr(it, name)(4, family, Real(0.5, it, raised), 2.0)
+            ), lambda it: getattr(it, name)(4, family, 0.5, 2.0)  # fmt: skip
+        return (
+            lambda raised: lambda it: getattr(it, self.decode)(family, [0.5, 1.5], [2.0, Real(3.0, it, raised)])
+        ), lambda it: getattr(it, self.decode)(family, [0.5, 1.5], [2.0, 3.0])  # fmt: skip
+
+
+class Ans(Case):
+    def made(self) -> Any:
+        coder = AnsCoder([self.dice.randrange(1, 1 << 32) for _ in range(self.dice.randrange(1, 40))])
+        #: Positions that the coder promises, and the words of the coder there.
+        self.positions: list[tuple[tuple[int, int], list[int]]] = []
+        self.recorded(coder, 0)
+        coder.decode(Uniform(300), self.dice.randrange(60))
+        return coder
+
+    def recorded(self, coder: Any, before: int) -> None:
+        if coder.pos()[0] > before:
+            self.positions = [it for it in self.positions if it[0][0] <= before]
+        self.positions = [(coder.pos(), coder.get_compressed().tolist()), *self.positions][:9]
+
+    def found(self, coder: Any) -> Any:
+        here, found = coder.pos(), []
+        for position, words in self.positions:
+            coder.seek(*position)
+            found.append(coder.get_compressed().tolist() == words)
+        coder.seek(*here)
+        return found == [True] * len(self.positions)
+
+
+class Encoder(Case):
+    encode = "encode"
+
+    def made(self) -> Any:
+        coder = RangeEncoder()
+        coder.encode([self.dice.randrange(300) for _ in range(self.dice.randrange(60))], Uniform(300))
+        return coder
+
+    def change(self, encodes: bool) -> Change:
+        return super().change(True)
+
+    def refused(self) -> Change:
+        while True:
+            change = super().refused()
+            try:
+                change(RangeEncoder())
+            except AttributeError:
+                continue  # A decode.
+            except Exception:
+                return change
+
+    def from_inside(self, inner: Change) -> tuple[Callable[[list[Any]], Change], Change]:
+        while True:
+            using, plain = super().from_inside(inner)
+            try:
+                plain(RangeEncoder())
+                return using, plain
+            except AttributeError:
+                pass  # A decode.
+
+
+class Decoder(Case):
+    def made(self) -> Any:
+        encoder, dice = RangeEncoder(), self.dice
+        symbols, self.positions = [dice.randrange(300) for _ in range(90)], []
+        for i in range(0, 90, 9):
+            self.positions.append((encoder.pos(), symbols[i : i + 9]))
+            encoder.encode(symbols[i : i + 9], Uniform(300))
+        coder = encoder.get_decoder()
+        coder.decode(Uniform(300), dice.randrange(90))
+        return coder
+
+    def found(self, coder: Any) -> Any:
+        here, found = coder._state, []
+        for position, symbols in self.positions:
+            coder.seek(*position)
+            found.append(coder.decode(Uniform(300), 9).tolist() == symbols)
+        coder._state = here
+        return found == [True] * len(self.positions)
+
+    def change(self, encodes: bool) -> Change:
+        return super().change(False)
+
+    def refused(self) -> Change:
+        model = self.dice.choice((WeightTable([5]), 3, WeightTable([1 << 23, 5])))
+        given = self.dice.choice(((), (3,), (-1,), (1.5,)))
+        return lambda it: it.decode(model, *given)
+
+    def from_inside(self, inner: Change) -> tuple[Callable[[list[Any]], Change], Change]:
+        while True:
+            using, plain = super().from_inside(inner)
+            try:
+                plain(RangeDecoder([]))
+                return using, plain
+            except AttributeError:
+                pass  # An encode.
+
+
+class Chain(Case):
+    def made(self) -> Any:
+        coder = ChainCoder([self.dice.randrange(1, 1 << 32) for _ in range(40)])
+        coder.decode(Uniform(300), 20)
+        return coder
+
+
+class Bits(Case):
+    """The two coders of codewords."""
+
+    def model(self) -> tuple[Any, int]:
+        return self.dice.choice(((EncoderHuffmanTree([2, 2, 4, 1, 1]), 5), (EncoderHuffmanTree([1]), 1), (ExpGolomb(), 50)))  # type: ignore[no-any-return]
+
+    def change(self, encodes: bool) -> Change:
+        (book, size), dice, name = self.model(), self.dice, self.encode if encodes else self.decode
+        if dice.random() < 0.5:
+            symbol = (dice.randrange(size),) if encodes else ()
+            return lambda it: getattr(it, name)(*symbol, book)
+        symbols = [dice.randrange(size) for _ in range(dice.choice((0, 1, 5, 70)))]
+        return (lambda it: getattr(it, name)(symbols, book)) if encodes else lambda it: getattr(it, name)(book, len(symbols) // 9)
+
+    def refused(self) -> Change:
+        book, dice, name = EncoderHuffmanTree([2, 2, 4, 1, 1]), self.dice, self.encode
+        symbols: list[Any] = [dice.randrange(5) for _ in range(dice.choice((0, 1, 5, 70)))]
+        place = dice.randrange(len(symbols) + 1)
+        wrong = dice.choice((5, -1, 1.5, "1"))
+        return lambda it: getattr(it, name)([*symbols[:place], wrong, *symbols[place:]], book)
+
+
+class Queue(Bits):
+    encode = "encode"
+
+    def made(self) -> Any:
+        coder = QueueEncoder()
+        coder.encode([self.dice.randrange(50) for _ in range(self.dice.randrange(60))], ExpGolomb())
+        return coder
+
+    def change(self, encodes: bool) -> Change:
+        return super().change(True)
+
+
+class Stack(Bits):
+    def made(self) -> Any:
+        coder = StackCoder()
+        coder.encode_reverse([self.dice.randrange(50) for _ in range(self.dice.randrange(60))], ExpGolomb())
+        return coder
+
+
+class Whole(unittest.TestCase):
+    def setUp(self) -> None:
+        # Short lists have several parts then.
+        for module, name, size in (
+            (_coding, "_SYMBOLS_AT_A_TIME", 3), (_coding, "_WEIGHTS_AT_A_TIME", 0), (_table, "ROWS_AT_A_TIME", 4), (_finite, "ROWS_AT_A_TIME", 4),
+        ):  # fmt: skip
+            patch = mock.patch.object(module, name, size)
+            patch.start()
+            self.addCleanup(patch.stop)
+
+    def test_random_calls(self) -> None:
+        self.counts: dict[str, int] = {}
+        dice, done = random.Random(82), 0
+        while done < CALLS:
+            for kind in (Ans, Ans, Ans, Encoder, Decoder, Chain, Queue, Stack):
+                case = kind(dice)
+                coder = case.made()
+                for _ in range(12):
+                    done += self.step(case, coder, twin_of(coder))
+        self.assertGreaterEqual(min(self.counts.get(it, 0) for it in ("refuse", "interrupt", "want_memory", "inside", "handle")), 1000, self.counts)
+
+    def step(self, case: Case, coder: Any, twin: Any) -> int:
+        """Makes a valid call, then one of the others. Returns the number of others."""
+        dice = case.dice
+        self.done(case, coder, twin, case.change(dice.random() < 0.5))
+        other = dice.choice((self.refuse, self.interrupt, self.interrupt, self.want_memory, self.inside, self.handle))
+        if isinstance(case, Bits) and other == self.inside:
+            other = self.interrupt
+        other(case, coder, twin)
+        self.counts[other.__name__] = self.counts.get(other.__name__, 0) + 1
+        if dice.random() < 0.3:
+            self.assertTrue(case.found(coder) in (None, True), "words at a position")
+        return 1
+
+    def done(self, case: Case, coder: Any, twin: Any, change: Change) -> None:
+        """Makes the call of both coders."""
+        before = coder.pos()[0] if isinstance(case, Ans) else 0
+        results = []
+        for it in (coder, twin):
+            try:
+                found = change(it)
+                results.append(found.tolist() if hasattr(found, "tolist") else found)
+            except errors.Refusal as refusal:  # Of data that no encoder wrote, or that ended.
+                results.append(str(refusal))
+        self.assertEqual(*results)
+        case.recorded(coder, before)
+
+    def alike(self, coder: Any, *twins: Any) -> Any:
+        """Returns the first twin that is equal to the coder as a whole. Fails if there is none."""
+        told = whole(coder)
+        for twin in twins:
+            if whole(twin) == told:
+                self.assertTrue(coder == twin)
+                return twin
+        self.assertEqual(told, whole(twins[0]))
+
+    def refuse(self, case: Case, coder: Any, twin: Any) -> None:
+        change = case.refused()
+        with self.assertRaises((ValueError, TypeError, KeyError, AttributeError)):
+            change(coder)
+        self.alike(coder, twin)
+
+    def interrupt(self, case: Case, coder: Any, twin: Any) -> None:
+        change, after = case.change(case.dice.random() < 0.7), twin_of(twin)
+        try:
+            count = events(lambda: change(after))
+        except errors.Refusal:
+            return
+        before = coder.pos()[0] if isinstance(case, Ans) else 0
+        try:
+            interrupted(lambda: change(coder), case.dice.randrange(1, count + 1))
+        except Interrupt:
+            pass
+        if self.alike(coder, twin, after) is after:
+            case.recorded(coder, before)
+
+    def want_memory(self, case: Case, coder: Any, twin: Any) -> None:
+        """Refuses one request for memory of the call."""
+        change, after, seen = case.change(case.dice.random() < 0.7), twin_of(twin), 0
+        place = case.dice.randrange(1, 6)
+        original = _buffers.room
+
+        def room(*given: Any) -> Any:
+            nonlocal seen
+            seen += 1
+            if seen == place:
+                raise MemoryError
+            return original(*given)
+
+        before = coder.pos()[0] if isinstance(case, Ans) else 0
+        try:
+            with self.rooms(original, room):
+                change(coder)
+        except MemoryError:
+            self.alike(coder, twin)
+        except errors.Refusal:
+            self.alike(coder, twin)
+        else:
+            change(after)
+            self.alike(coder, after)
+            case.recorded(coder, before)
+
+    def rooms(self, original: Any, room: Any) -> Any:
+        """Puts another function in the place of the one that all memory comes from."""
+        from contextlib import ExitStack
+
+        stack = ExitStack()
+        for name, module in list(sys.modules.items()):
+            if name.startswith("constriction.") and getattr(module, "room", None) is original:
+                stack.enter_context(mock.patch.object(module, "room", room))
+        return stack
+
+    def inside(self, case: Case, coder: Any, twin: Any) -> None:
+        """Makes a call whose arguments call the same coder. The inner call raises RuntimeError, and the outer one goes on or not."""
+        using, plain = case.from_inside(case.change(case.dice.random() < 0.7))
+        after, again = twin_of(twin), case.dice.random() < 0.5
+        raised: list[Any] = ["again"] * again
+        before = coder.pos()[0] if isinstance(case, Ans) else 0
+        try:
+            plain(after)
+        except errors.Refusal:
+            return
+        try:
+            using(raised)(coder)
+            self.assertFalse(again)
+        except RuntimeError:
+            self.assertTrue(again)
+        inner = raised[again:]
+        self.assertTrue(inner and all(isinstance(it, RuntimeError) for it in inner), inner)
+        if self.alike(coder, twin if again else after) is after:
+            case.recorded(coder, before)
+
+    def handle(self, case: Case, coder: Any, twin: Any) -> None:
+        """Makes a call, and another one at one of its events. That one raises RuntimeError, or comes first or last."""
+        change, other = case.change(case.dice.random() < 0.7), case.change(case.dice.random() < 0.7)
+        first, after, last = twin_of(twin), twin_of(twin), twin_of(twin)
+        try:
+            count = events(lambda: change(after))
+            change(last), other(last)
+            other(first), change(first)
+        except errors.Refusal:
+            return
+        before, place, told = (coder.pos()[0] if isinstance(case, Ans) else 0), case.dice.randrange(1, count + 1), list[str]()
+
+        def handler(number: int) -> None:
+            if number == place:
+                told.append("refused")
+                other(coder)
+                told[:] = ["done"]
+
+        try:
+            with_events(lambda: change(coder), handler)
+            found = self.alike(coder, first, last) if told == ["done"] else self.alike(coder, after)
+        except RuntimeError:
+            self.assertEqual(told, ["refused"])
+            found = self.alike(coder, twin, after)
+        if found is not twin and isinstance(case, Ans):
+            case.positions = []
+            case.recorded(coder, before)
+
+
+@unittest.skipUnless(hasattr(signal, "setitimer"), "the system has no timer for a process")
+class Signals(unittest.TestCase):
+    """Calls that handlers of real signals interrupt."""
+
+    def setUp(self) -> None:
+        self.armed = False
+        before = signal.signal(signal.SIGALRM, self.alarm)
+        self.addCleanup(signal.signal, signal.SIGALRM, before)
+        self.addCleanup(signal.setitimer, signal.ITIMER_REAL, 0)
+
+    def alarm(self, *_: Any) -> None:
+        if self.armed:
+            self.armed = False
+            raise Interrupt
+
+    def test_words_ahead(self) -> None:
+        dice, model, symbols = random.Random(83), Uniform(256), [i * 7 % 256 for i in range(2000)]
+        coder = AnsCoder()
+        coder.encode_reverse(symbols, model)
+        end, kept, some = coder.pos(), coder.get_compressed().tolist(), array("q", symbols[:900])
+        stopped = 0
+        for _ in range(1500):
+            coder.decode(model, 1000)
+            here = coder.pos()
+            try:
+                self.armed = True
+                signal.setitimer(signal.ITIMER_REAL, dice.uniform(1e-5, 2e-4))
+                coder.encode_reverse(some, model)
+                self.armed = False
+            except Interrupt:
+                pass
+            if coder.pos() != here:  # It was encoded, and no words are ahead.
+                coder.clear()
+                coder.encode_reverse(symbols, model)
+                continue
+            stopped += 1
+            coder.seek(*end)
+            self.assertEqual(coder.get_compressed().tolist(), kept)
+        self.assertGreater(stopped, 50)
+
+    def test_a_handler_that_encodes(self) -> None:
+        """While a call of one symbol runs, the handler's own call is refused, and outside it is done."""
+        coder, model, model_of_handler = AnsCoder(), Uniform(300), Uniform(9)
+        wanted: list[tuple[int, Any]] = []
+
+        def handler(*_: Any) -> None:
+            try:
+                coder.encode_reverse(7, model_of_handler)
+                wanted.append((7, model_of_handler))
+            except RuntimeError:
+                refused.append(1)
+
+        refused: list[int] = []
+        signal.signal(signal.SIGALRM, handler)
+        try:
+            for i in range(4000):
+                original = coder._lane._encode_interval if coder._lane else None
+
+                def step() -> int:
+                    code: int = original()  # type: ignore[misc]
+                    signal.raise_signal(signal.SIGALRM)
+                    return code
+
+                if coder._lane and model._often:
+                    with mock.patch.object(coder._lane, "_encode_interval", step):
+                        coder.encode_reverse(i % 300, model)
+                else:
+                    coder.encode_reverse(i % 300, model)
+                wanted.append((i % 300, model))
+        finally:
+            signal.signal(signal.SIGALRM, self.alarm)
+        self.assertGreater(len(refused), 3900)
+        for symbol, by_model in reversed(wanted):
+            self.assertEqual(coder.decode(by_model), symbol)
+
+
+if __name__ == "__main__":
+    unittest.main()
