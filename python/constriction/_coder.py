@@ -48,7 +48,7 @@ class Coder:
         """
         with self._lock:
             if self._busy:
-                raise RuntimeError("a coder was called by what its own call called, such as a model's function")
+                raise RuntimeError("expected no call of the coder from inside its own call, got one, as from a model's function")
             try:
                 self._busy = True
                 state, found = change(self._state)

@@ -13,7 +13,7 @@ from .errors import (
     WRONG_WEIGHTS, ImpossibleSymbolError, Refusal, WrongLengthError, WrongWeightsError, impossible,
 )  # fmt: skip
 from .stream.model import Model
-from .stream.model._base import TOTAL, Located
+from .stream.model._base import TOTAL, Located, lists_named
 
 __all__ = ["Call", "decoded", "encoded"]
 
@@ -36,8 +36,8 @@ def _parts(count: int, weights: int) -> list[slice]:
 def model_wanted(model: Any, symbols: Any = None) -> NoReturn:
     """Raises TypeError, because ``model`` isn't a model."""
     if isinstance(symbols, Model):
-        raise TypeError("the symbols come first, and their model behind them")
-    raise TypeError(f"a model is wanted, such as those of constriction.stream.model, and not a {type(model).__name__}")
+        raise TypeError("expected the symbols and then the model, got the model first")
+    raise TypeError(f"expected a model (see constriction.stream.model), got {type(model).__name__}")
 
 
 def encoded(
@@ -91,7 +91,7 @@ def _encoded(
 
 
 def _other_lengths(symbols: int, others: int, names: str) -> WrongLengthError:
-    return WrongLengthError(f"there are {symbols} symbols and {others} {names}: each symbol has one")
+    return WrongLengthError(f"expected as many {names} as symbols, got {others} {names} and {symbols} symbols")
 
 
 def _explained(refused: Refusal, symbols: Any, model: Model, given: tuple[Any, ...]) -> Refusal:
@@ -109,11 +109,10 @@ def _explained(refused: Refusal, symbols: Any, model: Model, given: tuple[Any, .
 def _explained_weights(refused: Refusal, model: Model, given: tuple[Any, ...]) -> Refusal:
     """Returns an exception that states the sum of the first row of weights with a wrong sum."""
     for place, row in enumerate(_rows(model, given) if given else (model.table(),)):
-        which = f"row {place} of the weights" if given else "the weights"
         if not len(row):
-            return type(refused)(f"{which} has no weight" if given else "there are no weights")
+            return type(refused)("expected at least one weight, got none" + (f" in row {place}" if given else ""))
         if sum(row) != TOTAL:
-            return WrongWeightsError(f"{WRONG_WEIGHTS}, but to {sum(row)}" + (f", in row {place}" if given else ""))
+            return WrongWeightsError(f"{WRONG_WEIGHTS}, got a sum of {sum(row)}" + (f" in row {place}" if given else ""))
     return refused
 
 
@@ -249,14 +248,14 @@ def decoded(
         model_wanted(model)
     if amt is not None:
         if rest:
-            raise TypeError("a number of symbols was handed in beside parameters, of which each is for one symbol")
+            raise TypeError("expected parameters or a number of symbols, got both")
         rest = (count_of(amt),)
         if model.missing:
-            raise TypeError(f"the model has no {' and no '.join(model.missing)}: hand in a list of each, and no amt")
+            raise TypeError(f"expected {lists_named(model.missing)}, got a number of symbols")
     # A model of a function may have parameters or none. A single whole number is then a number of symbols.
     counted = len(rest) == 1 and not model.missing and is_one(rest[0]) and hasattr(rest[0], "__index__")
     if len(rest) == 1 and model.complete and not counted:
-        raise TypeError(f"a number of symbols is wanted, a whole one, and not {rest[0]!r}")
+        raise TypeError(f"expected a number of symbols as a whole number, got {rest[0]!r}")
     given, single = rest, not rest
     try:
         if not rest or counted:

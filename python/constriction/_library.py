@@ -55,7 +55,7 @@ def _load() -> ctypes.CDLL:
     Calls release the interpreter's lock.
     """
     if not PATH.is_file():
-        raise ImportError(f"there is no {PATH}: build it by tools/library, or set CONSTRICTION_LIBRARY to where it is")
+        raise ImportError(f"expected the library at {PATH}, got no file: run tools/library, or set CONSTRICTION_LIBRARY to its path")
     return ctypes.CDLL(str(PATH))
 
 
@@ -165,7 +165,7 @@ def call(name: str, *arguments: Any, texts: dict[int, str] | None = None) -> Non
     """
     function = _FUNCTIONS.get(name)
     if function is None:
-        raise NotImplementedError(f"{PATH} is the library of another version: it has no constriction_{name}_u32")
+        raise NotImplementedError(f"expected the library of this version, got {PATH} without constriction_{name}_u32")
     code = function(*arguments)
     if code:
         raise refusal(code, texts)

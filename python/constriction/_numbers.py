@@ -22,7 +22,7 @@ __all__ = [
 
 #: The least and the greatest number that a word and a symbol can be.
 _RANGES = {WORD: (0, (1 << 32) - 1), SYMBOL: (-(1 << 63), (1 << 63) - 1)}
-_WANTED = "whole numbers are wanted, and not {}: round them, and make integers of them, as by array.astype('int64')"
+_WANTED = "expected whole numbers, got {}: round them and convert them, as by array.astype('int64')"
 #: The formats of memory that holds such numbers. No index of a table has more than 63 bits, so a sign doesn't matter.
 _ALIKE = {WORD: ("I", "L"), SYMBOL: ("q", "Q", "l", "L", "n", "N"), NUMBER: ("d",)}
 _FLOAT = frozenset((float,))
@@ -52,7 +52,7 @@ def whole(number: Any) -> int:
     try:
         return index(number)
     except TypeError:
-        raise TypeError(_WANTED.format(f"a {type(number).__name__}")) from None
+        raise TypeError(_WANTED.format(type(number).__name__)) from None
 
 
 def real(number: Any) -> float:
@@ -74,7 +74,7 @@ def count_of(number: Any) -> int:
     try:
         count = index(number)
     except TypeError:
-        raise TypeError(f"a number of symbols is wanted, a whole one, and not {number!r}") from None
+        raise TypeError(f"expected a number of symbols as a whole number, got {number!r}") from None
     if not 0 <= count <= _MOST:
         raise ValueError(f"expected a number of symbols between 0 and 2^48, got {shown(count)}")
     return count
@@ -84,7 +84,7 @@ def _unmasked(numbers: Any) -> None:
     masked = sys.modules.get("numpy.ma")
     if masked is not None and isinstance(numbers, masked.MaskedArray):
         raise TypeError(
-            "numbers are wanted, and not a masked array: array.filled(0) or array.compressed() has them all"
+            "expected numbers, got a masked array: pass array.filled(0) or array.compressed()"
         )
 
 
@@ -102,11 +102,11 @@ def _as_numpy(numbers: Any) -> Any:
 def _listed(numbers: Any) -> Any:
     """Returns numbers that aren't a numpy array as something to iterate over."""
     if isinstance(numbers, str):
-        raise TypeError("a list of numbers is wanted, and not text")
+        raise TypeError("expected a list of numbers, got str")
     if isinstance(numbers, (bytes, bytearray)):
-        raise TypeError("a list of numbers is wanted, and not bytes: array('I', data) makes words of them")
+        raise TypeError("expected a list of numbers, got bytes: array('I', data) converts them to words")
     if isinstance(numbers, (Mapping, Set)):
-        raise TypeError(f"a list of numbers is wanted, and not a {type(numbers).__name__}: list(..) makes one")
+        raise TypeError(f"expected a list of numbers, got {type(numbers).__name__}: list(..) converts it")
     try:
         view = memoryview(numbers)
     except TypeError:
@@ -145,7 +145,7 @@ def plain_of(numbers: Any) -> Any:
 
 def _flat(dimensions: int) -> None:
     if dimensions != 1:
-        raise TypeError(f"a list of numbers is wanted, and not one of {dimensions} dimensions: array.ravel() makes one")
+        raise TypeError(f"expected a list of numbers, got an array of {dimensions} dimensions: array.ravel() converts it")
 
 
 def _past(code: str, numbers: Any) -> bool:
@@ -170,7 +170,7 @@ def _wholes(table: Any) -> None:
     """Raises TypeError if a numpy array isn't a list of whole numbers."""
     _flat(table.ndim)
     if table.dtype.kind not in "iub" and not (table.dtype.kind == "f" and not table.size):
-        raise TypeError(_WANTED.format(f"of the type {table.dtype}"))
+        raise TypeError(_WANTED.format(table.dtype))
 
 
 def wholes_of(code: str, numbers: List) -> array[Any]:
@@ -210,7 +210,7 @@ def words_of(words: List, name: str = "word", refused: type[Refusal] = InvalidDa
     Raises TypeError for numbers that aren't whole, and ``refused`` for a number that doesn't fit a word.
     """
     if is_one(words):
-        raise TypeError(f"a list of {name}s is wanted, and not a {type(words).__name__}")
+        raise TypeError(f"expected a list of {name}s, got {type(words).__name__}")
     given = sequence_of(words)
     try:
         return wholes_of(WORD, given)
@@ -257,7 +257,7 @@ def _real_table(numbers: Any) -> Any:
     if table is not None:
         _flat(table.ndim)
         if table.dtype.kind not in "iubf":
-            raise TypeError(f"floats are wanted, and not those of the type {table.dtype}")
+            raise TypeError(f"expected floats, got {table.dtype}")
     return table
 
 
@@ -297,9 +297,9 @@ def grid_of(numbers: Any) -> tuple[Any, int]:
     table = _as_numpy(numbers)
     if table is not None:
         if table.ndim not in (1, 2):
-            raise TypeError(f"a row for each symbol is wanted, and not a list of {table.ndim} dimensions")
+            raise TypeError(f"expected a row for each symbol, got an array of {table.ndim} dimensions")
         if table.dtype.kind not in "iubf":
-            raise TypeError(f"floats are wanted, and not those of the type {table.dtype}")
+            raise TypeError(f"expected floats, got {table.dtype}")
         floats = table.astype("float64", copy=False).ravel() if table.size else array(NUMBER)
         return floats, table.shape[-1]
     given = listed_of(numbers)
@@ -309,7 +309,7 @@ def grid_of(numbers: Any) -> tuple[Any, int]:
     width = len(rows[0]) if rows else 1
     for place, row in enumerate(rows):
         if len(row) != width:
-            raise WrongLengthError(f"symbol 0 has {width} components, and symbol {place} has {len(row)}")
+            raise WrongLengthError(f"expected {width} components for each symbol, as for symbol 0, got {len(row)} for symbol {place}")
     return array(NUMBER, (it for row in rows for it in row)), width
 
 
@@ -331,5 +331,5 @@ def rows_of(numbers: Any, row: Callable[[Any], array[Any]]) -> list[array[Any]]:
     if table is None:
         return [row(it) for it in _listed_rows(numbers)]
     if table.ndim != 2:
-        raise TypeError(f"a row for each symbol is wanted, and not a list of {table.ndim} dimensions")
+        raise TypeError(f"expected a row for each symbol, got an array of {table.ndim} dimensions")
     return [row(it) for it in table]

@@ -9,7 +9,7 @@ from typing import Any
 
 from ._buffers import NUMBER, SYMBOL, WORD, numpy_module, room
 from ._numbers import real
-from .errors import WrongWeightsError
+from .errors import WrongWeightsError, shown
 
 __all__ = [
     "FARTHEST", "NARROWEST", "UNITS_OF_ONE", "WIDEST", "component_weights_of", "counts_of", "counts_of_rows", "counts_of_wholes", "locations_of", "moved", "parts_of", "scales_of",
@@ -72,10 +72,10 @@ def _fault(
     ``width`` is the number of floats for each symbol, if there are several.
     """
     place, number = next((i, it) for i, it in enumerate(floats) if not good(it))
-    which = f"{name} {place}" if len(floats) > 1 else f"a {name}"
+    which = f" at place {place}" if len(floats) > 1 else ""
     if width is not None:
-        which = f"{name} {place % width} of symbol {place // width}"
-    return ValueError(f"{which} is {number}, and has to {wanted}")
+        which = f" for component {place % width} of symbol {place // width}"
+    return ValueError(f"expected a {name} {wanted}, got {number}{which}")
 
 
 def _rounded(code: str, floats: array[float], unit: float, within: Ends, ends: Ends) -> array[int]:
@@ -121,7 +121,7 @@ def locations_of(name: str, floats: array[float], width: int | None = None) -> a
     """Returns locations in units of 2^-16. Raises ValueError if one isn't finite."""
     ends = _ends(floats)
     if isnan(ends[0]):
-        raise _fault(name, floats, isfinite, "be finite", width)
+        raise _fault(name, floats, isfinite, "that is finite", width)
     return _rounded(SYMBOL, floats, UNITS_OF_ONE, (-FARTHEST, FARTHEST), ends)
 
 
@@ -132,7 +132,7 @@ def scales_of(name: str, floats: array[float], width: int | None = None) -> arra
     """
     ends = _ends(floats)
     if not ends[0] > 0:
-        raise _fault(name, floats, lambda it: 0 < it < inf, "be positive and finite", width)
+        raise _fault(name, floats, lambda it: 0 < it < inf, "that is positive and finite", width)
     return _rounded(WORD, floats, UNITS_OF_ONE, (NARROWEST, WIDEST), ends)
 
 
@@ -144,7 +144,7 @@ def component_weights_of(floats: array[float], width: int) -> array[int]:
     """
     ends = _ends(floats)
     if not ends[0] >= 0:
-        raise _fault("weight", floats, lambda it: 0 <= it < inf, "be at least 0 and finite", width)
+        raise _fault("weight", floats, lambda it: 0 <= it < inf, "that is at least 0 and finite", width)
     if not width or ends[1] >= _MOST_SHARES:
         raise wrong_row(floats, width)
     return _rounded(WORD, floats, _SHARES, (0.0, _MOST_SHARES - 1 / _SHARES), ends)
@@ -153,7 +153,7 @@ def component_weights_of(floats: array[float], width: int) -> array[int]:
 def wrong_row(floats: Any, width: int) -> WrongWeightsError:
     """Returns the exception for the first row of weights whose sum is 0 or too large, or for rows of width 0."""
     if not width:
-        return WrongWeightsError("a mixture has at least one component, and rows of none were handed in")
+        return WrongWeightsError("expected at least one component, got rows without components")
     for start in range(0, len(floats), width):
         row = [float(it) for it in floats[start : start + width]]
         if max(row) >= _MOST_SHARES or not 0 < sum(round(it * _SHARES) for it in row) <= _MOST_SHARES * _SHARES:
@@ -170,7 +170,7 @@ def parts_of(probabilities: array[float]) -> array[int]:
     """
     ends = _ends(probabilities)
     if not (ends[0] >= 0 and ends[1] <= 1):
-        raise _fault("probability", probabilities, lambda it: 0 <= it <= 1, "lie between 0 and 1")
+        raise _fault("probability", probabilities, lambda it: 0 <= it <= 1, "between 0 and 1")
     return _rounded(WORD, probabilities, _TOTAL, (1 / _TOTAL, 1 - 1 / _TOTAL), ends)
 
 
@@ -182,9 +182,9 @@ def counts_of(probabilities: Any) -> array[int]:
     """
     least, greatest = _ends(probabilities)
     if not least >= 0:
-        raise _fault("probability", probabilities, lambda it: 0 <= it < inf, "be at least 0 and finite")
+        raise _fault("probability", probabilities, lambda it: 0 <= it < inf, "that is at least 0 and finite")
     if not len(probabilities) or not greatest:
-        raise ValueError("no probability is above 0")
+        raise ValueError("expected a probability above 0, got none")
     shift = _COUNT_BITS - frexp(greatest)[1]
     numpy = _numpy_for(probabilities)
     if numpy is not None:
@@ -239,10 +239,10 @@ def counts_of_wholes(counts: Any) -> array[int]:
         return _counts_of_table(counts) or counts_of_wholes(counts.tolist())
     if min(counts, default=0) < 0:
         place, count = next((i, it) for i, it in enumerate(counts) if it < 0)
-        raise ValueError(f"probability {place} is {count}, and has to be at least 0")
+        raise ValueError(f"expected a probability that is at least 0, got {shown(count)} at place {place}")
     bits = max(counts, default=0).bit_length()
     if not bits:
-        raise ValueError("no probability is above 0")
+        raise ValueError("expected a probability above 0, got none")
     if bits > 64:
         down = bits - _COUNT_BITS
         return array("Q", [_halved(count, down) or 1 for count in counts])

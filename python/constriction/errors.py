@@ -60,7 +60,7 @@ class OutOfDataError(Refusal):
 
 
 IMPOSSIBLE_SYMBOL = "Impossible symbol."
-WRONG_WEIGHTS = "weights do not sum to 16777216"
+WRONG_WEIGHTS = "expected weights with a sum of 16777216"
 INVALID_FOR_MODEL = "Tried to decode from compressed data that is invalid for the employed entropy model."
 ENDS_WITH_ZERO_WORD = (
     "Tried to decode from compressed data that ends with a zero word, which is invalid for an ANS coder."
@@ -84,7 +84,7 @@ def impossible(symbol: int, place: int | None, first: int, count: int) -> Imposs
     """Returns the exception for a symbol. The model has the ``count`` symbols from ``first`` upwards."""
     where = "" if place is None else f" at place {place}"
     if 0 <= symbol - first < count:
-        text = f"{IMPOSSIBLE_SYMBOL} Its model gives symbol {symbol}{where} the weight 0."
+        text = f"{IMPOSSIBLE_SYMBOL} Expected a symbol with a weight above 0, got {symbol}{where}."
     else:
         text = f"{IMPOSSIBLE_SYMBOL} Expected {first} .. {first + count - 1}, got {shown(symbol)}{where}."
     it = ImpossibleSymbolError(text)

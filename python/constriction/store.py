@@ -63,8 +63,8 @@ def _as_bytes(words: Any) -> memoryview:
     view = memoryview(words)
     if view.ndim != 1 or view.format not in (_BYTES if view.itemsize == 1 else _WORDS if view.itemsize == 4 else ()):
         raise TypeError(
-            "a buffer of words of 32 bits is wanted, without a sign and in this machine's byte order, as array('I') or a numpy array of "
-            f"uint32, or their bytes, the lowest first; and this one has numbers of the form {view.format!r}"
+            "expected a buffer of unsigned 32-bit words in this machine's byte order, as array('I') or a numpy array of uint32, or of their"
+            f" bytes, lowest first, got numbers of the format {view.format!r}"
         )
     return view.cast("B") if view.nbytes else memoryview(b"")
 
@@ -80,7 +80,7 @@ class Store:
     def __init__(self, words: Any, index: Iterable[Sequence[Any]], model: Model) -> None:
         """Creates a store from its parts. See :meth:`from_parts`."""
         if model.missing:
-            raise TypeError("a model without missing parameters is wanted")
+            raise TypeError(f"expected a model with all its parameters, got {model!r}")
         self._words, self._index, self._model = words, [_entry(it) for it in index], model
         size = _as_bytes(words).nbytes
         count = size // 4

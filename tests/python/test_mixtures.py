@@ -113,34 +113,34 @@ class Faults(unittest.TestCase):
             self.assertEqual(str(found.exception), text)
 
     def test_weights(self) -> None:
-        why = "and have to add up to more than 0, and to 2 at most"
+        why = "expected weights with a sum above 0 and of at most 2"
         none, much = [list(it) for it in WEIGHTS], [list(it) for it in WEIGHTS]
         none[3], much[4] = [0.0, 0.0, 1e-12], [1.0, 0.75, 0.5]
-        self.refused(errors.WrongWeightsError, f"the weights of symbol 3 add up to 1e-12, {why}", none, MEANS, SCALES)
-        self.refused(errors.WrongWeightsError, f"the weights of symbol 4 add up to 2.25, {why}", much, MEANS, SCALES)
+        self.refused(errors.WrongWeightsError, f"{why}, got a sum of 1e-12 for symbol 3", none, MEANS, SCALES)
+        self.refused(errors.WrongWeightsError, f"{why}, got a sum of 2.25 for symbol 4", much, MEANS, SCALES)
         much[4] = [7.0, 0.0, 0.0]
-        self.refused(errors.WrongWeightsError, f"the weights of symbol 4 add up to 7.0, {why}", much, MEANS, SCALES)
+        self.refused(errors.WrongWeightsError, f"{why}, got a sum of 7.0 for symbol 4", much, MEANS, SCALES)
         none[3][1] = -0.5
-        self.refused(ValueError, "weight 1 of symbol 3 is -0.5, and has to be at least 0 and finite", none, MEANS, SCALES)
+        self.refused(ValueError, "expected a weight that is at least 0 and finite, got -0.5 for component 1 of symbol 3", none, MEANS, SCALES)
 
     def test_parameters(self) -> None:
         means, scales = [list(it) for it in MEANS], [list(it) for it in SCALES]
         means[2][1], scales[5][0] = float("inf"), 0.0
-        self.refused(ValueError, "mean 1 of symbol 2 is inf, and has to be finite", WEIGHTS, means, SCALES)
-        self.refused(ValueError, "scale 0 of symbol 5 is 0.0, and has to be positive and finite", WEIGHTS, MEANS, scales)
+        self.refused(ValueError, "expected a mean that is finite, got inf for component 1 of symbol 2", WEIGHTS, means, SCALES)
+        self.refused(ValueError, "expected a scale that is positive and finite, got 0.0 for component 0 of symbol 5", WEIGHTS, MEANS, scales)
 
     def test_lengths(self) -> None:
-        shapes = "weights and parameters have to have one shape (n, K), and have"
+        shapes = "expected weights and parameters of one shape (n, K), got"
         self.refused(errors.WrongLengthError, f"{shapes} (6, 3) and (5, 3) and (6, 3)", WEIGHTS, MEANS[:5], SCALES)
         narrow = [it[:2] for it in SCALES]
         self.refused(errors.WrongLengthError, f"{shapes} (6, 3) and (6, 3) and (6, 2)", WEIGHTS, MEANS, narrow)
         ragged = [*SCALES[:4], [1.0], SCALES[5]]
-        self.refused(errors.WrongLengthError, "symbol 0 has 3 components, and symbol 4 has 1", WEIGHTS, MEANS, ragged)
+        self.refused(errors.WrongLengthError, "expected 3 components for each symbol, as for symbol 0, got 1 for symbol 4", WEIGHTS, MEANS, ragged)
         empty: Any = [[]] * 6
         self.refused(
-            errors.WrongWeightsError, "a mixture has at least one component, and rows of none were handed in", empty, empty, empty,
+            errors.WrongWeightsError, "expected at least one component, got rows without components", empty, empty, empty,
         )  # fmt: skip
-        why = "there are 2 symbols and 6 sets of parameters: each symbol has one"
+        why = "expected as many sets of parameters as symbols, got 6 sets of parameters and 2 symbols"
         self.refused(errors.WrongLengthError, why, WEIGHTS, MEANS, SCALES, symbols=[1, 2])
 
     def test_symbols(self) -> None:

@@ -431,14 +431,14 @@ class WholeNumbers(unittest.TestCase):
             lambda it: ChainCoder([1, 2, 3]).encode_reverse(it, fixed),
         ):  # fmt: skip
             for wrong in ([1.9, -2.9], [1.0], array("d", [1.0]), array("f", [1.0])):
-                self.assertRaisesRegex(TypeError, "whole numbers are wanted", call, wrong)
+                self.assertRaisesRegex(TypeError, "expected whole numbers, got ", call, wrong)
         for call in (AnsCoder().encode_reverse, RangeEncoder().encode):
             for wrong in ([1.9, -2.9], array("d", [1.9, -2.9])):
-                self.assertRaisesRegex(TypeError, "whole numbers are wanted", call, wrong, family, [0.0, 0.0], [1.0, 1.0])
-            self.assertRaisesRegex(TypeError, "whole numbers are wanted", call, 1.0, family, 0.0, 1.0)
-            self.assertRaisesRegex(TypeError, "whole numbers are wanted", call, 1.0, fixed)
+                self.assertRaisesRegex(TypeError, "expected whole numbers, got ", call, wrong, family, [0.0, 0.0], [1.0, 1.0])
+            self.assertRaisesRegex(TypeError, "expected whole numbers, got ", call, 1.0, family, 0.0, 1.0)
+            self.assertRaisesRegex(TypeError, "expected whole numbers, got ", call, 1.0, fixed)
         for call in (QueueEncoder().encode_symbol, StackCoder().encode_symbol):
-            self.assertRaisesRegex(TypeError, "whole numbers are wanted", call, 1.0, tree)
+            self.assertRaisesRegex(TypeError, "expected whole numbers, got ", call, 1.0, tree)
         self.assertRaises(TypeError, AnsCoder([1]).decode, fixed, 1.0)
         self.assertRaises(TypeError, QueueDecoder([1]).decode, ExpGolomb(), 1.0)
         self.assertRaises(TypeError, AnsCoder([1]).seek, 0.0, 0)

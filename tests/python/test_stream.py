@@ -175,7 +175,7 @@ class Ans(unittest.TestCase):
                     self.assertRaises(errors.ImpossibleSymbolError, coder.encode_reverse, [symbol], model)
         with self.assertRaises(errors.ImpossibleSymbolError):
             coder.encode_reverse([51], QuantizedGaussian(-50, 50), [0.0], [1.0])
-        with self.assertRaisesRegex(errors.WrongWeightsError, "^weights do not sum to 16777216, but to 3$"):
+        with self.assertRaisesRegex(errors.WrongWeightsError, "^expected weights with a sum of 16777216, got a sum of 3$"):
             coder.encode_reverse(0, WeightTable([1, 2]))
         with self.assertRaises(errors.WrongWeightsError):
             coder.decode(WeightTable(), [[16777216, 0], [16777216, 1]])

@@ -136,7 +136,7 @@ class ChainCoder(Coder):
         Raises :class:`InvalidDataError` if there are too few words, or if they end with a zero word.
         """
         if is_remainders and seal:
-            raise ValueError("remainders can't be sealed")
+            raise ValueError("expected is_remainders or seal, got both")
         words, length, heads = copied(data), c_size_t(0), ChainHeads()
         name = "chain_from_remainders" if is_remainders else "chain_from_binary" if seal else "chain_from_compressed"
         texts = {7: errors.NOT_ENOUGH_WORDS}

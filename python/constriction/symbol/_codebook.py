@@ -17,7 +17,7 @@ def codebook_wanted(codebook: Any) -> None:
     """Raises TypeError if ``codebook`` isn't a codebook."""
     if not isinstance(codebook, Codebook):
         raise TypeError(
-            f"a codebook is wanted, such as a Huffman tree or ExpGolomb(), and not a {type(codebook).__name__}"
+            f"expected a codebook, such as a Huffman tree or ExpGolomb(), got {type(codebook).__name__}"
         )
 
 

@@ -21,29 +21,29 @@ __all__ = ["DecoderHuffmanTree", "EncoderHuffmanTree"]
 
 #: The sum of the weights for floats, before rounding down. It is below 2^32.
 _SHARES = 1 << 31
-_TOO_LARGE = "sum of weights too large"
+_TOO_LARGE = "expected weights with a sum below 2^32, got a greater sum"
 
 
 def _weights(probabilities: List) -> array[int]:
     """Returns whole numbers as they are, and floats as their shares of 2^31, rounded down."""
     if is_one(probabilities):
-        raise TypeError(f"a list of weights is wanted, and not a {type(probabilities).__name__}")
+        raise TypeError(f"expected a list of weights, got {type(probabilities).__name__}")
     given = sequence_of(probabilities)
     try:
         return wholes_of(WORD, given)
     except OverflowError:
         for place, weight in enumerate(map(whole, listed_of(given))):
             if weight < 0:
-                raise errors.WrongWeightsError(f"weight {place} is {weight}: no weight is negative") from None
+                raise errors.WrongWeightsError(f"expected a weight of at least 0, got {errors.shown(weight)} at place {place}") from None
         raise errors.WrongWeightsError(_TOO_LARGE) from None
     except TypeError:
         shares = floats_of(given)
     total = sum(shares)
     for place, share in enumerate(shares):
         if not 0 <= share < math.inf:
-            raise errors.WrongWeightsError(f"probability {place} is {share}, and has to be at least 0 and finite")
+            raise errors.WrongWeightsError(f"expected a probability that is at least 0 and finite, got {share} at place {place}")
     if not 0 < total < math.inf:
-        raise errors.WrongWeightsError(f"the probabilities have no positive sum, but {total}")
+        raise errors.WrongWeightsError(f"expected probabilities with a finite sum above 0, got a sum of {total}")
     return array(WORD, (int(it / total * _SHARES) for it in shares))
 
 
@@ -62,7 +62,7 @@ class _Tree(Codebook):
         or not finite.
         """
         self._weights = _weights(probabilities)
-        self._texts = {2: _TOO_LARGE if len(self._weights) else "no weights", 8: errors.CODEWORD_ENDED}
+        self._texts = {2: _TOO_LARGE if len(self._weights) else "expected at least one weight, got none", 8: errors.CODEWORD_ENDED}
         self._grown: tuple[list[tuple[int, int]], list[tuple[int, int]]] | None = None
         # Encodes no symbols: this only checks the weights.
         self.encoded(array(SYMBOL), False)
@@ -82,10 +82,10 @@ class _Tree(Codebook):
             place = 0
             for bits, count in codewords:
                 if found.part(place, place + count) != bits:
-                    raise RuntimeError("a codeword isn't that of the library")
+                    raise RuntimeError("a codeword differs from the library's codeword")
                 place += count
             if (place + 31) // 32 * 32 != found.length:
-                raise RuntimeError("codewords aren't those of the library")
+                raise RuntimeError("codewords differ from the library's codewords")
             self._grown = codewords, unions
         return self._grown
 

@@ -197,7 +197,7 @@ class Numpy(unittest.TestCase):
             lambda: AnsCoder().encode_reverse([1, 2, 3], family, masked, [1.0] * 3), lambda: AnsCoder().decode(family, [0.0] * 3, masked),
             lambda: EncoderHuffmanTree(masked), lambda: QuantizedGaussian(-9, 9, masked[1], 1.0), lambda: AnsCoder().decode(Categorical(), [masked]),
         ):  # fmt: skip
-            self.assertRaisesRegex(TypeError, "^numbers are wanted, and not a masked array: ", call)
+            self.assertRaisesRegex(TypeError, "^expected numbers, got a masked array: ", call)
 
     def test_text_is_no_number(self) -> None:
         for wrong in (numpy.array(["1", "2"]), [numpy.str_("1"), numpy.str_("2")], numpy.array([None, 1.0]), numpy.array([1j])):
@@ -211,7 +211,7 @@ class Numpy(unittest.TestCase):
     def test_stores_in_another_byte_order(self) -> None:
         built = Store.build([TEN, TEN[::-1]], WeightTable(WEIGHTS))
         for kind in (">u4", "int32", "float32", "uint16"):
-            with self.assertRaisesRegex(TypeError, "^a buffer of words of 32 bits is wanted, "):
+            with self.assertRaisesRegex(TypeError, "^expected a buffer of unsigned 32-bit words "):
                 Store.from_parts(built.words.astype(kind), built.index, WeightTable(WEIGHTS))
         for words in (built.words, built.words.astype("<u4"), built.words.view("uint8"), built.words.tobytes()):
             self.assertEqual(Store.from_parts(words, built.index, WeightTable(WEIGHTS))[1].tolist(), TEN[::-1])
@@ -255,9 +255,9 @@ class Numpy(unittest.TestCase):
         for wrong in (-1.0, numpy.nan, numpy.inf):
             rows = numpy.full((4, 3), 0.25)
             rows[2, 1] = wrong
-            with self.assertRaisesRegex(ValueError, "^probability 1 is "):
+            with self.assertRaisesRegex(ValueError, "^expected a probability that is at least 0 and finite, got .* at place 1 in row 2$"):
                 AnsCoder().decode(Categorical(), rows)
-        with self.assertRaisesRegex(ValueError, "^no probability is above 0$"):
+        with self.assertRaisesRegex(ValueError, "^expected a probability above 0, got none in row 0$"):
             AnsCoder().decode(Categorical(), numpy.zeros((2, 3)))
 
     def test_one_symbol(self) -> None:

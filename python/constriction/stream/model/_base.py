@@ -23,6 +23,7 @@ __all__ = [
     "Located",
     "Model",
     "equally_long",
+    "lists_named",
     "ranged",
     "shown_range",
     "sized",
@@ -36,7 +37,7 @@ ENDS, UNITS, ROW = range(3)
 _SELDOM, _MOST_ENDS, _FEW_WEIGHTS = 2, 1 << 16, 64
 PRECISION = 24
 TOTAL = 1 << PRECISION
-FALLS = "a cumulative distribution function never falls"
+FALLS = "expected a cumulative distribution function that never falls, got one that falls"
 #: The sum of the weights before the k-th symbol.
 Bound = Callable[[int], int]
 
@@ -166,7 +167,7 @@ class Model:
         """Returns the weights of a model that has all its parameters. No caller writes to them."""
         if self._fixed is None:
             if self.missing:
-                raise TypeError(f"the model has no {' and no '.join(self.missing)}: hand in a list of each")
+                raise TypeError(f"expected {lists_named(self.missing)}, got none")
             self._fixed = self._weights(())
         return self._fixed
 
@@ -199,10 +200,7 @@ class Model:
 
     def _known(self, given: Sequence[Any]) -> None:
         if len(given) != len(self.missing):
-            wanted = " and ".join(f"a list of each {it}" for it in self.missing)
-            wanted = f"wants {wanted}" if wanted else "has all its parameters"
-            count = "one list of parameters was" if len(given) == 1 else f"{len(given)} lists of parameters were"
-            raise TypeError(f"{count} handed in, and the model {wanted}")
+            raise TypeError(f"expected {lists_named(self.missing)}, got {len(given)}")
 
     def parameters(self, given: Sequence[Any]) -> list[tuple[Any, ...]]:
         """Returns the parameters of each symbol, from one list of values for each parameter."""
@@ -228,15 +226,15 @@ class Model:
         listed = [whole(it) for it in listed_of(symbols)]
         if len(listed) != len(sets):
             raise WrongLengthError(
-                f"there are {len(listed)} symbols and {len(sets)} sets of parameters: each symbol has one"
+                f"expected as many sets of parameters as symbols, got {len(sets)} sets of parameters and {len(listed)} symbols"
             )
         lefts, ps = array(WORD), array(WORD)
         for place, (symbol, parameters) in enumerate(zip(listed, sets)):
             try:
                 left, p = self._interval(symbol, parameters)
-            except ImpossibleSymbolError as it:
-                it.place = None if one else place
-                raise
+            except ImpossibleSymbolError:
+                count, _ = self._bounds(parameters)
+                raise impossible(symbol, None if one else place, self.first, count) from None
             lefts.append(left)
             ps.append(p)
         return lefts, ps
@@ -249,12 +247,20 @@ class Model:
         raise NotImplementedError
 
 
+def lists_named(names: Sequence[str]) -> str:
+    """Returns the lists that a call takes after the model, as the text of a message."""
+    if not names:
+        return "no parameters after the model"
+    count = "a list" if len(names) == 1 else f"{len(names)} lists"
+    return f"{count} of parameters after the model ({', '.join(names)})"
+
+
 def equally_long(lists: list[array[float]]) -> list[array[float]]:
     """Returns the lists of parameters. Raises WrongLengthError if their lengths differ."""
     lengths = [len(it) for it in lists]
     if any(it != lengths[0] for it in lengths):
         raise WrongLengthError(
-            f"lists of parameters have to be equally long, and have {' and '.join(map(str, lengths))}"
+            f"expected lists of parameters of one length, got the lengths {' and '.join(map(str, lengths))}"
         )
     return lists
 
@@ -279,7 +285,7 @@ def spread(count: int, share: Callable[[int], float]) -> Bound:
             return TOTAL
         below = share(place)
         if below != below:
-            raise ValueError(f"a cumulative distribution function gave no number, but {below}")
+            raise ValueError(f"expected a number from the cumulative distribution function, got {below}")
         return place + math.floor(free * min(max(below, 0.0), 1.0))
 
     return bound
@@ -300,5 +306,5 @@ def ranged(least: Any, greatest: Any) -> tuple[int, int]:
     first, last = whole(least), whole(greatest)
     count = sized(last - first + 1)
     if first < -(1 << 63) or last >= 1 << 63:
-        raise ValueError("symbols lie between -2^63 and 2^63 - 1")
+        raise ValueError(f"expected symbols between -2^63 and 2^63 - 1, got {shown(first)} .. {shown(last)}")
     return first, count

@@ -49,6 +49,6 @@ class QuantizedCauchy(Model):
         location = next(given) if self._location is None else self._location
         scale = next(given) if self._scale is None else self._scale
         if not (math.isfinite(location) and 0 < scale < math.inf):
-            raise ValueError(f"a loc is finite, and a scale positive and finite, and these are {location} and {scale}")
+            raise ValueError(f"expected a finite loc and a positive and finite scale, got {location} and {scale}")
         start = self.first - 0.5 - location
         return self._count, spread(self._count, lambda place: 0.5 + math.atan((start + place) / scale) / math.pi)

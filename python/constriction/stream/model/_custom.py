@@ -32,7 +32,7 @@ class CustomModel(Model):
         ``cdf`` takes a float, and one more float for each list of parameters that the coder's calls pass.
         """
         if not callable(cdf):
-            raise TypeError(f"a cumulative distribution function is wanted, and not a {type(cdf).__name__}")
+            raise TypeError(f"expected a cumulative distribution function, got {type(cdf).__name__}")
         self._cdf = cdf
         self.first, self._count = ranged(min_symbol_inclusive, max_symbol_inclusive)
 

@@ -138,7 +138,7 @@ class Binomial(Model):
         n = self._trials(next(given) if self._n is None else self._n)
         p = next(given) if self._p is None else self._p
         if not 0 <= p <= 1:
-            raise ValueError(f"a probability lies between 0 and 1, and {p} doesn't")
+            raise ValueError(f"expected a probability between 0 and 1, got {p}")
         sized(n + 1)
         sums = array("d", accumulate((_chance(n, k, p) for k in range(n + 1)), initial=0.0))
         return n + 1, spread(n + 1, lambda place: sums[place])

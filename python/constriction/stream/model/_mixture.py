@@ -77,8 +77,8 @@ class QuantizedMixture(Model):
         """Creates a model of mixtures with the family and the range of ``components``."""
         if not isinstance(components, _Quantized) or components.missing != components._names or components.size < 2:
             raise TypeError(
-                "a mixture is made of a quantized model without parameters and of at least two symbols,"
-                f" as QuantizedLogistic(-9, 9), and not of {components!r}"
+                "expected a quantized model of at least two symbols and without parameters, such as QuantizedLogistic(-9, 9),"
+                f" got {components!r}"
             )
         self._components = components
         self.first = components.first
@@ -108,7 +108,7 @@ class QuantizedMixture(Model):
         (weights, width), (locations, _), (scales, _) = grids
         if any((len(floats), wide) != (len(weights), width) for floats, wide in grids):
             shapes = " and ".join(f"({len(floats) // max(wide, 1)}, {wide})" for floats, wide in grids)
-            raise WrongLengthError(f"weights and parameters have to have one shape (n, K), and have {shapes}")
+            raise WrongLengthError(f"expected weights and parameters of one shape (n, K), got {shapes}")
         of = self._components
         name, other = of._names
         return Mixed(
@@ -118,4 +118,4 @@ class QuantizedMixture(Model):
 
     def table(self) -> array[int]:
         """Raises an exception, because a mixture has no table of its own."""
-        raise TypeError("a mixture has no weights and no means and no scales: hand in a row of each for each symbol")
+        raise TypeError("expected rows of weights, of means and of scales after the model, got none")

@@ -53,9 +53,13 @@ class Rows(Model):
     def rows(self, given: Sequence[Any]) -> Iterator[tuple[array[int], int, int]]:
         """Yields several rows of equal width at a time: their weights, the width, and the number of rows."""
         self._known(given)
+        return self._packed(given[0], 0)
+
+    def _packed(self, rows: Any, start: int) -> Iterator[tuple[array[int], int, int]]:
+        """Does the same as ``rows``, for rows of which the first is number ``start``."""
         packed: array[int] = array(WORD)
         width = 0
-        for row in rows_of(given[0], self._row):
+        for row in self._listed(rows, start):
             if packed and (len(row) != width or len(packed) + width > ROWS_AT_A_TIME):
                 yield packed, width, len(packed) // width
                 packed = array(WORD)
@@ -65,6 +69,20 @@ class Rows(Model):
             packed += row
         if packed:
             yield packed, width, len(packed) // width
+
+    def _listed(self, rows: Any, start: int) -> list[array[int]]:
+        """Returns the weights of each row. An exception names the row, of which the first is number ``start``."""
+        place = start - 1
+
+        def row(numbers: Any) -> array[int]:
+            nonlocal place
+            place += 1
+            return self._row(numbers)
+
+        try:
+            return rows_of(rows, row)
+        except (ValueError, TypeError) as it:
+            raise type(it)(f"{it} in row {place}") if place >= start else it from None
 
 
 class WeightTable(Rows):
@@ -124,7 +142,7 @@ class Categorical(Rows):
 
     def _row(self, numbers: Any) -> array[int]:
         if is_one(numbers):
-            raise TypeError(f"a list of probabilities is wanted, and not a {type(numbers).__name__}")
+            raise TypeError(f"expected a list of probabilities, got {type(numbers).__name__}")
         given = sequence_of(numbers)
         sized(len(given))
         wholes = _wholes(given)
@@ -145,7 +163,7 @@ class Categorical(Rows):
             some = table[start : start + size]
             counts = counts_of_rows(some)
             if counts is None:
-                yield from super().rows((some,))  # This raises an exception that names the probability.
+                yield from self._packed(some, start)  # This raises an exception that names the probability.
                 continue
             weights = room(WORD, len(counts))
             at, to = counts.buffer_info()[0], weights.buffer_info()[0]
