@@ -48,8 +48,8 @@ RefusedAmong {S = S} {B = B} decodes halts precision table models old new =
 
 -- The only possible errors are `Refused` and `OutOfData(count)`. If the error is `OutOfData(count)`, the statement
 -- `ended count` holds.
-abbrev pub UnlessEnded : (ℕ → Type 0) → RoundTripError → Type 0
-UnlessEnded ended e = Reasons ⊥ ⊥ ⊥ ended e
+abbrev pub OnlyEnds : (ℕ → Type 0) → RoundTripError → Type 0
+OnlyEnds ended e = Reasons ⊥ ⊥ ⊥ ended e
 
 -- ---- encodes that end early
 

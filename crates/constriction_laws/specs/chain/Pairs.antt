@@ -11,7 +11,7 @@ use Rattle.constriction_chain.specs.Runs.{AreIsolated}
 use Rattle.constriction_chain.specs.Steps.{DecodeCall, Halted}
 use Rattle.constriction_chain.specs.Symbols.{PutsBackAll, TakesOffAll}
 use Rattle.constriction_chain.specs.Words.{remainder_words}
-use Rattle.constriction_laws.specs.chain.Endings.{Ended, EndsEarly, NotPutBack, RefusedAmong, TookOff, UnlessEnded}
+use Rattle.constriction_laws.specs.chain.Endings.{Ended, EndsEarly, NotPutBack, OnlyEnds, RefusedAmong, TookOff}
 use Rattle.constriction_laws.specs.Outcomes.{DecodesPairs}
 use Rattle.constriction_laws.specs.chain.Isolating.{decodings_by}
 use Rattle.constriction_laws.specs.declared.chain.errors.PutBackError.{PutBackError}
@@ -69,7 +69,7 @@ AreIsolatedBy precision table models other others both =
 -- One coder ended early, and the other didn't change; or the one took off its symbols, and the other ended early.
 abbrev pub EndsInTwo : {S M L C R : Type 0} → Type 0 → ℕ → ℕ → ℕ → (M → List (S × ℕ × ℕ)) → List M → ChainValue C R
     → ChainValue C R → (L → List (S × ℕ × ℕ)) → List L → ChainValue C R → ChainValue C R → RoundTripError → Type 0
-EndsInTwo is_list w s precision table models old new other others same again e = UnlessEnded (λ taken.
+EndsInTwo is_list w s precision table models old new other others same again e = OnlyEnds (λ taken.
     (PairsEndEarly is_list w s precision table models old.state taken new.state × (again ≡ same))
     ⊎ (TookOff is_list w s (λ given. pairs_of precision table given models) (length models) old.state new.state
     × PairsEndEarly is_list w s precision other others same.state taken again.state)) e

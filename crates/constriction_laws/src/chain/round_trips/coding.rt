@@ -6,7 +6,7 @@ ghost use Rattle.std.specs.Prelude.{◌≡◌, length, reverse, IfErr, IfOk, OnO
 ghost use Rattle.constriction_base.specs.Models.{pairs_of};
 ghost use Rattle.constriction_chain.specs.Symbols.{TakesOffAll, PutsBackAll};
 ghost use Rattle.constriction_laws.specs.Outcomes.{IfRefused};
-ghost use Rattle.constriction_laws.specs.chain.Endings.{NotEncoded, UnlessEnded};
+ghost use Rattle.constriction_laws.specs.chain.Endings.{NotEncoded, OnlyEnds};
 ghost use Rattle.constriction_laws.specs.chain.Pairs.{DecodesByReads, PairsEndEarly, PairsRefused};
 
 use crate::errors::{RoundTripError, Stopped};
@@ -47,7 +47,7 @@ where
         (pairs_of PRECISION M.table again.items models.now) coder.old.state coder.new.state) }
     ensures reads { IfOk result (λ again. DecodesByReads Word.number C.Holds C.ReadWords.own R.Holds R.WriteWords.own
         Word.BITS State.BITS PRECISION M.table again.items models.now coder.old coder.new) }
-    ensures err { IfErr result (UnlessEnded (λ taken. PairsEndEarly C.is_list Word.BITS State.BITS PRECISION M.table
+    ensures err { IfErr result (OnlyEnds (λ taken. PairsEndEarly C.is_list Word.BITS State.BITS PRECISION M.table
         models.now coder.old.state taken coder.new.state)) }
     ensures refused { IfErr result (IfRefused (PairsRefused Word.number C.Holds C.ReadWords.own R.Holds R.WriteWords.own
         Word.BITS State.BITS PRECISION M.table models.now coder.old coder.new)) }

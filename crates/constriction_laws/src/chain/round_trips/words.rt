@@ -6,7 +6,7 @@
 ghost use Rattle.std.specs.Prelude.{◌≡◌, ℕ, List, length, map, reverse, IfErr, IfOk, OnOk};
 ghost use Rattle.constriction_base.specs.Models.{pairs_of};
 ghost use Rattle.constriction_chain.specs.Chain.{ChainState, IsSized};
-ghost use Rattle.constriction_laws.specs.chain.Endings.{ComesBackOver, UnlessEnded};
+ghost use Rattle.constriction_laws.specs.chain.Endings.{ComesBackOver, OnlyEnds};
 ghost use Rattle.constriction_laws.specs.chain.Lists.{AfterTaking};
 ghost use Rattle.constriction_laws.specs.chain.Pairs.{PairsEnded, PairsNotPutBack, PutsPairsBack, TakesApart};
 
@@ -44,7 +44,7 @@ where
     ensures count { IfOk result (λ taken. length taken.0.items ≡ length models.now) }
     ensures words { IfOk result (λ taken. TakesApart Word.number Word.BITS State.BITS (pairs_of PRECISION M.table
         taken.0.items models.now) coder.state taken.1.items taken.2.items) }
-    ensures err { IfErr result (UnlessEnded (PairsEnded Word.BITS State.BITS PRECISION M.table models.now
+    ensures err { IfErr result (OnlyEnds (PairsEnded Word.BITS State.BITS PRECISION M.table models.now
         coder.state)) }
 {
     let mut coder = coder;
