@@ -20,8 +20,8 @@ __all__ = [
 UNITS_OF_ONE = 65536.0
 #: The limit of locations. A table is the same for all locations that are so far outside of the table's range.
 FARTHEST = 2.0**46
-#: The least scale, 1 unit, and the greatest scale, 2^32 - 1 units.
-NARROWEST, WIDEST = 1 / UNITS_OF_ONE, 65536.0 - 1 / UNITS_OF_ONE
+#: The least scale, 1 unit, the greatest scale, 2^32 - 1 units, and the least float that no scale may be.
+NARROWEST, WIDEST, TOO_WIDE = 1 / UNITS_OF_ONE, 65536.0 - 1 / UNITS_OF_ONE, 65536.0
 #: The sum of the two weights of a Bernoulli model.
 _TOTAL = 16777216.0
 #: The number of units in a component's weight of 1, and the greatest sum of a row's weights.
@@ -128,11 +128,13 @@ def locations_of(name: str, floats: array[float], width: int | None = None) -> a
 def scales_of(name: str, floats: array[float], width: int | None = None) -> array[int]:
     """Returns scales in units of 2^-16, limited to the least and the greatest scale.
 
-    Raises ValueError if a scale isn't positive and finite.
+    Raises ValueError if a scale isn't positive and finite, or if a scale is 65536 or more.
     """
     ends = _ends(floats)
     if not ends[0] > 0:
         raise _fault(name, floats, lambda it: 0 < it < inf, "that is positive and finite", width)
+    if ends[1] >= TOO_WIDE:
+        raise _fault(name, floats, lambda it: it < TOO_WIDE, "below 65536", width)
     return _rounded(WORD, floats, UNITS_OF_ONE, (NARROWEST, WIDEST), ends)
 
 

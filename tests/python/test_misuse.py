@@ -80,7 +80,7 @@ for coder in (AnsCoder([1, 2, 3]), RangeDecoder([1, 2, 3]), ChainCoder([1, 2, 3]
         assert coder._plain(coder._state) == before
     print()
 for coder, tree in (
-    (QueueDecoder([1, 2, 3]), ExpGolomb()), (StackCoder([1, 2, 3]), ExpGolomb()), (QueueDecoder([1, 2, 3]), DecoderHuffmanTree([1, 1])),
+    (QueueDecoder([0xFFFFFFFF] * 3), ExpGolomb()), (StackCoder([0xFFFFFFFF] * 3), ExpGolomb()), (QueueDecoder([1, 2, 3]), DecoderHuffmanTree([1, 1])),
     (QueueDecoder([1, 2, 3]), DecoderHuffmanTree([1])),  # Codewords of no bits.
 ):
     try:

@@ -16,7 +16,7 @@ from constriction import errors
 from constriction.stream.chain import ChainCoder
 from constriction.stream.model import (
     Bernoulli, Binomial, Categorical, CustomModel, Model, QuantizedCauchy, QuantizedGaussian, QuantizedLaplace,
-    QuantizedLogistic,
+    QuantizedLogistic, QuantizedMixture,
     Uniform, WeightTable,
 )  # fmt: skip
 from constriction.stream.queue import RangeDecoder, RangeEncoder
@@ -167,11 +167,26 @@ class Families(unittest.TestCase):
 
     def test_extremes(self) -> None:
         widest = (2**32 - 1) * UNIT
-        stds = [UNIT, 3 * UNIT, (2**31 - 1) * UNIT, widest, widest + UNIT / 2, 65536.0, 1e30, 1e308, UNIT / 2, UNIT / 3]
+        stds = [UNIT, 3 * UNIT, (2**31 - 1) * UNIT, widest, widest + UNIT / 2, 65536.0 - 2.0**-37, UNIT / 2, UNIT / 3]
         for family in FAMILIES:
             for std in [*stds, 5e-324]:
                 for mean in (0.0, 0.5, -4.5, 4.4999, 10.0, -1e5, 2.0**31, 2.0**46, 2.0**47, -(2.0**60), 1e300, -1e300):
                     self.agrees(family, -4, 5, mean, std)
+
+    def test_scales_past_the_limit(self) -> None:
+        """They are refused, and the limit is named, wherever a scale is passed."""
+        for kind, name in ((QuantizedGaussian, "std"), (QuantizedLaplace, "scale"), (QuantizedLogistic, "scale")):
+            for wide in (65536.0, 65536, 200000.0, 1e30, 1e308):
+                text, family, mixture = f"^expected a {name} below 65536, got ", kind(-9, 9), QuantizedMixture(kind(-9, 9))
+                for coder in (AnsCoder([5, 6]), RangeDecoder([5, 6]), ChainCoder(range(1, 9))):
+                    for call in (
+                        lambda: kind(-9, 9, 0.0, wide), lambda: kind(-9, 9, None, wide), lambda: coder.decode(family, 0.0, wide),
+                        lambda: coder.decode(kind(-9, 9, 0.0), wide * 1.0), lambda: coder.decode(family, [0.0] * 40, [1.0] * 39 + [wide]),
+                        lambda: coder.decode(mixture, [[0.5, 0.5]], [[0.0, 0.0]], [[1.0, wide]]),
+                    ):  # fmt: skip
+                        self.assertRaisesRegex(ValueError, text, call)
+                self.assertRaisesRegex(ValueError, text, AnsCoder().encode_reverse, [0], family, [0.0], [wide])
+                self.assertRaisesRegex(ValueError, text, RangeEncoder().encode, 0, family, 0.0, wide)
 
     def test_ranges(self) -> None:
         """At the ends of 32 bits, past them, and wide."""

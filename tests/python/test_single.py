@@ -35,7 +35,7 @@ def some_steps(dice: random.Random, count: int) -> list[Step]:
     """Symbols under models that are used again and again, under new ones, and under parameters of their own."""
     steps: list[Step] = []
     for _ in range(count):
-        mean, std = dice.uniform(-15, 15), math.exp(dice.uniform(-12, 12))
+        mean, std = dice.uniform(-15, 15), math.exp(dice.uniform(-12, 11))
         weights = by.random_weights(dice, dice.choice((1, 2, 16, 70)))
         kind: Any = dice.choice((QuantizedGaussian, QuantizedLaplace, QuantizedLogistic))
         model, given = dice.choice((

@@ -26,7 +26,7 @@ TEN = [0, 1, 2, 0, 1, 2, 0, 0, 0, 1]
 #: Depths of a tide, in tenths of a metre around 0, what a forecast says of each, and how sure it is.
 TIDE = [-31, -12, 8, 27, 40, 33, 14, -7, -60, 60]
 FORECAST = [-28.5, -15.75, 6.0, 29.25, 38.0, 35.5, 11.0, -4.5, -58.0, 70.0]
-SPREAD = [4.0, 4.0, 2.5, 2.5, 0.01, 6.0, 3.25, 3.25, 12.0, 1e6]
+SPREAD = [4.0, 4.0, 2.5, 2.5, 0.01, 6.0, 3.25, 3.25, 12.0, 1e4]
 #: How often there was sun, rain, snow.
 WEATHER = [11, 6, 1]
 

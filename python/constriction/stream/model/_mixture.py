@@ -70,7 +70,7 @@ class QuantizedMixture(Model):
     equal parameters give equal words on every machine.
 
     Raises WrongWeightsError if the weights of a row have another sum, WrongLengthError if shapes differ, and ValueError
-    if a number isn't finite, a weight is negative or a scale isn't positive.
+    if a number isn't finite, a weight is negative or a scale isn't positive and below 65536.
     """
 
     def __init__(self, components: _Quantized) -> None:

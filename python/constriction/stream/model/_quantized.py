@@ -30,7 +30,7 @@ class _Quantized(Model):
     two ends of the range.
 
     The C functions make the tables from a location and a scale in units of 2^-16. Floats are rounded to these units
-    once. A scale is at least 1 and at most 2^32 - 1 units.
+    once. A scale is at least 1 and at most 2^32 - 1 units. One of 2^32 units or more is refused.
     """
 
     _family: int
@@ -145,11 +145,11 @@ class QuantizedGaussian(_Quantized):
     two ends of the range. Each symbol has a weight of at least 1. If ``mean`` or ``std`` is missing, pass a list of
     values to the coder's calls, in this order.
 
-    The mean and the deviation are rounded to multiples of 2^-16, half to even. A deviation is at least 2^-16 and at
-    most 65536 - 2^-16: others are set to these bounds. All later computations are in whole numbers, so equal parameters
-    give equal words on every machine.
+    The mean and the deviation are rounded to multiples of 2^-16, half to even. A deviation below 2^-16 counts as
+    2^-16, and one between 65536 - 2^-16 and 65536 as 65536 - 2^-16. All later computations are in whole numbers, so
+    equal parameters give equal words on every machine.
 
-    Raises ValueError if the mean isn't finite, if the deviation isn't positive and finite, or if the range has no
+    Raises ValueError if the mean isn't finite, if the deviation isn't positive and below 65536, or if the range has no
     symbol or more than 2^24 symbols.
     """
 
