@@ -13,7 +13,7 @@ from collections.abc import Iterable, Sequence
 from typing import TYPE_CHECKING, Any, SupportsFloat, SupportsIndex, Union, overload
 
 __all__ = [
-    "NUMBER", "SYMBOL", "WORD", "Answer", "Array", "List", "Numbers", "Parameter", "Real", "Reals", "Symbols", "answered", "lent", "listed",
+    "NUMBER", "SYMBOL", "WORD", "Amount", "Answer", "Array", "List", "Numbers", "Parameter", "Real", "Reals", "Symbols", "answered", "lent", "listed",
     "room",
 ]  # fmt: skip
 
@@ -27,6 +27,9 @@ Real = Union[SupportsFloat, SupportsIndex]
 Reals = Union[Iterable[Real], memoryview]
 #: One parameter, a list with one for each symbol, or a row for each symbol.
 Parameter = Union[Real, Reals, Iterable[Reals]]
+
+#: A number of symbols, or the shape of an array of them.
+Amount = Union[SupportsIndex, "tuple[SupportsIndex, ...]"]
 
 WORD, SYMBOL, NUMBER = "I", "q", "d"
 #: The memory of empty lists.

@@ -4,6 +4,7 @@ from __future__ import annotations
 
 from collections.abc import Callable, Iterator, Sequence
 from itertools import repeat
+from math import prod
 from typing import Any, NoReturn
 
 from ._buffers import SYMBOL, Numbers, Symbols, answered, listed, numpy_module, room
@@ -12,6 +13,7 @@ from ._numbers import count_of, is_one, listed_of, places_of, sequence_of, whole
 from .errors import (
     WRONG_WEIGHTS, ImpossibleSymbolError, Refusal, WrongLengthError, WrongWeightsError, impossible,
 )  # fmt: skip
+from ._shapes import Shape, aligned, flat, shape_of
 from .stream.model import Model
 from .stream.model._base import TOTAL, Located, lists_named
 
@@ -56,9 +58,11 @@ def encoded(
     if not isinstance(model, Model):
         model_wanted(model, symbols)
     one = is_one(symbols)
+    parameters = tuple(it if is_one(it) else sequence_of(it) for it in parameters)
     if not one:
         symbols = sequence_of(symbols)
-    parameters = tuple(it if is_one(it) else sequence_of(it) for it in parameters)
+        parameters = aligned(model.core, parameters, shape_of(symbols))[0] if parameters else ()
+        symbols = flat(symbols)
     try:
         return _encoded(state, symbols, model, parameters, encode, backwards, ready)
     except Refusal as refused:
@@ -230,6 +234,20 @@ def _under_parameters(
     return _under_located(state, located, decode)
 
 
+def _is_count(number: Any, complete: bool) -> bool:
+    """Returns whether this is a number of symbols. For a model that takes no parameters, it may also be a shape."""
+    return is_one(number) and hasattr(number, "__index__") or complete and isinstance(number, tuple)
+
+
+def shape_counted(amt: Any) -> Shape:
+    """Returns the shape of ``amt`` symbols: a number of them, or a tuple of such numbers."""
+    if not isinstance(amt, tuple):
+        return (count_of(amt),)
+    if len(amt) != 1 and numpy_module() is None:
+        raise TypeError(f"expected a number of symbols, got {amt}: import numpy for arrays of other shapes")
+    return tuple(map(count_of, amt))
+
+
 def decoded(
     state: Any,
     model: Model,
@@ -249,29 +267,30 @@ def decoded(
     if amt is not None:
         if rest:
             raise TypeError("expected parameters or a number of symbols, got both")
-        rest = (count_of(amt),)
+        rest = (amt,)
         if model.missing:
             raise TypeError(f"expected {lists_named(model.missing)}, got a number of symbols")
     # A model of a function may have parameters or none. A single whole number is then a number of symbols.
-    counted = len(rest) == 1 and not model.missing and is_one(rest[0]) and hasattr(rest[0], "__index__")
+    counted = amt is not None or len(rest) == 1 and not model.missing and _is_count(rest[0], model.complete)
     if len(rest) == 1 and model.complete and not counted:
         raise TypeError(f"expected a number of symbols as a whole number, got {rest[0]!r}")
-    given, single = rest, not rest
+    given = rest
+    shape: Shape = shape_counted(rest[0]) if counted else ()
     try:
         if not rest or counted:
-            given, count = (), count_of(rest[0]) if rest else 1
+            given, count = (), count_of(prod(shape)) if rest else 1
             if most is not None:
                 count = min(count, most(state) + 1)  # Enough for the refusal, without memory for all symbols.
             state, places = _under_table(state, model, count, decode)
         else:
-            given = tuple(it if is_one(it) else sequence_of(it) for it in rest)
-            single = model.is_single(given)
-            if single and model.has_rows:
+            given, shape = aligned(model.core, [it if is_one(it) else sequence_of(it) for it in rest])
+            if not shape and model.has_rows:
                 given = tuple([it] for it in given)
             state, places = _under_parameters(state, model, given, decode, quantile)
     except (WrongWeightsError, WrongLengthError) as refused:
         own = not given or model.has_rows
         raise (_explained_weights(refused, model, given) if own else model.explained(refused, given)) from None
     symbols = shifted(places, model.first)
-    one = not counted and single
-    return state, symbols[0] if one else answered(symbols)
+    if not shape:
+        return state, symbols[0]
+    return state, answered(symbols) if len(shape) == 1 else answered(symbols).reshape(shape)

@@ -16,7 +16,7 @@ from ._buffers import NUMBER, SYMBOL, WORD, List, numpy_module, room
 from .errors import IMPOSSIBLE_SYMBOL, ImpossibleSymbolError, InvalidDataError, Refusal, WrongLengthError, shown
 
 __all__ = [
-    "count_of", "floats_of", "grid_of", "is_one", "is_row", "listed_of", "places_of", "plain_of", "real", "reals_of", "rows_of",
+    "as_numpy", "count_of", "floats_of", "grid_of", "is_one", "is_row", "listed_of", "places_of", "plain_of", "real", "reals_of", "rows_of",
     "sequence_of", "table_of", "whole", "wholes_of", "words_of",
 ]  # fmt: skip
 
@@ -88,7 +88,7 @@ def _unmasked(numbers: Any) -> None:
         )
 
 
-def _as_numpy(numbers: Any) -> Any:
+def as_numpy(numbers: Any) -> Any:
     """Returns a numpy array if ``numbers`` is one or can be converted to one. Otherwise returns None."""
     numpy = numpy_module()
     if numpy is None or isinstance(numbers, (list, tuple, range, array)):
@@ -133,13 +133,13 @@ def listed_of(numbers: Any) -> list[Any]:
     """Returns a list of numbers, or a single number, as a Python list."""
     if is_one(numbers):
         return [numbers]
-    table = _as_numpy(numbers)
+    table = as_numpy(numbers)
     return list(_listed(numbers)) if table is None else table.tolist()  # type: ignore[no-any-return]
 
 
 def plain_of(numbers: Any) -> Any:
     """Returns a numpy array if ``numbers`` is one, and otherwise a Python list."""
-    table = _as_numpy(numbers)
+    table = as_numpy(numbers)
     return listed_of(numbers) if table is None else table
 
 
@@ -178,7 +178,7 @@ def wholes_of(code: str, numbers: List) -> array[Any]:
 
     Raises TypeError for other numbers, and OverflowError for numbers that don't fit the type.
     """
-    table = _as_numpy(numbers)
+    table = as_numpy(numbers)
     if table is not None:
         _wholes(table)
         if _past(code, table):
@@ -234,7 +234,7 @@ def places_of(symbols: Any, first: int) -> array[Any]:
     try:
         if is_one(symbols):
             return array(SYMBOL, (whole(symbols) - first,))
-        table = _as_numpy(symbols)
+        table = as_numpy(symbols)
         if table is not None and abs(first) >= _NEAR:
             _wholes(table)
             symbols, table = table.tolist(), None
@@ -253,7 +253,7 @@ def places_of(symbols: Any, first: int) -> array[Any]:
 
 def _real_table(numbers: Any) -> Any:
     """Returns a list of real numbers if it is a numpy array. Otherwise returns None."""
-    table = _as_numpy(numbers)
+    table = as_numpy(numbers)
     if table is not None:
         _flat(table.ndim)
         if table.dtype.kind not in "iubf":
@@ -285,7 +285,7 @@ def reals_of(numbers: Any) -> Any:
 
 def table_of(numbers: Any) -> Any:
     """Returns a numpy array of two dimensions if the numbers are floats in such an array. Otherwise returns None."""
-    table = _as_numpy(numbers)
+    table = as_numpy(numbers)
     return table if table is not None and table.ndim == 2 and table.dtype.kind == "f" and table.size else None
 
 
@@ -294,7 +294,7 @@ def grid_of(numbers: Any) -> tuple[Any, int]:
 
     A list of floats is one row.
     """
-    table = _as_numpy(numbers)
+    table = as_numpy(numbers)
     if table is not None:
         if table.ndim not in (1, 2):
             raise TypeError(f"expected a row for each symbol, got an array of {table.ndim} dimensions")
@@ -327,7 +327,7 @@ def _listed_rows(numbers: Any) -> Any:
 
 def rows_of(numbers: Any, row: Callable[[Any], array[Any]]) -> list[array[Any]]:
     """Returns a row for each symbol, from a list of lists or a table of two dimensions."""
-    table = _as_numpy(numbers)
+    table = as_numpy(numbers)
     if table is None:
         return [row(it) for it in _listed_rows(numbers)]
     if table.ndim != 2:

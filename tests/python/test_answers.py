@@ -75,5 +75,39 @@ class Single(unittest.TestCase):
         self.assertEqual(len(AnsCoder([5]).decode(Bernoulli(), [0.5])), 1)
 
 
+class OneForAll(unittest.TestCase):
+    """A single parameter, or a list of one, stands for all."""
+
+    def test_parameters(self) -> None:
+        symbols, means, stds = [3, -2, 0, 5], [2.5, -1.0, 0.25, 4.0], [2.0] * 4
+        family, mixture, weights = QuantizedGaussian(-9, 9), QuantizedMixture(QuantizedGaussian(-9, 9)), [1 << 22, 1 << 23, 1 << 22]
+        two = [[0.25, 0.75]] * 4
+        cases: list[tuple[Any, Any, tuple[Any, ...], list[tuple[Any, ...]]]] = [
+            (family, symbols, (means, stds), [(means, 2.0), (means, [2.0]), (means, array("d", [2.0])), (tuple(means), 2)]),
+            (family, symbols, ([0.5] * 4, stds), [(0.5, 2.0), ([0.5], 2.0), (0.5, [2.0]), ([0.5], [2.0]), (0.5, stds)]),
+            (Bernoulli(), [1, 0, 1], ([0.25] * 3,), [(0.25,), ([0.25],)]),
+            (WeightTable(), [2, 0, 1], ([weights] * 3,), [(weights,), ([weights],), (array("I", weights),)]),
+            (Categorical(), [2, 0, 1], ([[1, 2, 1]] * 3,), [([1, 2, 1],), ([[1, 2, 1]],)]),
+            (mixture, symbols, (two, [[it, -it] for it in means], [[2.0, 3.0]] * 4), [
+                (two[0], [[it, -it] for it in means], [2.0, 3.0]), (two[:1], [[it, -it] for it in means], [[2.0, 3.0]]),
+            ]),
+        ]  # fmt: skip
+        for model, some, whole, forms in cases:
+            wanted = AnsCoder([5, 6])
+            wanted.encode_reverse(some, model, *whole)
+            for form in forms:
+                coder = AnsCoder([5, 6])
+                coder.encode_reverse(some, model, *form)
+                self.assertEqual(coder, wanted)
+                if len(form) > 1 and any(hasattr(it, "__len__") and len(it) == len(some) for it in form):
+                    found: Any = coder.decode(model, *form)
+                    self.assertEqual(list(found), some)
+        for wrong in (([0.0] * 3, [1.0] * 4), ([0.0] * 2, 1.0), ([0.0] * 5, [1.0])):
+            self.assertRaises(ValueError, AnsCoder().encode_reverse, symbols, family, *wrong)
+        self.assertRaises(ValueError, AnsCoder().encode_reverse, [0], family, means, stds)
+        self.assertRaises(TypeError, AnsCoder().decode, Uniform(3), amt=(2.5,))
+        self.assertEqual(len(AnsCoder([5, 6]).decode(Uniform(3), amt=(7,))), 7)
+
+
 if __name__ == "__main__":
     unittest.main()

@@ -3,18 +3,21 @@
 from __future__ import annotations
 
 from ctypes import byref, c_size_t
-from typing import Any, NamedTuple, SupportsIndex, overload
+from typing import Any, NamedTuple, SupportsIndex, Union, overload
 
 from .. import errors
-from .._buffers import Answer, List, Numbers, Parameter, Symbols, answered, lent
+from .._buffers import Amount, Answer, List, Numbers, Parameter, Reals, Symbols, answered, lent
 from .._coder import Coder
 from .._coding import decoded, encoded
 from .._library import ChainHeads, call
 from .._single import Buffer, Lane
 from .._words import Words, copied, packed, unpacked
-from .model import Model
+from .model import Categorical, Model, QuantizedMixture, WeightTable
 
 __all__ = ["ChainCoder"]
+
+#: The models whose parameters are rows.
+RowModel = Union[Categorical, WeightTable, QuantizedMixture]
 
 
 class _State(NamedTuple):
@@ -153,7 +156,15 @@ class ChainCoder(Coder):
         ...
 
     @overload
+    def decode(self, model: Model, *, amt: Amount) -> Answer:
+        ...
+
+    @overload
     def decode(self, model: Model, parameter: float, /, *parameters: float) -> int:  # type: ignore[misc]
+        ...
+
+    @overload
+    def decode(self, model: RowModel, row: Reals, /, *rows: Reals) -> int:  # type: ignore[misc]
         ...
 
     @overload
@@ -161,7 +172,10 @@ class ChainCoder(Coder):
         ...
 
     def decode(self, model: Model, *amt_or_parameters: Any, amt: Any = None) -> Any:
-        """Decodes one symbol, a list of ``amt`` symbols, or one symbol for each set of parameters.
+        """Decodes one symbol, ``amt`` symbols, or one symbol for each set of parameters.
+
+        ``amt`` is a number of symbols, or the shape of an array of them. Parameters may have any shape, and the answer
+        has the shape to which they broadcast by numpy's rules.
 
         Raises :class:`OutOfDataError` if the coder needs another compressed word and none is left. After an error the
         coder is unchanged.

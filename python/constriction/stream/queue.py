@@ -4,19 +4,22 @@ from __future__ import annotations
 
 from array import array
 from ctypes import byref, c_size_t, c_uint32
-from typing import Any, NamedTuple, SupportsIndex, overload
+from typing import Any, NamedTuple, SupportsIndex, Union, overload
 
 from .. import errors
-from .._buffers import Answer, List, Numbers, Parameter, Symbols, answered, lent
+from .._buffers import Amount, Answer, List, Numbers, Parameter, Reals, Symbols, answered, lent
 from .._coder import Coder
 from .._coding import decoded, encoded
 from .._library import RangeDecoderState, RangeEncoderState, call
 from .._numbers import whole
 from .._single import MANY, Buffer, Lane, made, memory_of
 from .._words import Words, copied, packed, unpacked
-from .model import Model
+from .model import Categorical, Model, QuantizedMixture, WeightTable
 
 __all__ = ["RangeDecoder", "RangeEncoder"]
+
+#: The models whose parameters are rows.
+RowModel = Union[Categorical, WeightTable, QuantizedMixture]
 
 _WHOLE = (1 << 64) - 1
 
@@ -239,7 +242,15 @@ class RangeDecoder(Coder):
         ...
 
     @overload
+    def decode(self, model: Model, *, amt: Amount) -> Answer:
+        ...
+
+    @overload
     def decode(self, model: Model, parameter: float, /, *parameters: float) -> int:  # type: ignore[misc]
+        ...
+
+    @overload
+    def decode(self, model: RowModel, row: Reals, /, *rows: Reals) -> int:  # type: ignore[misc]
         ...
 
     @overload
@@ -247,7 +258,10 @@ class RangeDecoder(Coder):
         ...
 
     def decode(self, model: Model, *amt_or_parameters: Any, amt: Any = None) -> Any:
-        """Decodes one symbol, a list of ``amt`` symbols, or one symbol for each set of parameters.
+        """Decodes one symbol, ``amt`` symbols, or one symbol for each set of parameters.
+
+        ``amt`` is a number of symbols, or the shape of an array of them. Parameters may have any shape, and the answer
+        has the shape to which they broadcast by numpy's rules.
 
         Raises :class:`InvalidDataError` if the words don't encode such symbols with the model. After an error the
         decoder is unchanged.

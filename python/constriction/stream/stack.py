@@ -4,19 +4,22 @@ from __future__ import annotations
 
 from array import array
 from ctypes import byref, c_size_t, c_uint64
-from typing import Any, NamedTuple, SupportsIndex, overload
+from typing import Any, NamedTuple, SupportsIndex, Union, overload
 
 from .. import errors
-from .._buffers import Answer, List, Numbers, Parameter, Symbols, answered, lent
+from .._buffers import Amount, Answer, List, Numbers, Parameter, Reals, Symbols, answered, lent
 from .._coder import Coder
 from .._coding import decoded, encoded
 from .._library import call
 from .._numbers import whole
 from .._single import MANY, Buffer, Lane, made, memory_of
 from .._words import Words, copied, packed, unpacked
-from .model import Model
+from .model import Categorical, Model, QuantizedMixture, WeightTable
 
 __all__ = ["AnsCoder"]
+
+#: The models whose parameters are rows.
+RowModel = Union[Categorical, WeightTable, QuantizedMixture]
 
 
 class _State(NamedTuple):
@@ -145,7 +148,7 @@ class AnsCoder(Coder):
         self._begin(_State(words, head.value, words.length))
 
     def encode_reverse(self, symbols: Symbols, model: Model, *parameters: Parameter) -> None:
-        """Encodes a symbol, or a list of symbols from the last to the first.
+        """Encodes a symbol, or symbols from the last to the first: a list, or an array of any shape in C order.
 
         ``decode`` returns the symbols in the order of the list. If the model has missing parameters, pass a list of
         each after the model.
@@ -178,7 +181,15 @@ class AnsCoder(Coder):
         ...
 
     @overload
+    def decode(self, model: Model, *, amt: Amount) -> Answer:
+        ...
+
+    @overload
     def decode(self, model: Model, parameter: float, /, *parameters: float) -> int:  # type: ignore[misc]
+        ...
+
+    @overload
+    def decode(self, model: RowModel, row: Reals, /, *rows: Reals) -> int:  # type: ignore[misc]
         ...
 
     @overload
@@ -186,7 +197,10 @@ class AnsCoder(Coder):
         ...
 
     def decode(self, model: Model, *amt_or_parameters: Any, amt: Any = None) -> Any:
-        """Decodes one symbol, a list of ``amt`` symbols, or one symbol for each set of parameters.
+        """Decodes one symbol, ``amt`` symbols, or one symbol for each set of parameters.
+
+        ``amt`` is a number of symbols, or the shape of an array of them. Parameters may have any shape, and the answer
+        has the shape to which they broadcast by numpy's rules.
 
         An empty coder decodes to symbols too, so the caller has to know the number of encoded symbols.
         """

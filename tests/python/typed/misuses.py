@@ -3,7 +3,7 @@
 from array import array
 
 from constriction.stream.chain import ChainCoder
-from constriction.stream.model import Categorical, QuantizedGaussian, Uniform, WeightTable
+from constriction.stream.model import Categorical, QuantizedGaussian, QuantizedMixture, Uniform, WeightTable
 from constriction.stream.queue import RangeEncoder
 from constriction.stream.stack import AnsCoder
 from constriction.symbol import EncoderHuffmanTree, QueueDecoder, QueueEncoder
@@ -21,6 +21,8 @@ text: str = coder.decode(model, 3)  # refused
 letter: str = coder.decode(model)  # refused
 coder.decode(3, model)  # refused
 coder.decode(model, amt=1.5)  # refused
+coder.decode(model, amt=(2, 1.5))  # refused
+line: str = coder.decode(Categorical(), [0.5, 0.5])  # refused
 QuantizedGaussian(-9, 9, "0", "1")  # refused
 QuantizedGaussian(-9.5, 9)  # refused
 Categorical(["0.5", "0.5"])  # refused
@@ -43,3 +45,7 @@ coder.encode_reverse(range(3), WeightTable(), [[1, 2], [3, 4], (5, 6)])
 AnsCoder(encoder.get_compressed())
 Categorical([1, 2]), Categorical(array("d", [0.5])), Categorical({"a": 1, "b": 3}.values())
 bits: int = QueueDecoder([1]).decode(tree, 3)[0]
+row: int = coder.decode(Categorical(), [0.5, 0.5])
+mixed: int = coder.decode(QuantizedMixture(family), [0.5, 0.5], (1.0, 2.0), array("d", [2.0, 1.0]))
+rows: list[int] = coder.decode(WeightTable(), [[1, 2], [3, 4]]).tolist()
+also: list[int] = coder.decode(model, amt=(2, 3)).tolist()

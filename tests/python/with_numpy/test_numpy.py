@@ -169,9 +169,8 @@ class Numpy(unittest.TestCase):
     def test_shapes(self) -> None:
         table = numpy.zeros((2, 3), dtype="int64")
         for call in (
-            lambda: AnsCoder().encode_reverse(table, WeightTable(WEIGHTS)), lambda: AnsCoder(table), lambda: ExpGolomb().symbols(table),
-            lambda: AnsCoder().encode_reverse([0, 1], QuantizedGaussian(-9, 9), table, table), lambda: WeightTable(table),
-            lambda: AnsCoder().decode(Categorical(), numpy.ones((2, 2, 2))), lambda: EncoderHuffmanTree(table),
+            lambda: AnsCoder(table), lambda: ExpGolomb().symbols(table), lambda: WeightTable(table), lambda: EncoderHuffmanTree(table),
+            lambda: Categorical(table),
         ):  # fmt: skip
             self.assertRaisesRegex(TypeError, "dimensions", call)
         coder = AnsCoder()

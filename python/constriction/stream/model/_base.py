@@ -82,6 +82,8 @@ class Model:
     first: int = 0
     #: The names of the parameters that callers pass for each symbol. There are none if the model has all parameters.
     missing: tuple[str, ...] = ()
+    #: The number of dimensions of a symbol's parameter: 1 if it is a row.
+    core = 0
     #: Whether the parameters are rows of weights for the C functions.
     has_rows = False
     _fixed: array[int] | None = None

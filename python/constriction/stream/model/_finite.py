@@ -27,6 +27,8 @@ class Bernoulli(Rows):
     Raises ValueError if ``p`` isn't between 0 and 1.
     """
 
+    core = 0
+
     def __init__(self, p: Real | None = None, *, perfect: bool | None = None) -> None:
         """Creates a model of the symbols 0 and 1, in which 1 has the probability ``p``.
 

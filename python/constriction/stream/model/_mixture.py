@@ -73,6 +73,8 @@ class QuantizedMixture(Model):
     if a number isn't finite, a weight is negative or a scale isn't positive and below 65536.
     """
 
+    core = 1
+
     def __init__(self, components: _Quantized) -> None:
         """Creates a model of mixtures with the family and the range of ``components``."""
         if not isinstance(components, _Quantized) or components.missing != components._names or components.size < 2:

@@ -26,7 +26,7 @@ ROWS_AT_A_TIME = 1 << 16
 class Rows(Model):
     """Symbols 0, 1, .. with a row of weights. The row belongs to the model, or comes with each symbol."""
 
-    has_rows = True
+    has_rows, core = True, 1
 
     def _compared(self) -> dict[str, Any]:
         return self.__getstate__()

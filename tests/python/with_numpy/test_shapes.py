@@ -1,0 +1,170 @@
+"""Symbols, parameters and answers of any shape, by numpy's rules of broadcasting."""
+
+from __future__ import annotations
+
+import random
+import unittest
+from array import array
+from itertools import product
+from typing import Any
+
+np: Any
+try:
+    import numpy as np
+except ImportError:
+    raise unittest.SkipTest("numpy is not there") from None
+
+from constriction import errors
+from constriction.stream.chain import ChainCoder
+from constriction.stream.model import (
+    Bernoulli, Binomial, Categorical, CustomModel, Model, QuantizedCauchy, QuantizedGaussian, QuantizedLaplace, QuantizedMixture, Uniform, WeightTable,
+)  # fmt: skip
+from constriction.stream.queue import RangeEncoder
+from constriction.stream.stack import AnsCoder
+
+
+def orders(table: Any) -> list[Any]:
+    """Returns arrays with the same numbers, in memory of several orders."""
+    wide = np.zeros((2 * table.shape[0], *table.shape[1:]), dtype=table.dtype)
+    wide[::2] = table
+    return [table, np.asfortranarray(table), wide[::2], table[::-1].copy()[::-1]]
+
+
+class Shapes(unittest.TestCase):
+    def setUp(self) -> None:
+        self.dice = np.random.default_rng(5)
+
+    def test_a_fixed_model(self) -> None:
+        model = QuantizedGaussian(-9, 9, 0.5, 3.0)
+        for shape in ((2, 3), (2, 3, 4), (1, 5), (4, 1, 2), (0, 3), (7,)):
+            table = self.dice.integers(-9, 10, shape)
+            wanted, queue = AnsCoder(), RangeEncoder()
+            wanted.encode_reverse(table.ravel(), model), queue.encode(table.ravel(), model)
+            for kind, some in product(("int64", "int8", ">i4"), orders(table)):
+                coder, encoder = AnsCoder(), RangeEncoder()
+                coder.encode_reverse(some.astype(kind), model), encoder.encode(some.astype(kind), model)
+                self.assertEqual((coder, encoder), (wanted, queue))
+                for decoder in (coder, encoder.get_decoder()):
+                    found: Any = decoder.decode(model, amt=shape)
+                    np.testing.assert_array_equal(found, table)
+                    self.assertEqual((found.shape, found.dtype), (shape, np.int64))
+            found = wanted.decode(model, shape)  # type: ignore[call-overload]
+            np.testing.assert_array_equal(found, table)
+        twin = wanted.clone()
+        found = wanted.decode(model, amt=())  # type: ignore[call-overload]
+        self.assertEqual((type(found), found), (int, twin.decode(model)))
+
+    def cases(self, shape: tuple[int, ...]) -> list[tuple[Model, Any, tuple[Any, ...], int]]:
+        """Returns models with parameters of this shape, and symbols, and the number of dimensions of a parameter."""
+        dice = self.dice
+        means, stds, symbols = dice.uniform(-5, 5, shape), dice.uniform(0.5, 5, shape), dice.integers(-9, 10, shape)
+        rows, three = dice.random((*shape, 4)) + 0.01, dice.integers(0, 3, shape)
+        mixture = QuantizedMixture(QuantizedLaplace(-9, 9))
+        components = [dice.random((*shape, 2)) + 0.1, dice.uniform(-5, 5, (*shape, 2)), dice.uniform(0.5, 5, (*shape, 2))]
+        step: Any = CustomModel(lambda x, k: min(max((x - k) / 40 + 0.5, 0), 1), None, -9, 9)
+        return [
+            (QuantizedGaussian(-9, 9), symbols, (means, stds), 0), (QuantizedGaussian(-9, 9, std=2.0), symbols, (means,), 0),
+            (QuantizedCauchy(-9, 9), symbols, (means, stds), 0), (step, symbols, (means,), 0), (Bernoulli(), three % 2, (stds / 5,), 0),
+            (Uniform(), three, (dice.integers(3, 9, shape),), 0), (Binomial(), three, (dice.integers(3, 9, shape), stds / 5), 0),
+            (Categorical(), three, (rows,), 1), (WeightTable(), three, (np.full((*shape, 4), 1 << 22),), 1), (mixture, symbols, tuple(components), 1),
+        ]  # fmt: skip
+
+    def test_parameters_of_each_symbol(self) -> None:
+        for shape in ((2, 3), (3, 1, 2), (1, 4), (0, 2), (5,)):
+            for model, symbols, given, core in self.cases(shape):
+                wanted = AnsCoder([5, 6])
+                lists = [it.reshape(-1, it.shape[-1]) if core else it.ravel() for it in given]
+                wanted.encode_reverse(symbols.ravel(), model, *lists)
+                for k in range(4):
+                    coder: Any = AnsCoder([5, 6])
+                    some = [orders(it)[k] for it in given]
+                    coder.encode_reverse(orders(symbols)[-k], model, *some)
+                    self.assertEqual(coder, wanted)
+                    found = coder.decode(model, *some)
+                    np.testing.assert_array_equal(found, symbols)
+                    self.assertEqual((found.shape, found.dtype), (shape, np.int64))
+                    self.assertEqual(coder, AnsCoder([5, 6]))
+
+    def test_the_other_coders(self) -> None:
+        for model, symbols, given, _ in self.cases((3, 2)):
+            encoder, chain = RangeEncoder(), ChainCoder(np.arange(5, 50, dtype="uint32"))
+            encoder.encode(symbols, model, *given)
+            np.testing.assert_array_equal(encoder.get_decoder().decode(model, *given), symbols)
+            found: Any = chain.decode(model, *given)
+            self.assertEqual(found.shape, (3, 2))
+            chain.encode_reverse(found, model, *given)
+            self.assertEqual(chain, ChainCoder(np.arange(5, 50, dtype="uint32")))
+
+    def test_axes_of_one(self) -> None:
+        """By numpy's rules: an axis of length 1, a missing axis, or a number stands for all."""
+        dice = random.Random(7)
+        for shape in ((2, 3), (4,), (3, 2, 2)):
+            for model, symbols, given, core in self.cases(shape):
+                for _ in range(6):
+                    cut: list[Any] = []
+                    for it in given:
+                        axes = tuple(slice(1) if dice.random() < 0.5 else slice(None) for _ in shape)
+                        part = it[axes]
+                        while part.ndim > core and part.shape[0] == 1 and dice.random() < 0.5:
+                            part = part[0]
+                        cut.append(float(part) if part.ndim == 0 and dice.random() < 0.5 and type(model) is not Uniform else part)
+                    whole = [np.broadcast_to(it, (*shape, it.shape[-1]) if core else shape) for it in cut]
+                    coder, wanted = AnsCoder(), AnsCoder()
+                    coder.encode_reverse(symbols, model, *cut), wanted.encode_reverse(symbols, model, *whole)
+                    self.assertEqual(coder, wanted)
+                    common = np.broadcast_shapes(*(np.shape(it)[: np.ndim(it) - core] for it in cut))
+                    other: Any = coder.clone().decode(model, *cut)
+                    self.assertEqual(np.shape(other), common)
+                    np.testing.assert_array_equal(wanted.decode(model, *whole), symbols)
+
+    def test_lists_beside_arrays(self) -> None:
+        family, means = QuantizedGaussian(-9, 9), np.array([[0.5, 1.5], [-3.0, 2.0]])
+        for stds in ([2.0, 3.0], (2.0, 3.0), array("d", [2.0, 3.0]), np.array([2.0, 3.0]), memoryview(array("d", [2.0, 3.0]))):
+            coder, wanted = AnsCoder(), AnsCoder()
+            coder.encode_reverse(np.array([[1, 2], [3, 4]]), family, means, stds)
+            wanted.encode_reverse([1, 2, 3, 4], family, means.ravel(), [2.0, 3.0, 2.0, 3.0])
+            self.assertEqual(coder, wanted)
+            self.assertEqual(coder.decode(family, means, stds).tolist(), [[1, 2], [3, 4]])
+
+    def test_what_offers_an_array(self) -> None:
+        class Offers:
+            def __init__(self, of: Any) -> None:
+                self.of = np.array(of)
+                self.shape = self.of.shape
+
+            def __len__(self) -> int:
+                return len(self.of)
+
+            def __array__(self, dtype: Any = None, copy: Any = None) -> Any:
+                return self.of
+
+        coder: Any = AnsCoder()
+        coder.encode_reverse(Offers([[1, 2]]), QuantizedGaussian(-9, 9), Offers([[0.5, 1.0]]), Offers([[2.0]]))
+        self.assertEqual(coder.decode(QuantizedGaussian(-9, 9), Offers([[0.5, 1.0]]), Offers([[2.0]])).tolist(), [[1, 2]])
+        view = memoryview(np.array([[1, 2], [3, 4]]))
+        coder.encode_reverse(view, Uniform(5))
+        self.assertEqual(coder.decode(Uniform(5), amt=(2, 2)).tolist(), [[1, 2], [3, 4]])
+
+    def test_refusals(self) -> None:
+        family, zeros, ones = QuantizedGaussian(-9, 9), np.zeros((2, 3)), np.ones((2, 3))
+        words = "operands could not be broadcast together with shapes"
+        mixture, symbols = QuantizedMixture(family), np.zeros((2, 3), dtype="int64")
+        for call in (
+            lambda it: it.decode(family, zeros, ones.T), lambda it: it.encode_reverse(symbols, family, zeros.T, 1.0),
+            lambda it: it.encode_reverse(symbols, family, np.zeros((2, 2)), 1.0), lambda it: it.encode_reverse(symbols, Categorical(), np.ones((3, 2, 4))),
+            lambda it: it.decode(mixture, np.ones((2, 3)), np.ones((3, 3)), np.ones((3, 3))),
+        ):  # fmt: skip
+            coder = AnsCoder([5, 6])
+            self.assertRaisesRegex(errors.WrongLengthError, words, call, coder)
+            self.assertEqual(coder, AnsCoder([5, 6]))
+        for call in (
+            lambda: AnsCoder().encode_reverse(symbols[0], family, zeros, ones), lambda: AnsCoder().encode_reverse(symbols[0], Categorical(), np.ones((2, 3, 4))),
+            lambda: AnsCoder().encode_reverse(symbols[:1], family, zeros, 1.0),
+        ):  # fmt: skip
+            self.assertRaisesRegex(errors.WrongLengthError, r"^expected symbols of shape \(2, 3\), got ", call)
+        for wrong in ((2, -1), (2, 1.5), ("2",), (1 << 30, 1 << 30)):
+            self.assertRaises((TypeError, ValueError), AnsCoder([5]).decode, Uniform(3), amt=wrong)
+
+
+if __name__ == "__main__":
+    unittest.main()
