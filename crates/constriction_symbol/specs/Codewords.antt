@@ -160,14 +160,14 @@ ReadsSymbol next codeword reads_on is_invalid old (Err (Backend e)) new =
     (bits : List Bool) × reads_on bits × FailsAfter next old bits e new
 
 -- After this error of a decode the fact holds, unless the error says that the bits ended.
-abbrev pub OrEnded : {V E : Type 0} → CoderError (SymbolCodeError V) E → Type 0 → Type 0
-OrEnded (Frontend OutOfCompressedData) Fact = ⊤
-OrEnded (Frontend (InvalidCodeword _)) Fact = Fact
-OrEnded (Backend _) Fact = Fact
+abbrev pub OrBitsEnd : {V E : Type 0} → CoderError (SymbolCodeError V) E → Type 0 → Type 0
+OrBitsEnd (Frontend OutOfCompressedData) Fact = ⊤
+OrBitsEnd (Frontend (InvalidCodeword _)) Fact = Fact
+OrBitsEnd (Backend _) Fact = Fact
 
 -- After a decode the fact holds, unless the bits ended before a codeword was complete.
-abbrev pub UnlessEnded : {S V E : Type 0} → Result S (CoderError (SymbolCodeError V) E) → Type 0 → Type 0
-UnlessEnded answer Fact = MatchResult answer (λ _. Fact) (λ e. OrEnded e Fact)
+abbrev pub UnlessBitsEnd : {S V E : Type 0} → Result S (CoderError (SymbolCodeError V) E) → Type 0 → Type 0
+UnlessBitsEnd answer Fact = MatchResult answer (λ _. Fact) (λ e. OrBitsEnd e Fact)
 
 -- A decode of bits that begin with a symbol's codeword reads exactly the codeword, and returns a symbol that means the
 -- same. It fails only if the source returns an error.

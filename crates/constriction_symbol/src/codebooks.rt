@@ -6,7 +6,7 @@
 ghost use Rattle.constriction_base.specs.declared.errors.CoderError.TheVariants as coder;
 ghost use Rattle.constriction_symbol.specs.Bits.{bits_of};
 ghost use Rattle.constriction_symbol.specs.Codewords.{BeginsTopBits, EmitsCodeword, EmitsSymbol, IsLowBits, NoneBegins};
-ghost use Rattle.constriction_symbol.specs.Codewords.{LacksMemory, NoneFits, ReadsSymbol, UnlessEnded, WantsMemory};
+ghost use Rattle.constriction_symbol.specs.Codewords.{LacksMemory, NoneFits, ReadsSymbol, UnlessBitsEnd, WantsMemory};
 ghost use Rattle.std.specs.Iterator.{IsFinite};
 ghost use Rattle.std.specs.Prelude.{Bool, IfSome, List, Option, Some, reverse, ◌++◌, ◌<◌, ◌^◌, ◌≡◌, ◌≤◌};
 
@@ -236,8 +236,8 @@ pub trait DecoderCodebook: Codebook {
         requires { I.can_next source.old }
         ensures reads { ReadsSymbol I.next_gives (Self.codeword self.now) (reads_on self.now) (is_invalid self.now)
             source.old result source.new }
-        ensures can { UnlessEnded result (I.can_next source.new) }
-        ensures finite { IsFinite (I.remaining source.old) → UnlessEnded result (IsFinite (I.remaining source.new)) };
+        ensures can { UnlessBitsEnd result (I.can_next source.new) }
+        ensures finite { IsFinite (I.remaining source.old) → UnlessBitsEnd result (IsFinite (I.remaining source.new)) };
 
     /// Looks up the codeword that the `count` highest bits of `bits` begin with. The highest bit comes first.
     ///

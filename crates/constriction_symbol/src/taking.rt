@@ -1,6 +1,6 @@
 //! Functions that read bits from an iterator of `Result`s of bits, for the decodes of codebooks.
 
-ghost use Rattle.constriction_symbol.specs.Codewords.{GivesBits, StopsWithin, UnlessEnded};
+ghost use Rattle.constriction_symbol.specs.Codewords.{GivesBits, StopsWithin, UnlessBitsEnd};
 ghost use Rattle.constriction_symbol.specs.Taking.{CountsZeros, GivesNumber};
 ghost use Rattle.std.specs.Iterator.{IsFinite};
 ghost use Rattle.std.specs.Prelude.{IfErr, IfOk, [], false, length, replicate};
@@ -25,8 +25,8 @@ pub fn next_bit<V, E, I: Iterator<Item = Result<bool, E>>>(
     source: &mut I,
 ) -> Result<bool, Refusal<V, E>>
     requires { I.can_next source.old }
-    ensures can { UnlessEnded result (I.can_next source.new) }
-    ensures finite { IsFinite (I.remaining source.old) → UnlessEnded result (IsFinite (I.remaining source.new)) }
+    ensures can { UnlessBitsEnd result (I.can_next source.new) }
+    ensures finite { IsFinite (I.remaining source.old) → UnlessBitsEnd result (IsFinite (I.remaining source.new)) }
     ensures bit { IfOk result (λ bit. GivesBits I.next_gives source.old (bit ∷ []) source.new) }
     ensures stops { IfErr result (λ e. StopsWithin I.next_gives (λ bits. bits ≡ []) source.old e source.new) }
 {
@@ -52,8 +52,8 @@ pub fn count_zeros<V, E, I: Iterator<Item = Result<bool, E>>>(
 ) -> Result<Option<u32>, Refusal<V, E>>
     requires can { I.can_next source.old }
     requires fits { most < 1000 }
-    ensures can { UnlessEnded result (I.can_next source.new) }
-    ensures finite { IsFinite (I.remaining source.old) → UnlessEnded result (IsFinite (I.remaining source.new)) }
+    ensures can { UnlessBitsEnd result (I.can_next source.new) }
+    ensures finite { IsFinite (I.remaining source.old) → UnlessBitsEnd result (IsFinite (I.remaining source.new)) }
     ensures zeros { IfOk result (λ found. CountsZeros I.next_gives most source.old found source.new) }
     ensures stops { IfErr result (λ e. StopsWithin I.next_gives
         (λ bits. (count : ℕ) × (count ≤ most) × (bits ≡ replicate count false)) source.old e source.new) }
@@ -84,8 +84,8 @@ pub fn read_bits<V, N: BitArray, E, I: Iterator<Item = Result<bool, E>>>(
 ) -> Result<N, Refusal<V, E>>
     requires can { I.can_next source.old }
     requires fits { (N.number start + 1) * 2 ^ count ≤ 2 ^ N.BITS }
-    ensures can { UnlessEnded result (I.can_next source.new) }
-    ensures finite { IsFinite (I.remaining source.old) → UnlessEnded result (IsFinite (I.remaining source.new)) }
+    ensures can { UnlessBitsEnd result (I.can_next source.new) }
+    ensures finite { IsFinite (I.remaining source.old) → UnlessBitsEnd result (IsFinite (I.remaining source.new)) }
     ensures bits { IfOk result (λ n.
         GivesNumber I.next_gives (N.number start) count source.old (N.number n) source.new) }
     ensures stops { IfErr result (λ e. StopsWithin I.next_gives (λ bits. length bits < count) source.old e source.new) }

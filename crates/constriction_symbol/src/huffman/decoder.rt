@@ -1,6 +1,6 @@
 //! `DecoderHuffmanTree`: a Huffman tree that decodes a symbol by walking from the root to the symbol's leaf.
 
-ghost use Rattle.constriction_symbol.specs.Codewords.{BeginsTopBits, GivesBits, StopsWithin, UnlessEnded};
+ghost use Rattle.constriction_symbol.specs.Codewords.{BeginsTopBits, GivesBits, StopsWithin, UnlessBitsEnd};
 ghost use Rattle.constriction_symbol.specs.Bits.{top_bits};
 ghost use Rattle.constriction_symbol.specs.DecoderTree.{HoldsTree, LeadsTo, tree_of_pairs};
 ghost use Rattle.constriction_symbol.specs.Huffman.{ReadsOnIn, leaves, path};
@@ -274,8 +274,8 @@ fn walk<V, E, I: Iterator<Item = Result<bool, E>>>(
 ) -> Result<usize, Refusal<V, E>>
     requires can { I.can_next source.old }
     requires tree { HoldsTree nodes.now (tree_of_pairs nodes.now) }
-    ensures can { UnlessEnded result (I.can_next source.new) }
-    ensures finite { IsFinite (I.remaining source.old) → UnlessEnded result (IsFinite (I.remaining source.new)) }
+    ensures can { UnlessBitsEnd result (I.can_next source.new) }
+    ensures finite { IsFinite (I.remaining source.old) → UnlessBitsEnd result (IsFinite (I.remaining source.new)) }
     ensures bits { IfOk result (λ symbol. (bits : List Bool) × (path (tree_of_pairs nodes.now) symbol ≡ Some bits)
         × GivesBits I.next_gives source.old bits source.new) }
     ensures stops { IfErr result (λ e.
