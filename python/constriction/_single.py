@@ -19,11 +19,9 @@ from ._buffers import SYMBOL, WORD, Array
 from ._library import plain_function
 from .stream.model._base import ENDS, TOTAL, UNITS, Model
 
-__all__ = ["MANY", "Buffer", "Lane", "made", "memory_of"]
+__all__ = ["Buffer", "Lane", "made", "memory_of"]
 
 _Way = Callable[[], int]
-#: More calls than a program makes.
-MANY = 1 << 62
 #: Creates an instance of a subclass of ``tuple`` without a call of its ``__new__``.
 made: Any = tuple.__new__
 
@@ -54,8 +52,9 @@ class Lane:
 
     #: The state in this memory, or None if it isn't known.
     _kept: Any = None
-    #: The number of encodes, and the number of decodes, before the next ``load``.
-    _encodes = _decodes = 0
+    #: Whether the next encode, or the next decode, can do without ``load``, because there is room for its word.
+    _encodes: int = 0
+    _decodes: int = 0
 
     def load(self, state: Any, encodes: bool) -> Any:
         """Writes a state to this memory, and returns an equal state.
@@ -65,7 +64,7 @@ class Lane:
         raise NotImplementedError
 
     def loaded(self, before: Any) -> Any:
-        """Returns the state that is in this memory."""
+        """Returns the state that is in this memory after a call, and notes whether there is room for the next."""
         raise NotImplementedError
 
     def quantile(self, state: Any) -> int:
@@ -92,7 +91,6 @@ class Lane:
                 if state is not self._kept or not self._encodes:
                     state = coder._state = self.load(state, True)
                 self._kept = None  # After an interrupt the state in this memory isn't known.
-                self._encodes -= 1
                 if kind == ENDS:
                     left = first[place - 1] if place else 0
                     interval = self._interval
@@ -125,7 +123,7 @@ class Lane:
                 coder._busy = True
                 order = None if given else model._often
                 if order is None:
-                    if given and not model.is_single(given):
+                    if given and model.core and not model.is_single(given):
                         return None
                     order = model.alone(given)
                     if order is None:
@@ -135,7 +133,6 @@ class Lane:
                 if state is not self._kept or not self._decodes:
                     state = coder._state = self.load(state, False)
                 self._kept = None  # After an interrupt the state in this memory isn't known.
-                self._decodes -= 1
                 if kind == ENDS:
                     quantile = self.quantile(state)
                     if quantile >= TOTAL:

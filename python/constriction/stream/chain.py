@@ -96,12 +96,13 @@ class _Lane(Lane):
         self._above.take(remainders.memory)
         self._lengths[0].value, self._lengths[1].value = compressed.length, remainders.length
         self._heads.remainders, self._heads.compressed = state.heads
-        self._encodes, self._decodes = (len(it.memory) - it.length for it in (compressed, remainders))
+        self._encodes = self._decodes = min(len(it.memory) - it.length for it in (compressed, remainders))
         return _State(compressed, remainders, state.heads)
 
     def loaded(self, before: _State) -> _State:
         below, above = (it.value for it in self._lengths)
         heads = self._heads.remainders, self._heads.compressed
+        self._encodes = self._decodes = self._encodes - 1
         return _State(Words(before.compressed.memory, below), Words(before.remainders.memory, above), heads)
 
     def quantile(self, state: _State) -> int:

@@ -12,7 +12,7 @@ from .._coder import Coder
 from .._coding import decoded, encoded
 from .._library import RangeDecoderState, RangeEncoderState, call
 from .._numbers import whole
-from .._single import MANY, Buffer, Lane, made, memory_of
+from .._single import Buffer, Lane, made, memory_of
 from .._words import Words, copied, packed, unpacked
 from .model import Categorical, Model, QuantizedMixture, WeightTable
 
@@ -99,6 +99,7 @@ class _WritingLane(Lane):
 
     def loaded(self, before: _Writing) -> _Writing:
         words, length, it = before[0], self._length.value, self._state
+        self._encodes -= 1
         if length != words[1]:
             words = made(Words, (words[0], length))
         return made(_Writing, (words, (it.lower, it.range, it.held, it.first)))  # type: ignore[no-any-return]
@@ -115,7 +116,7 @@ class _ReadingLane(Lane):
         self._words.take(words.memory)
         for i, number in enumerate(numbers):
             self._numbers[i] = number
-        self._length.value, self._decodes = words.length, MANY  # A decoder writes no words.
+        self._length.value, self._decodes = words.length, True  # A decoder writes no words.
         return state
 
     def loaded(self, before: _Reading) -> _Reading:

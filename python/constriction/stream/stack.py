@@ -12,7 +12,7 @@ from .._coder import Coder
 from .._coding import decoded, encoded
 from .._library import call
 from .._numbers import whole
-from .._single import MANY, Buffer, Lane, made, memory_of
+from .._single import Buffer, Lane, made, memory_of
 from .._words import Words, copied, packed, unpacked
 from .model import Categorical, Model, QuantizedMixture, WeightTable
 
@@ -99,7 +99,7 @@ class _Lane(Lane):
         memory, length = state.words
         self._words.take(memory)
         self._head[0], self._length.value = state.head, length
-        self._encodes, self._decodes = len(memory) - length if encodes else 0, MANY
+        self._encodes, self._decodes = encodes, True
         return state
 
     def loaded(self, before: _State) -> _State:
@@ -109,9 +109,9 @@ class _Lane(Lane):
         if length != old:
             words = made(Words, (memory, length))
             if length < old:
-                self._encodes = 0  # The word that was taken off is ahead, so ``load`` comes before the next encode.
+                self._encodes = False  # The word that was taken off is ahead, so ``load`` comes before the next encode.
             else:
-                top, saved = length, None
+                top, saved, self._encodes = length, None, length < len(memory)
         return made(_State, (words, self._head[0], top, saved))  # type: ignore[no-any-return]
 
     def quantile(self, state: _State) -> int:
