@@ -1,7 +1,6 @@
-"""A text under a model that learns: how often each letter came behind the letter before it, up to here.
+"""A text under a model that learns how often each letter follows the letter before it.
 
-The receiver counts the same letters as it decodes them, so no table is sent. Each letter is a call of its own, under
-a row of counts.
+The receiver counts the decoded letters, so no table is sent. Each letter is a call of its own, under a row of counts.
 """
 
 from __future__ import annotations
@@ -12,24 +11,22 @@ import sys
 import zlib
 from math import log2
 from random import Random
+from typing import Any
 
 from constriction.stream.model import Categorical
 from constriction.stream.queue import RangeDecoder, RangeEncoder
 from picture import draw
 
-LETTERS = "abdegiklmnorstu. "
-COUNT = 6000
+LETTERS, COUNT = "abdegiklmnorstu. ", 6000
 
 
 def made_up_text(count: int) -> str:
     """Words of syllables, some of which are frequent."""
     dice, text = Random(3), ""
+    parts = "bdgklmnrst", "aaaeeiou", ["", "", "n", "r", "s"]
     while len(text) < count:
-        word = "".join(
-            dice.choice("bdgklmnrst") + dice.choice("aaaeeiou") + dice.choice(["", "", "n", "r", "s"])
-            for _ in range(dice.randint(1, 3))
-        )
-        text += word + dice.choice([" ", " ", " ", ". "])
+        text += "".join(dice.choice(it) for _ in range(dice.randint(1, 3)) for it in parts)
+        text += dice.choice([" ", " ", " ", ". "])
     return text[:count]
 
 
@@ -50,30 +47,33 @@ class Counts:
 
 def entropy(letters: list[int]) -> float:
     """Bits a letter, given the one before, if the counts of the whole text were known."""
-    counts = Counts()
-    for letter in letters:
-        counts.learn(letter)
-    rows = [[it // 8 for it in row] for row in counts.rows]
-    return -sum(it * log2(it / sum(row)) for row in rows for it in row if it) / len(letters)
+    counts = [[0] * len(LETTERS) for _ in LETTERS]
+    for before, letter in zip([LETTERS.index(" "), *letters], letters):
+        counts[before][letter] += 1
+    return -sum(it * log2(it / sum(row)) for row in counts for it in row if it) / len(letters)
 
 
 def main(arguments: list[str]) -> None:
     letters = [LETTERS.index(it) for it in made_up_text(COUNT)]
-    encoder, counts, costs = RangeEncoder(), Counts(), []
+    encoder, counts, bits = RangeEncoder(), Counts(), []
     for letter in letters:
         encoder.encode(letter, counts.model())
         counts.learn(letter)
-        costs.append(encoder.num_bits() / (len(costs) + 1) if len(costs) % 100 == 99 else 0.0)
+        bits.append(encoder.num_bits())
     decoder, counts = RangeDecoder(encoder.get_compressed()), Counts()
     for letter in letters:
         assert decoder.decode(counts.model()) == letter
         counts.learn(letter)
-    data, size = bytes(letters), encoder.num_bits()
+    data, size, bound = bytes(letters), bits[-1], entropy(letters)
     others = [len(it(data)) * 8 for it in (zlib.compress, bz2.compress, lzma.compress)]
-    print(
-        f"{size / COUNT:.2f} bits a letter, conditional entropy {entropy(letters):.2f}, fewer than zlib, bz2 and lzma: {size < min(others)}"
-    )
-    draw(lambda axes: axes.plot(range(100, COUNT + 1, 100), costs[99::100]), arguments)
+    text = f"{size / COUNT:.2f} bits a letter, conditional entropy {bound:.2f}, fewer than zlib, bz2 and lzma:"
+    print(text, size < min(others))
+
+    def plot(axes: Any) -> None:
+        axes.plot(range(100, COUNT + 1), [bits[i - 1] / i for i in range(100, COUNT + 1)], label="range coder")
+        axes.axhline(bound, color="gray", linestyle="--", label="conditional entropy of the whole text")
+
+    draw(plot, arguments, "A model that learns from the text", "letters so far", "bits per letter")
 
 
 if __name__ == "__main__":

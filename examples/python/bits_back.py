@@ -10,6 +10,7 @@ from __future__ import annotations
 import sys
 from math import log2
 from random import Random
+from typing import Any
 
 from constriction.stream.model import Categorical, QuantizedGaussian, WeightTable
 from constriction.stream.stack import AnsCoder
@@ -33,12 +34,13 @@ def drawn() -> list[int]:
 def main(arguments: list[str]) -> None:
     numbers, dice = drawn(), Random(9)
     words = [dice.randrange(1 << 32) for _ in range(20)]
-    sender, sizes = AnsCoder(words, seal=True), []
+    sender, sizes, bound = AnsCoder(words, seal=True), [], [0.0]
     for number in numbers:
         part = sender.decode(POSTERIORS[number + 50])
         sender.encode_reverse(number, LIKELIHOODS[part])
         sender.encode_reverse(part, PRIOR)
         sizes.append(sender.num_valid_bits() - 32 * len(words))
+        bound.append(bound[-1] + 2 * log2(TOTAL) - log2(CHANCES[number + 50]))
 
     receiver, found = AnsCoder(sender.get_compressed()), []
     for _ in numbers:
@@ -46,12 +48,15 @@ def main(arguments: list[str]) -> None:
         found.append(receiver.decode(LIKELIHOODS[part]))
         receiver.encode_reverse(part, POSTERIORS[found[-1] + 50])
 
-    bound = sum(2 * log2(TOTAL) - log2(CHANCES[number + 50]) for number in numbers)
     back = found[::-1] == numbers and receiver.get_binary() == words
-    print(
-        f"{sizes[-1] / COUNT:.3f} net bits a number, information content {bound / COUNT:.3f}; numbers and words come back: {back}"
-    )
-    draw(lambda axes: axes.plot(sizes), arguments)
+    text = f"{sizes[-1] / COUNT:.3f} net bits a number, information content {bound[-1] / COUNT:.3f};"
+    print(text, f"numbers and words come back: {back}")
+
+    def plot(axes: Any) -> None:
+        axes.plot(bound, color="lightgray", linewidth=7, label="information content of the numbers")
+        axes.plot([0, *sizes], label="net bits of the stack coder")
+
+    draw(plot, arguments, "Bits back", "numbers sent", "bits")
 
 
 if __name__ == "__main__":

@@ -57,10 +57,8 @@ def main(arguments: list[str]) -> None:
     bits, unguessed = encoder.num_bits() / SIDE**2, plain.num_bits() / SIDE**2
     print(f"the image comes back: {found == image}; {bits:.2f} bits a pixel, {unguessed:.2f} without neighbours")
 
-    def plot(axes: object) -> None:
-        axes.imshow(image, cmap="gray")  # type: ignore[attr-defined]
-
-    draw(plot, arguments)
+    title = f"The image: {bits:.2f} bits per pixel"
+    draw(lambda axes: axes.imshow(image, cmap="gray"), arguments, title, "column, in pixels", "row, in pixels")
 
 
 if __name__ == "__main__":

@@ -71,7 +71,8 @@ def main(arguments: list[str]) -> None:
     print(
         f"the image comes back: {found == image}; {bits:.3f} bits a pixel, exact mixture {exact:.3f}, one logistic {one:.2f}"
     )
-    draw(lambda axes: axes.imshow(image, cmap="gray"), arguments)
+    title = f"The image: {bits:.2f} bits per pixel"
+    draw(lambda axes: axes.imshow(image, cmap="gray"), arguments, title, "column, in pixels", "row, in pixels")
 
 
 if __name__ == "__main__":

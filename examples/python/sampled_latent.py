@@ -10,6 +10,7 @@ from __future__ import annotations
 
 import sys
 from random import Random
+from typing import Any
 
 from constriction.stream.chain import ChainCoder
 from constriction.stream.model import QuantizedLaplace
@@ -42,7 +43,13 @@ def main(arguments: list[str]) -> None:
     print(
         f"latents that change: chain coder {len(differ[0])}, stack coder {len(differ[1])} of {COUNT}; the words come back: {same}"
     )
-    draw(lambda axes: axes.eventplot(differ), arguments)
+
+    def plot(axes: Any) -> None:
+        axes.eventplot(differ)
+        axes.set_yticks([0, 1], ["chain coder", "stack coder"])
+
+    title = f"Latents that change when the model of latent {CHANGED} changes"
+    draw(plot, arguments, title, "latent, numbered from 0", "coder")
 
 
 if __name__ == "__main__":

@@ -22,6 +22,20 @@ ENVIRONMENT = {
 }
 
 
+# A stand-in for matplotlib: a picture is the list of the calls that draw it.
+STAND_IN = """
+from unittest.mock import MagicMock
+
+
+def subplots(**options):
+    axes = MagicMock()
+    axes.get_legend_handles_labels.side_effect = lambda: ([it for it in axes.mock_calls if "label" in it.kwargs], [])
+    figure = MagicMock()
+    figure.savefig.side_effect = lambda name: open(name, "w").write("\\n".join(it[0] for it in axes.mock_calls))
+    return figure, axes
+"""
+
+
 class Examples(unittest.TestCase):
     def test_lines(self) -> None:
         page = (FOLDER / "README.md").read_text()
@@ -42,6 +56,23 @@ class Examples(unittest.TestCase):
             ran = subprocess.run(command, env=ENVIRONMENT, capture_output=True, text=True)
             self.assertEqual(ran.returncode, 0, ran.stderr)
             self.assertNotEqual(path.is_file(), "matplotlib is not there" in ran.stderr)
+
+    def test_names(self) -> None:
+        """Each picture has a title and names of its axes, and a legend where it has two lines."""
+        with tempfile.TemporaryDirectory() as folder:
+            package = Path(folder, "matplotlib")
+            package.mkdir()
+            (package / "__init__.py").write_text("def use(name):\n    pass\n")
+            (package / "pyplot.py").write_text(STAND_IN)
+            environment = {**ENVIRONMENT, "PYTHONPATH": f"{folder}{os.pathsep}{ENVIRONMENT['PYTHONPATH']}"}
+            for name in SCRIPTS:
+                with self.subTest(name):
+                    path = Path(folder, name)
+                    command = [sys.executable, FOLDER / f"{name}.py", "--picture", path]
+                    subprocess.run(command, env=environment, capture_output=True, check=True)
+                    calls = path.read_text().split("\n")
+                    self.assertLessEqual({"set_title", "set_xlabel", "set_ylabel"}, set(calls))
+                    self.assertEqual("legend" in calls, name in ("adaptive_text", "bits_back"))
 
     def test_lengths(self) -> None:
         for path in FOLDER.glob("*.py"):
