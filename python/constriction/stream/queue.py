@@ -226,7 +226,12 @@ class RangeEncoder(Coder):
 
 
 class RangeDecoder(Coder):
-    """A range decoder with words of 32 bits. See :class:`RangeEncoder` for an example."""
+    """A range decoder with words of 32 bits. See :class:`RangeEncoder` for another example.
+
+    >>> from constriction.stream.model import Uniform
+    >>> RangeDecoder([2**31]).decode(Uniform(2))
+    1
+    """
 
     def __init__(self, compressed: List) -> None:
         """Creates a decoder at the beginning of ``compressed``. The decoder copies the words."""

@@ -39,7 +39,14 @@ class _Place(NamedTuple):
 
 
 class QueueEncoder(Coder):
-    """Encodes codewords one after another. The first is decoded first. Each symbol can have a codebook of its own."""
+    """Encodes codewords one after another. The first is decoded first. Each symbol can have a codebook of its own.
+
+    >>> from constriction.symbol import ExpGolomb
+    >>> encoder = QueueEncoder()
+    >>> encoder.encode([0, 5, 7], ExpGolomb())
+    >>> encoder.get_compressed()[0].tolist()
+    [537]
+    """
 
     def __init__(self) -> None:
         """Creates an encoder that has encoded no symbols."""
@@ -94,7 +101,12 @@ class QueueEncoder(Coder):
 
 
 class QueueDecoder(Coder):
-    """Decodes codewords in the order of encoding. Each symbol can have a codebook of its own."""
+    """Decodes codewords in the order of encoding. Each symbol can have a codebook of its own.
+
+    >>> from constriction.symbol import ExpGolomb
+    >>> QueueDecoder([537]).decode(ExpGolomb(), 3).tolist()
+    [0, 5, 7]
+    """
 
     def __init__(self, compressed: List) -> None:
         """Creates a decoder at the beginning of ``compressed``. The decoder copies the words."""
@@ -187,7 +199,14 @@ def _by_library(codebook: Codebook, bits: int, length: int, count: int, stack: b
 
 
 class StackCoder(Coder):
-    """A stack of codewords: the last one encoded is the first one decoded. Each symbol can have its own codebook."""
+    """A stack of codewords: the last one encoded is the first one decoded. Each symbol can have its own codebook.
+
+    >>> from constriction.symbol import ExpGolomb
+    >>> stack = StackCoder()
+    >>> stack.encode_reverse([0, 5, 7], ExpGolomb())
+    >>> stack.decode(ExpGolomb(), 3).tolist()
+    [0, 5, 7]
+    """
 
     def __init__(self, compressed: List | None = None) -> None:
         """Creates an empty stack, or imports a stack from ``compressed``: words that ``get_compressed`` returned.

@@ -21,6 +21,13 @@ class ExpGolomb(Codebook):
     """The codebook of Exp-Golomb codewords for the numbers below 2^32.
 
     If ``n + 1`` has ``k + 1`` bits, the codeword of ``n`` is ``k`` zeros and then the bits of ``n + 1``, highest first.
+
+    >>> from constriction.symbol import QueueEncoder
+    >>> encoder = QueueEncoder()
+    >>> encoder.encode([0, 5, 7], ExpGolomb())  # the codewords 1, 00110 and 0001000
+    >>> words, bits = encoder.get_compressed()
+    >>> words.tolist(), bits
+    ([537], 13)
     """
 
     def codeword(self, symbol: int) -> tuple[int, int]:

@@ -157,8 +157,16 @@ def _merged(weights: array[int]) -> tuple[list[tuple[int, int]], list[tuple[int,
 
 
 class EncoderHuffmanTree(_Tree):
-    """The Huffman tree of a list of weights, for encoding."""
+    """The Huffman tree of a list of weights, for encoding.
+
+    >>> EncoderHuffmanTree([2, 2, 4, 1, 1]).num_symbols()
+    5
+    """
 
 
 class DecoderHuffmanTree(_Tree):
-    """The Huffman tree of a list of weights, for decoding."""
+    """The Huffman tree of a list of weights, for decoding.
+
+    >>> DecoderHuffmanTree([2, 2, 4, 1, 1]).num_symbols()
+    5
+    """

@@ -20,6 +20,12 @@ class QuantizedCauchy(Model):
     Symbol ``s`` gets the probability between ``s - 0.5`` and ``s + 0.5``. The probability outside the range goes to the
     two ends of the range. If ``loc`` or ``scale`` is missing, pass a list of values to the coder's calls, in this
     order.
+
+    >>> from constriction.stream.queue import RangeEncoder
+    >>> encoder, model = RangeEncoder(), QuantizedCauchy(-100, 100, 0.0, 2.5)
+    >>> encoder.encode([1, 0, 87], model)
+    >>> encoder.get_decoder().decode(model, 3).tolist()
+    [1, 0, 87]
     """
 
     def __init__(

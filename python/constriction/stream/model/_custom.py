@@ -18,6 +18,13 @@ class CustomModel(Model):
     + 0.5``. The probability outside the range goes to the two ends of the range. The number of parameters of ``cdf`` is
     the number of lists that the coder's calls pass. ``approximate_inverse_cdf`` is ignored. It is an argument because
     the Rust crate's package has it.
+
+    >>> from math import exp
+    >>> from constriction.stream.queue import RangeEncoder
+    >>> encoder, model = RangeEncoder(), CustomModel(lambda x, rate: 1 - exp(-rate * max(x, 0)), None, 0, 100)
+    >>> encoder.encode([3, 0, 12], model, [0.5, 2.0, 0.25])
+    >>> encoder.get_decoder().decode(model, [0.5, 2.0, 0.25]).tolist()
+    [3, 0, 12]
     """
 
     def __init__(
@@ -78,6 +85,13 @@ class ScipyModel(CustomModel):
 
     Any object with a method ``cdf`` can be the distribution. A distribution with all its parameters is used as it is.
     For a family of distributions, pass a list of each parameter to the coder's calls, in the order of the family.
+
+    >>> from statistics import NormalDist  # It has a method `cdf`, like the distributions of scipy.
+    >>> from constriction.stream.queue import RangeEncoder
+    >>> encoder, model = RangeEncoder(), ScipyModel(NormalDist(0.0, 3.0), -20, 20)
+    >>> encoder.encode([1, 0, -4], model)
+    >>> encoder.get_decoder().decode(model, 3).tolist()
+    [1, 0, -4]
     """
 
     def __init__(

@@ -25,6 +25,9 @@ class Bernoulli(Rows):
 
     The weight of 1 is ``p`` rounded once to a multiple of 2^-24, half to even, and at least 1 and at most 2^24 - 1.
     Raises ValueError if ``p`` isn't between 0 and 1.
+
+    >>> Bernoulli(0.25).table().tolist() == [3 * 2**22, 2**22]
+    True
     """
 
     core = 0
@@ -79,6 +82,9 @@ class Uniform(Model):
 
     If ``size`` is missing, pass a list of sizes to the coder's calls. Raises ValueError if a size isn't between 1 and
     2^24.
+
+    >>> Uniform(3).table().tolist()
+    [5592405, 5592405, 5592406]
     """
 
     def __init__(self, size: SupportsIndex | None = None) -> None:
@@ -110,6 +116,12 @@ class Binomial(Model):
     """A model of the number of successes in ``n`` trials with probability ``p`` each: symbols 0 .. n.
 
     If ``n`` or ``p`` is missing, pass a list of values to the coder's calls, in this order.
+
+    >>> from constriction.stream.queue import RangeEncoder
+    >>> encoder = RangeEncoder()
+    >>> encoder.encode([3, 9, 5], Binomial(10), [0.25, 0.75, 0.5])
+    >>> encoder.get_decoder().decode(Binomial(10), [0.25, 0.75, 0.5]).tolist()
+    [3, 9, 5]
     """
 
     def __init__(self, n: SupportsIndex | None = None, p: Real | None = None) -> None:

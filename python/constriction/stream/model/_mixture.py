@@ -71,6 +71,14 @@ class QuantizedMixture(Model):
 
     Raises WrongWeightsError if the weights of a row have another sum, WrongLengthError if shapes differ, and ValueError
     if a number isn't finite, a weight is negative or a scale isn't positive and below 65536.
+
+    >>> from constriction.stream.model import QuantizedLogistic
+    >>> from constriction.stream.queue import RangeEncoder
+    >>> encoder, model = RangeEncoder(), QuantizedMixture(QuantizedLogistic(-128, 127))
+    >>> weights, means, scales = [[0.5, 0.5], [0.25, 0.75]], [[4.0, 9.0], [-3.0, 0.5]], [[1.0, 2.0], [1.0, 1.0]]
+    >>> encoder.encode([5, -3], model, weights, means, scales)
+    >>> encoder.get_decoder().decode(model, weights, means, scales).tolist()
+    [5, -3]
     """
 
     core = 1

@@ -151,6 +151,12 @@ class QuantizedGaussian(_Quantized):
 
     Raises ValueError if the mean isn't finite, if the deviation isn't positive and below 65536, or if the range has no
     symbol or more than 2^24 symbols.
+
+    >>> from constriction.stream.stack import AnsCoder
+    >>> coder, model = AnsCoder(), QuantizedGaussian(-100, 100)
+    >>> coder.encode_reverse([7, -20], model, [3.5, -19.5], [2.25, 0.5])
+    >>> coder.decode(model, [3.5, -19.5], [2.25, 0.5]).tolist()
+    [7, -20]
     """
 
     _family = 0
@@ -175,6 +181,12 @@ class QuantizedLaplace(_Quantized):
     """A model like :class:`QuantizedGaussian`, with a Laplace distribution.
 
     At the distance ``scale`` from ``mean``, the density has fallen by the factor ``1 / e``.
+
+    >>> from constriction.stream.stack import AnsCoder
+    >>> coder, model = AnsCoder(), QuantizedLaplace(-100, 100, 0.0, 2.5)
+    >>> coder.encode_reverse([1, 0, -4], model)
+    >>> coder.decode(model, 3).tolist()
+    [1, 0, -4]
     """
 
     _family = 1
@@ -199,6 +211,12 @@ class QuantizedLogistic(_Quantized):
     """A model like :class:`QuantizedGaussian`, with a logistic distribution.
 
     Its distribution function is ``1 / (1 + exp(-(x - mean) / scale))``.
+
+    >>> from constriction.stream.stack import AnsCoder
+    >>> coder, model = AnsCoder(), QuantizedLogistic(-100, 100, 0.0, 2.5)
+    >>> coder.encode_reverse([1, 0, -4], model)
+    >>> coder.decode(model, 3).tolist()
+    [1, 0, -4]
     """
 
     _family = 2

@@ -90,6 +90,12 @@ class WeightTable(Rows):
 
     The weights are whole numbers that add up to 2^24. The model copies them. If the weights are missing, pass a row of
     weights for each symbol to the coder's calls.
+
+    >>> from constriction.stream.stack import AnsCoder
+    >>> coder, model = AnsCoder(), WeightTable([3, 2, 16777211])
+    >>> coder.encode_reverse([1, 1], model)
+    >>> coder.get_compressed().tolist()
+    [16777220]
     """
 
     def __init__(self, weights: List | None = None) -> None:
@@ -126,6 +132,11 @@ class Categorical(Rows):
 
     If the probabilities are missing, pass a row for each symbol to the coder's calls. ``perfect`` and ``lazy`` are
     ignored. In the Rust crate's package they choose how to round.
+
+    >>> Categorical([1, 2, 1]).table().tolist() == [2**22, 2**23, 2**22]
+    True
+    >>> Categorical([0.25, 0.5, 0.25]) == Categorical([1, 2, 1])
+    True
     """
 
     def __init__(
