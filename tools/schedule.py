@@ -13,9 +13,9 @@ Part = collections.namedtuple("Part", "waits weight memory")
 
 
 def share_done(planned):
-    """Returns which share of a proof is done, by an estimate, once this share of the time that was planned for it has passed. Past 0.7 it grows ever more
+    """Returns which share of a proof is done, by an estimate, once this share of the time that was planned for it has passed. Past 0.6 it grows ever more
     slowly and stays below 1, so a proof that takes longer than planned still goes on."""
-    return planned if planned <= 0.7 else 1 - 0.09 / (planned - 0.4)
+    return planned if planned <= 0.6 else 1 - 0.16 / (planned - 0.2)
 
 
 class Schedule:
