@@ -9,6 +9,7 @@ import subprocess
 from edit import read
 from items import implemented, is_of_trait, items, words_of
 from layout import said_by_definitions, without_comments
+from renaming import FIELD_OF_RECORD, declared_by_trait, declared_by_type, stand_ins
 
 # A line that begins a definition, or gives one of its cases.
 DEFINED = re.compile(r"(?:(?:pub|abbrev|record|data|lemma|instance) )*([\w'-]+)")
@@ -97,6 +98,15 @@ class Sources:
                 found.append(Member(it.name, *implemented(it.head), f"{it.head} {it.text}", file))
         return found
 
+    def used_of(self, libraries):
+        """Returns the names that a file has from one of these libraries, or from a module of the prover's."""
+        found = set()
+        for path, braces in (it for text in self.texts.values() for it in USE.findall(text)):
+            first = re.split(r"[:. ]+", path.removeprefix("Rattle."))[0]
+            if first in libraries or "." in path and not path.startswith("Rattle."):
+                found |= words_of(f"{path} {braces}")
+        return found
+
     def uses(self, file):
         """Returns the names that a file has from elsewhere, and those of them that it may call otherwise."""
         names, others = set(), set()
@@ -126,6 +136,8 @@ class Meaning:
         self.sources = Sources(texts_of(crates, [name, *crates.below(name)]))
         self.definitions, self.types = self.sources.definitions(), self.sources.types()
         self.traits, self.members = self.sources.traits(), self.sources.members()
+        libraries = {"std", "core", *(it for used in crates.said.values() for it in used)} - crates.said.keys()
+        self.foreign = self.sources.used_of(libraries)
         self.of = functools.lru_cache(maxsize=None)(self.meant_by)
         self.uses = functools.lru_cache(maxsize=None)(self.sources.uses)
         self.named = functools.lru_cache(maxsize=None)(self.named_by)
@@ -159,3 +171,20 @@ class Meaning:
         definitions = self.definitions
         visible = {it for it in words & definitions.keys() if it in used or any(at == file for _, at in definitions[it])}
         return set().union(*types, *(definitions[it] for it in visible))
+
+    @functools.cached_property
+    def declared(self):
+        """Returns by text the names that a definition, a type or a trait declares."""
+        found = {text: declared_by_type(text) for of_name in self.types.values() for text, _ in of_name}
+        found |= {text: declared_by_trait(text) for text, _ in self.traits.values()}
+        return found | {text: names_of(text) | set(FIELD_OF_RECORD.findall(text)) for of_name in self.definitions.values() for text, _ in of_name}
+
+    def declared_in(self, texts):
+        """Returns the names that some of these texts declare and that no other library has."""
+        return set().union(*(self.declared.get(it, ()) for it in texts)) - self.foreign
+
+    def others(self, names):
+        """Returns by name what stands for all other traits and their ghost members."""
+        beyond = self.traits.keys() - names
+        found = stand_ins({name: self.traits[name][0] for name in beyond})
+        return {name: found[name] for name in found.keys() - names - self.foreign}

@@ -6,6 +6,7 @@ import os
 import re
 
 from edit import read
+from renaming import without_names
 from repository import ROOT
 from sources import Meaning
 
@@ -28,8 +29,8 @@ def stamps_of(crates, name, edits, version):
 
 
 def texts_of_trial(meaning, crate, edits):
-    """Returns what the trial of edits rests on: their own lines, what they change, and what that means. An edit of what no function holds
-    rests on all items of its source."""
+    """Returns what the trial of edits rests on, but for what the definitions, types and fields in it are called: their own lines, what they change, and
+    what that means. An edit of what no function holds rests on all items of its source."""
     texts = {"\n".join(filter(None, it.lines)) for it in edits}
     for edit in edits:
         for file in {*edit.spans, f"src/{edit.path}.rt"}:
@@ -40,7 +41,8 @@ def texts_of_trial(meaning, crate, edits):
             named = [it for it in items if it.name in edit.functions and it.kind != "header"]
             for it in items if file in edit.spans and edit.is_apart or not named else named:
                 texts |= meaning.of(it, f"{crate}/{file}")
-    return sorted(texts)
+    names = meaning.declared_in(texts)
+    return without_names(texts, names, meaning.others(names))
 
 
 def kit_and_logic(version):

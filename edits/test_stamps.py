@@ -73,6 +73,26 @@ pub fn weigh(pile: &Pile<u8>) -> u32 {
     5
 }
 
+pub struct Left;
+
+pub struct Right;
+
+pub struct Pair {
+    front: u32,
+    back: u32,
+    gap: u32,
+}
+
+impl Pair {
+    pub fn nearest(&self, at: Left) -> u32
+        requires few { Left.few < 9 }
+        requires size { Right.size < 9 }
+        ensures { result ≡ self.now.front }
+    {
+        self.front + gap(0)
+    }
+}
+
 impl<Word> Wide for Pile<Word> {
     ghost width = { 3 };
 
@@ -105,6 +125,10 @@ new: let value = 8;
 old:     5
 new:     6
 
+## nearest: the other one
+old:         self.front
+new:         self.back
+
 ## next: forgets
 old:         None
 new:         none()
@@ -114,6 +138,18 @@ old:         3
 new:         4
 """,
 }
+
+
+def renamed(old, new, *paths):
+    """Returns the changes that give what has a name another one, wherever these files have it."""
+    return [(path, old, new) for path in paths if old in FILES[path]]
+
+
+def exchanged(one, other, *paths):
+    """Returns the changes that exchange two names in files that have both."""
+    return [(path, *change) for path in paths for change in ((one, "~"), (other, one), ("~", other))]
+
+
 FIRST, ALL = ["first"], ["first", "measure", "next", "second", "weigh"]
 # Of each case the changes, each a file, an old text and a new one, and the functions of which the stamps differ.
 CASES = {
@@ -142,6 +178,27 @@ CASES = {
     "a trait below": ([(LOWER, "≡ Self.width", "≡ Self.width + 0")], ["measure"]),
     "a trait of that trait": ([(LOWER, "0 < width", "1 < width")], ["measure"]),
     "a function that is called": ([(UPPER, "pub fn second", "fn two(x: u32) -> u32 {\n        x\n    }\n\n    pub fn second")], []),
+    "a definition of another name": (renamed("wide", "broad", UPPER, WIDE), []),
+    "a definition below of another name": (renamed("size", "count", WIDE, SIZES), []),
+    "a record of another name": (renamed("Kept", "Spared", UPPER, WIDE), []),
+    "a record's field of another name": (renamed("few", "most", WIDE), []),
+    "records' fields with the names of each other": ([(WIDE, "any", "few "), (WIDE, "pub few :", "pub any :")], []),
+    "a type of another name": (renamed("Pile", "Heap", UPPER), []),
+    "a type of another name beside one that is alike": (renamed("Left", "Start", UPPER), []),
+    "another type that is alike": ([(UPPER, "at: Left", "at: Right")], ["nearest"]),
+    "a field of another name": (renamed("front", "head", UPPER, EDITS), []),
+    "a field with the name of a function that is called": ([(UPPER, "    gap: u32", "    room: u32")], []),
+    "fields with the names of each other": (exchanged("front", "back", UPPER, EDITS), []),
+    "a trait of another name": (renamed("Measured", "Weighed", LOWER, UPPER), []),
+    "a ghost member of another name": (renamed("width", "breadth", LOWER, UPPER), []),
+    "all of other names": ([it for pair in (("wide", "broad"), ("Kept", "Aa"), ("Pile", "Zz"), ("Wide", "Qq"), ("width", "qq")) for it in renamed(*pair, *FILES)], []),
+    "another definition": ([(UPPER, "{wide, Kept}", "{value, Kept}"), (UPPER, "result ≡ wide", "result ≡ value")], ["first", "second"]),
+    "another field": ([(UPPER, "self.now.front", "self.now.back")], ["nearest"]),
+    "another field in a function and its edit": ([*exchanged("self.front", "self.back", EDITS), (UPPER, "now.front", "now.back"), (UPPER, "    self.front", "    self.back")], ["nearest"]),
+    "fields in another order": ([(UPPER, "    front: u32,\n    back: u32,", "    back: u32,\n    front: u32,")], ["nearest"]),
+    "a record's fields in another order": ([(WIDE, "0 < n", "n < 9 "), (WIDE, "few : n < 9", "few : 0 < n")], ["second"]),
+    "a name that another library has": ([(UPPER, "elements pile.words", "length pile.words")], ALL),
+    "another function that is called": ([(UPPER, "two(1)", "three(1)"), (EDITS, "two(", "three(")], FIRST),
     "an edit": ([(EDITS, "two(2)", "two(3)")], FIRST),
     "a heading": ([(EDITS, "first: one more", "first: one too many")], []),
 }
