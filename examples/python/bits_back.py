@@ -48,7 +48,7 @@ def main(arguments: list[str]) -> None:
         found.append(receiver.decode(LIKELIHOODS[part]))
         receiver.encode_reverse(part, POSTERIORS[found[-1] + 50])
 
-    back = found[::-1] == numbers and receiver.get_binary() == words
+    back = found[::-1] == numbers and receiver.get_binary().tolist() == words
     text = f"{sizes[-1] / COUNT:.3f} net bits a number, information content {bound[-1] / COUNT:.3f};"
     print(text, f"numbers and words come back: {back}")
 

@@ -10,6 +10,7 @@ import ctypes
 import sys
 from array import array
 from collections.abc import Iterable, Sequence
+from importlib import import_module
 from typing import TYPE_CHECKING, Any, SupportsFloat, SupportsIndex, Union, overload
 
 __all__ = [
@@ -41,8 +42,7 @@ if TYPE_CHECKING:
     Array = array[Any]
 
     class Answer(Sequence[int]):
-        """Words or symbols as a caller gets them: an ``array.array``, or a numpy array, whose ways are known to
-        numpy alone."""
+        """Words or symbols as a caller gets them: a numpy array, or an ``array.array`` where there is no numpy."""
 
         def tolist(self) -> list[int]:
             ...
@@ -161,12 +161,30 @@ def numpy_module() -> Any:
     return sys.modules.get("numpy")
 
 
+_is_numpy_sought = False
+
+
+def numpy_for_answers() -> Any:
+    """Returns numpy, which the first call imports if it can be imported. Otherwise returns None.
+
+    So answers are of one kind in a program, whatever else the program imports.
+    """
+    global _is_numpy_sought
+    if not _is_numpy_sought:
+        _is_numpy_sought = True
+        try:
+            import_module("numpy")
+        except ImportError:
+            pass
+    return numpy_module()
+
+
 def answered(numbers: Numbers) -> Any:
     """Returns numbers as a caller gets them.
 
-    If the program has loaded numpy, these are a numpy array over the same memory. Otherwise they are ``numbers``.
+    If numpy can be imported, these are a numpy array over the same memory. Otherwise they are ``numbers``.
     """
-    numpy = numpy_module()
+    numpy = numpy_for_answers()
     if numpy is None:
         return numbers
     kind = {WORD: "uint32", SYMBOL: "int64"}[numbers.typecode]

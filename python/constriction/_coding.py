@@ -7,7 +7,7 @@ from itertools import repeat
 from math import prod
 from typing import Any, NoReturn
 
-from ._buffers import SYMBOL, Numbers, Symbols, answered, listed, numpy_module, room
+from ._buffers import SYMBOL, Numbers, Symbols, answered, listed, numpy_for_answers, numpy_module, room
 from ._numbers import count_of, is_one, listed_of, places_of, sequence_of, whole
 
 from .errors import (
@@ -243,8 +243,8 @@ def shape_counted(amt: Any) -> Shape:
     """Returns the shape of ``amt`` symbols: a number of them, or a tuple of such numbers."""
     if not isinstance(amt, tuple):
         return (count_of(amt),)
-    if len(amt) != 1 and numpy_module() is None:
-        raise TypeError(f"expected a number of symbols, got {amt}: import numpy for arrays of other shapes")
+    if len(amt) != 1 and numpy_for_answers() is None:
+        raise TypeError(f"expected a number of symbols, got the shape {amt}, which needs numpy")
     return tuple(map(count_of, amt))
 
 

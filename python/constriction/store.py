@@ -2,10 +2,10 @@
 
 >>> from constriction.stream.model import Uniform
 >>> store = Store.build([[1, 0, 3], [], [2]], Uniform(4))
->>> list(store[2]), len(store)
+>>> store[2].tolist(), len(store)
 ([2], 3)
 >>> kept = store.words, store.index
->>> list(Store.from_parts(*kept, Uniform(4)).chunk(0))
+>>> Store.from_parts(*kept, Uniform(4)).chunk(0).tolist()
 [1, 0, 3]
 """
 

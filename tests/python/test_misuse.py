@@ -90,7 +90,9 @@ for coder, tree in (
 print()
 print(perf_counter() - begun < 1)
 """
-        path = {"PYTHONPATH": str(Path(_library.__file__).parents[1]), "CONSTRICTION_LIBRARY": str(_library.PATH)}
+        # Without numpy, which wants more memory than the process may have.
+        folders = Path(__file__).parent / "without_numpy", Path(_library.__file__).parents[1]
+        path = {"PYTHONPATH": os.pathsep.join(map(str, folders)), "CONSTRICTION_LIBRARY": str(_library.PATH)}
         ran = subprocess.run(
             [sys.executable, "-c", program], env={**os.environ, **path}, capture_output=True, text=True
         )

@@ -402,7 +402,9 @@ except MemoryError:
 coder.encode_reverse([1, 0], model)
 print(coder.decode(model, 1002) == [1, 0] + [0] * 1000)
 """
-        path = {"PYTHONPATH": PACKAGE, "CONSTRICTION_LIBRARY": str(_library.PATH)}
+        # Without numpy, which wants more memory than the process may have.
+        folders = str(Path(__file__).parent / "without_numpy"), PACKAGE
+        path = {"PYTHONPATH": os.pathsep.join(folders), "CONSTRICTION_LIBRARY": str(_library.PATH)}
         ran = subprocess.run([sys.executable, "-c", program], env={**os.environ, **path}, capture_output=True, text=True)
         self.assertEqual((ran.stdout, ran.stderr), ("refused True True\nTrue\n", ""))
 

@@ -125,7 +125,7 @@ class ChainCoder(Coder):
     >>> coder.decode(Uniform(2))
     0
     >>> coder.encode_reverse(0, Uniform(2))
-    >>> coder.get_data()[1] == [0x11223344, 0x100]
+    >>> coder.get_data()[1].tolist() == [0x11223344, 0x100]
     True
     """
 

@@ -8,8 +8,8 @@ tree with those of the C functions. Python code keeps the positions of the codew
 >>> encoder = QueueEncoder()
 >>> encoder.encode([3, 0, 2], tree)
 >>> words, bits = encoder.get_compressed()
->>> QueueDecoder(words).decode(DecoderHuffmanTree([2, 2, 4, 1, 1]), 3) == [3, 0, 2]
-True
+>>> QueueDecoder(words).decode(DecoderHuffmanTree([2, 2, 4, 1, 1]), 3).tolist()
+[3, 0, 2]
 """
 
 from . import exp_golomb, huffman

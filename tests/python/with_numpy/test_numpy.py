@@ -6,6 +6,8 @@ import copy
 import math
 import pickle
 import random
+import subprocess
+import sys
 import unittest
 from array import array
 from typing import Any
@@ -42,6 +44,25 @@ class Numpy(unittest.TestCase):
             found = AnsCoder(words.astype(">u4")).decode(model, numpy.int64(10))
             self.assertEqual((type(found), found.dtype, found.tolist()), (numpy.ndarray, numpy.int64, TEN))
             found[0] = 7  # It is the caller's own.
+
+    def test_one_kind_of_answers(self) -> None:
+        """The first answer is an array of numpy, although the program doesn't import numpy itself, and so are the others."""
+        program = """
+import sys
+{}
+from constriction.stream.model import Uniform
+from constriction.stream.stack import AnsCoder
+coder = AnsCoder([5, 6, 7])
+kinds = [type(it).__name__ for it in (coder.get_compressed(), coder.decode(Uniform(3), 2))]
+try:
+    import numpy
+except ImportError:
+    pass
+print(*kinds, type(coder.decode(Uniform(3), 2)).__name__)
+"""
+        for line, kind in (("", "ndarray"), ("sys.modules['numpy'] = None", "Numbers")):
+            ran = subprocess.run([sys.executable, "-c", program.format(line)], capture_output=True, text=True)
+            self.assertEqual((ran.stdout, ran.stderr), (f"{kind} {kind} {kind}\n", ""))
 
     def test_symbols_that_begin_elsewhere(self) -> None:
         message, model = [-3, 0, 4, -9], QuantizedGaussian(-9, 9, 0.0, 3.0)
