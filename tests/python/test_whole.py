@@ -94,7 +94,9 @@ class Case:
     #: The names of the calls.
     encode, decode = "encode_reverse", "decode"
     kinds: tuple[Any, ...] = (QuantizedGaussian, QuantizedLaplace, QuantizedLogistic)
-    forms: tuple[Callable[[Any], Any], ...] = (list, tuple, iter)
+    #: The forms of lists of symbols, and those of lists of parameters.
+    forms: tuple[Callable[[Any], Any], ...] = (list, list, tuple, iter, lambda it: array("q", it))
+    forms_of_parameters: tuple[Callable[[Any], Any], ...] = (list, list, tuple, iter)
 
     def __init__(self, dice: random.Random) -> None:
         self.dice = dice
@@ -108,11 +110,6 @@ class Case:
 
     def found(self, coder: Any) -> Any:
         """Returns what is found at each position that the coder promises."""
-
-    def form(self, numbers: list[Any], integral: bool = False) -> Any:
-        """Returns the numbers in one of the forms in which a call takes them."""
-        kind = self.dice.choice((*self.forms, lambda it: array("q" if integral else "d", it)))
-        return kind(numbers)
 
     def fixed(self) -> tuple[Model, list[int]]:
         """Returns a model with all its parameters, and its symbols that have a weight."""
@@ -157,17 +154,15 @@ class Case:
                 return lambda it: getattr(it, name)(*symbol, model)
             symbols = [dice.choice(known) for _ in range(dice.randrange(12))]
             if encodes:
-                form = dice.random()
-                return lambda it: getattr(it, name)(iter(symbols) if form < 0.2 else array("q", symbols) if form < 0.5 else symbols, model)
+                make = dice.choice(self.forms)
+                return lambda it: getattr(it, name)(make(symbols), model)
             return lambda it: getattr(it, name)(model, len(symbols))
         model, given, symbols = self.each(dice.choice((1, 1, 2, 5, 9)))
         if len(symbols) == 1 and dice.random() < 0.7 and (encodes or not model.has_rows or type(model) is Bernoulli):
             one = [it[0] for it in given]
             return lambda it: getattr(it, name)(*symbols[:encodes], model, *one)
-        form = self.dice.random()
-        return lambda it: getattr(it, name)(
-            *([symbols] if encodes else []), model, *(map(iter, given) if form < 0.2 else map(tuple, given) if form < 0.4 else given)
-        )  # fmt: skip
+        make, form = dice.choice(self.forms), dice.choice(self.forms_of_parameters)
+        return lambda it: getattr(it, name)(*([make(symbols)] if encodes else []), model, *map(form, given))
 
     def refused(self) -> Change:
         """Returns a call that raises an exception."""
@@ -395,7 +390,11 @@ class Stack(Bits):
 
 
 class Whole(unittest.TestCase):
+    kinds: tuple[Any, ...] = ()
+    calls = CALLS
+
     def setUp(self) -> None:
+        self.kinds = Ans, Ans, Ans, Encoder, Decoder, Chain, Queue, Stack
         # Short lists have several parts then.
         for module, name, size in (
             (_coding, "_SYMBOLS_AT_A_TIME", 3), (_coding, "_WEIGHTS_AT_A_TIME", 0), (_table, "ROWS_AT_A_TIME", 4), (_finite, "ROWS_AT_A_TIME", 4),
@@ -407,13 +406,13 @@ class Whole(unittest.TestCase):
     def test_random_calls(self) -> None:
         self.counts: dict[str, int] = {}
         dice, done = random.Random(82), 0
-        while done < CALLS:
-            for kind in (Ans, Ans, Ans, Encoder, Decoder, Chain, Queue, Stack):
+        while done < self.calls:
+            for kind in self.kinds:
                 case = kind(dice)
                 coder = case.made()
                 for _ in range(12):
                     done += self.step(case, coder, twin_of(coder))
-        self.assertGreaterEqual(min(self.counts.get(it, 0) for it in ("refuse", "interrupt", "want_memory", "inside", "handle")), 1000, self.counts)
+        self.assertGreaterEqual(min(self.counts.get(it, 0) for it in ("refuse", "interrupt", "want_memory", "inside", "handle")), self.calls // 20, self.counts)
 
     def step(self, case: Case, coder: Any, twin: Any) -> int:
         """Makes a valid call, then one of the others. Returns the number of others."""

@@ -1,0 +1,40 @@
+"""Coders as wholes, as tests/python/test_whole.py has them, with arrays of numpy in and out."""
+
+from __future__ import annotations
+
+import sys
+import unittest
+from pathlib import Path
+from typing import Any
+from unittest import mock
+
+np: Any
+try:
+    import numpy as np
+except ImportError:
+    raise unittest.SkipTest("numpy is not there") from None
+
+sys.path.insert(0, str(Path(__file__).resolve().parents[1]))
+
+import test_whole as of
+
+
+def table(numbers: Any) -> Any:
+    """Returns an array, or a list if these are rows of several widths."""
+    widths = {len(it) for it in numbers if isinstance(it, list)}
+    return numbers if len(widths) > 1 else np.array(numbers)
+
+
+class WithNumpy(unittest.TestCase):
+    def test_random_calls(self) -> None:
+        whole = of.Whole("test_random_calls")
+        whole.setUp()
+        self.addCleanup(whole.doCleanups)
+        whole.calls = 6000
+        forms = *of.Case.forms, np.array, lambda it: np.array(it, dtype=">i4"), lambda it: np.array(it, dtype="int64").reshape(1, -1)
+        with mock.patch.multiple(of.Case, forms=forms, forms_of_parameters=(*of.Case.forms_of_parameters, table, table)):
+            whole.test_random_calls()
+
+
+if __name__ == "__main__":
+    unittest.main()
