@@ -8,7 +8,7 @@ WEIGHTS, NAMES = [8, 5, 3], "abc"
 
 
 def pop(weights, head, words):
-    """The symbol, its quantile, and what a pop leaves by its definition: the head before a word moves in, the state."""
+    """Returns the symbol of a pop, its quantile, the head before a word moves in, and the state after the pop."""
     quantile = head % 16
     symbol = symbol_at(weights, quantile)
     left, length = entries(weights)[symbol]
@@ -19,7 +19,7 @@ def pop(weights, head, words):
 
 
 def push(weights, symbol, head, words):
-    """The one state whose pop gives this symbol and this state: looked for among those with a word more and without."""
+    """Returns the one state whose pop returns this symbol and this state, by a search with and without one more word."""
     left, length = entries(weights)[symbol]
     found = []
     for moved in (0, 1):
@@ -33,7 +33,7 @@ def push(weights, symbol, head, words):
 
 
 def pushes(page, head, words):
-    """The four pushes, as rows; the state after them, and the states before each."""
+    """Finds the rows of the four pushes. Returns the state after them and the states before each."""
     before = []
     for symbol in [2, 0, 1, 2]:
         (left, length), old, top = entries(WEIGHTS)[symbol], head, head // 2**12
@@ -48,7 +48,7 @@ def pushes(page, head, words):
 
 
 def pops(page, head, words, before):
-    """The four pops, which lead back through the states before."""
+    """Finds the rows of the four pops, which restore the states before the pushes."""
     while before:
         symbol, quantile, low, back, rest = pop(WEIGHTS, head, words)
         left, length = entries(WEIGHTS)[symbol]
@@ -61,7 +61,7 @@ def pops(page, head, words, before):
 
 
 def rounds_within(head, length, precision, word, state, bits):
-    """A push of a weight multiplies the head that a word has left, if one has, by 1 / probability, up to 1 / 2^bits."""
+    """Returns whether pushes of a weight change the head by its exact factor, up to a relative error of 1 / 2^bits."""
     if head >> state - precision >= length:
         head >>= word
     whole, rest = divmod(head, length)
@@ -70,7 +70,7 @@ def rounds_within(head, length, precision, word, state, bits):
 
 
 def rounding(page):
-    """Rounding errors: here of each head and weight, and in the default coder of the heads where errors are greatest."""
+    """Checks the rounding errors of all heads and weights here, and of the default coder's heads with the greatest errors."""
     for length in range(1, 2**4):
         near = all(rounds_within(head, length, 4, 8, 16, 4) for head in range(2**8, 2**16))
         judge(near, f"{page.name}: the rounding error of a push of weight {length}")
@@ -84,7 +84,7 @@ def rounding(page):
 
 
 def commands(page):
-    """Two pushes at the program's sizes. readme.py runs the coders' definitions for the commands below them."""
+    """Checks two pushes at the program's sizes. readme.py runs the coders' definitions for the page's commands."""
     weights, word, state = [3, 2, 16777211], 32, 64
     (left, length), precision = entries(weights)[1], 24
     judge(sum(weights) == 2**precision and length << state - precision == 2**41, "the program's table")

@@ -12,7 +12,7 @@ WEIGHTS, OTHER, WORDS = [5, 11], [13, 3], [171, 18]
 
 
 class Decode(NamedTuple):
-    """What a decode began with, what it took, and what it left."""
+    """The state before a decode, what the decode took, and the state after it."""
 
     number: int
     bits: str
@@ -29,7 +29,7 @@ class Decode(NamedTuple):
 
 
 def walk(bits, words):
-    """A quantile from the bits left over or from a word, as bits; the bits left over then; the words; the word read."""
+    """Returns a quantile from the bits left over or from a word, as bits; the bits left over; the words; the word read."""
     if len(bits) >= 4:
         return bits[-4:], bits[:-4], words, None
     word = format(words[-1], "08b")
@@ -37,7 +37,7 @@ def walk(bits, words):
 
 
 def decoded(tables, words):
-    """The decodes of a coder that is made of words, and the words that they leave."""
+    """Returns the decodes of a coder that imports words, and the words that are left."""
     number, bits, words, decodes = words[-1], "", words[:-1], []
     while number < 2**4:
         number, words = number * 2**8 + words[-1], words[:-1]
@@ -54,7 +54,7 @@ def decoded(tables, words):
 
 
 def way_there(page):
-    """The two decodes; the number that they leave."""
+    """Finds the two decodes. Returns the remainders head after them."""
     decodes, words = decoded([WEIGHTS] * 2, WORDS)
     page.row("", "", "", "", decodes[0].number)
     for name, it in zip(["first", "second"], decodes):
@@ -73,7 +73,7 @@ def way_there(page):
 
 
 def other_model(page):
-    """Both coders over the same words, under two models for the first symbol."""
+    """Compares both coders over the same words, under two models for the first symbol."""
     head = WORDS[1] * 256 + WORDS[0]
     page.has(f"With the weights {series(OTHER)} in place of {series(WEIGHTS)} for the first symbol")
     ways = []
@@ -91,7 +91,7 @@ def other_model(page):
 
 
 def way_back(page, number):
-    """Two encodes of symbol 1, which give the words back."""
+    """Finds two encodes of symbol 1, which restore the words."""
     bits, (left, length) = "", entries(WEIGHTS)[1]
     for _ in range(2):
         judge(number >= length * 2**4, "no word of the remainders moves in")

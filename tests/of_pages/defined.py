@@ -1,4 +1,4 @@
-"""docs/DEFINITIONS.md: what each file of definitions has, by the first sentence of its first comment.
+"""docs/DEFINITIONS.md: the contents of each file of definitions, by the first sentence of its first comment.
 
 Run by itself this file writes the page.
 """
@@ -20,18 +20,18 @@ sentence of each. `python3 tests/of_pages/defined.py` writes it, and `tests/page
 
 
 def crates():
-    """The crates below the facade, the calls and the program, those that others stand on first."""
+    """Returns the crates below the facade, the calls and the program, each after the crates that it uses."""
     names = [line.split(":")[0].split()[0] for line in read("crates.txt").splitlines() if ":" in line]
     return [it for it in names if it != "constriction" and os.path.isdir(f"{TOP}/crates/{it}/specs")]
 
 
 def files(crate):
-    """The files of definitions of a crate, as paths below its specs/, each with its first sentence."""
+    """Yields the files of definitions of a crate, as paths below its specs/, each with its first sentence."""
     top = f"{TOP}/crates/{crate}/specs"
     for at, _, names in sorted(os.walk(top)):
         for name in sorted(it for it in names if it.endswith(".antt")):
             path = os.path.relpath(f"{at}/{name}", top)
-            # A file that a script writes says so first.
+            # The first comment of a generated file names its script.
             comment = re.match(r"(?:--.*\n)+", re.sub(r"^-- Written by .*\n", "", read(f"crates/{crate}/specs/{path}")))
             if comment:
                 text = " ".join(line.lstrip("- ").strip() for line in comment[0].splitlines())

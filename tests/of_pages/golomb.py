@@ -13,12 +13,12 @@ def golomb(number):
 
 
 def as_word(bits):
-    """Bits as a word of 32, from the lowest one up."""
+    """Returns bits as a word of 32 bits, from the lowest one up."""
     return sum(int(bit) << place for place, bit in enumerate(bits))
 
 
 def read(bits, size):
-    """The number of so many bits whose codeword begins the bits, or the error; and how many bits were read."""
+    """Returns the number whose codeword begins the bits, or the error, and how many bits were read."""
     zeros = 0
     for count, bit in enumerate(bits, 1):
         if bit == "1":
@@ -47,7 +47,7 @@ def grammar(page):
 
 
 def one_behind_another(page):
-    """The words of a queue and of a stack."""
+    """Finds the words of a queue and of a stack."""
     queue, numbers = "", (0, 5, 7)
     for number in numbers:
         places = [len(queue) + place for place, bit in enumerate(golomb(number)) if bit == "1"]
@@ -61,7 +61,7 @@ def one_behind_another(page):
 
 
 def reading(page):
-    """How 5 is read, and where reading stops."""
+    """Finds how 5 is read, and where reading stops."""
     code, zeros, number = golomb(5), 0, 0
     for count, bit in enumerate(code, 1):
         zeros += bit == "0" and not number

@@ -1,4 +1,4 @@
-"""docs/HEADLINE.md: each law, each clause of a call and each other name that it has is there."""
+"""docs/HEADLINE.md: each law, each clause of a call and each other name exists."""
 
 from __future__ import annotations
 
@@ -12,7 +12,7 @@ PAGE = "docs/HEADLINE.md"
 
 
 def judge_law(path):
-    """A law stands in the file of its module, below the source of the laws."""
+    """Judges that the file of a law's module has the law."""
     *modules, name = path.split("::")
     file = "crates/constriction_laws/src/" + "/".join(modules) + ".rt"
     judge(os.path.exists(f"{TOP}/{file}"), f"{PAGE}: there is no {file}")

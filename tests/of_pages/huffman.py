@@ -1,4 +1,4 @@
-"""docs/HUFFMAN.md: the tree that merging weights gives."""
+"""docs/HUFFMAN.md: the tree of merged weights."""
 
 from __future__ import annotations
 
@@ -13,7 +13,7 @@ WEIGHTS = [2, 2, 4, 1, 1]
 
 
 def merged(weights):
-    """The steps: the trees that are left, the two that are merged, and the union with its weight."""
+    """Returns the steps: the trees that are left, the two merged trees, and the union with its weight."""
     trees, steps = [(weight, index) for index, weight in enumerate(weights)], []
     heapq.heapify(trees)
     for union in range(len(weights), 2 * len(weights) - 1):
@@ -25,7 +25,7 @@ def merged(weights):
 
 
 def ways_of(weights):
-    """The bits from the root to each node."""
+    """Returns the bits from the root to each node."""
     ways = {2 * len(weights) - 2: ""}
     for _, first, second, union, _ in reversed(merged(weights)):
         ways |= {first: ways[union] + "0", second: ways[union] + "1"}
@@ -33,7 +33,7 @@ def ways_of(weights):
 
 
 def least_cost(weights, room=Fraction(1)):
-    """The least sum of weight times length over all prefix-free codewords: of lengths that meet Kraft's inequality."""
+    """Returns the least sum of weight times length over all lengths that meet Kraft's inequality."""
     if not weights:
         return 0
     costs = []
@@ -57,7 +57,7 @@ def codewords(page, ways):
 
 
 def nodes(page, steps, ways):
-    """The nodes of both trees, and the ways through them for symbol 3."""
+    """Finds the nodes of both trees, and the paths of symbol 3."""
     parents = [0] * len(ways)
     for _, first, second, union, _ in steps:
         parents[first], parents[second] = 2 * union, 2 * union + 1
@@ -84,7 +84,7 @@ def nodes(page, steps, ways):
 
 
 def fibonacci(page):
-    """The first two of so many symbols have codewords of as many bits, less one."""
+    """Checks the lengths of the first two codewords for Fibonacci numbers as weights."""
     numbers = [1, 1]
     for count in range(3, 12):
         numbers.append(numbers[-1] + numbers[-2])
@@ -94,7 +94,7 @@ def fibonacci(page):
 
 
 def least(page):
-    """What codewords cost under other weights."""
+    """Finds the cost of codewords under other weights."""
     weights = [1, 1, 2, 3, 5]
     ways = ways_of(weights)
     tree = [ways[symbol] for symbol in range(len(weights))]

@@ -1,4 +1,4 @@
-"""What all tests of the pages use: how a case is judged, and a page whose texts and rows are looked for."""
+"""Common code of the tests of pages: judgement of a case, and search of texts and rows in a page."""
 
 from __future__ import annotations
 
@@ -20,7 +20,7 @@ def read(path):
 
 
 class Page:
-    """A page's text. What was found in it is crossed out."""
+    """A page's text. Found parts are crossed out."""
 
     def __init__(self, name):
         self.name = name
@@ -29,31 +29,31 @@ class Page:
         self.left = re.sub(r"[ \n]+", " ", re.sub(r"\|\n\|", "|¶|", text))
 
     def has(self, words):
-        """The page has these words, wherever its lines end."""
+        """Judges that the page has these words, wherever its lines end."""
         words = re.sub(r"\s+", " ", words)
         judge(words in self.left, f"{self.name} has not: {words}")
         self.left = self.left.replace(words, "…")
 
     def row(self, *cells):
-        """The page has a row of a table with these cells."""
+        """Judges that the page has a row of a table with these cells."""
         row = "|" + "|".join(f" {cell} " if str(cell) else " " for cell in cells) + "|"
         judge(row in self.left, f"{self.name} has no row: {row}")
         self.left = self.left.replace(row, "…")
 
     def rest(self, *given):
-        """Each number of what is left of the page is one of these, which it begins with."""
+        """Judges that the rest of the page has no numbers except these."""
         for number in sorted(set(re.findall(r"\d[\d.]*\d|\d", self.left))):
             judge(number in given, f"{self.name}: nothing computes the number {number}")
 
 
 def bits_of_information(weight, precision):
-    """Two digits behind the point, and none where they are zeros."""
+    """Returns an information content with two decimal places, or none if they are zeros."""
     text = f"{precision - log2(weight):.2f}"
     return "1 bit" if text == "1.00" else f"{text.removesuffix('.00')} bits"
 
 
 def entries(weights):
-    """Of each symbol where its interval begins, and how long it is."""
+    """Returns the start and the length of each symbol's interval."""
     return [(sum(weights[:symbol]), weight) for symbol, weight in enumerate(weights)]
 
 
@@ -66,7 +66,7 @@ def quantiles(left, length):
 
 
 def digits(number, count):
-    """So many digits in base 256, the highest first."""
+    """Returns `count` digits in base 256, the highest first."""
     return [number >> 8 * place & 255 for place in reversed(range(count))]
 
 

@@ -1,4 +1,4 @@
-"""Each link of a page leads to a file, and to a heading where it names one; bench/words names rows of one."""
+"""Links of pages lead to files and headings, and bench/words names rows of docs/DIFFERENCES.md."""
 
 from __future__ import annotations
 
@@ -14,7 +14,7 @@ def pages():
 
 
 def anchors(path):
-    """The names of a page's headings, as they are named where pages are shown."""
+    """Yields the anchors of a page's headings."""
     for head in re.findall(r"^#+ (.*)$", read(path), flags=re.M):
         yield re.sub(r"[^\w -]", "", re.sub(r"\]\([^)]*\)", "]", head).lower()).replace(" ", "-")
 

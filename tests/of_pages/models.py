@@ -1,4 +1,4 @@
-"""docs/MODELS.md and the pages that have models: tables, weights, and parameters in units, by the definitions."""
+"""docs/MODELS.md and other pages with models: tables, weights, and parameters in units, by the definitions."""
 
 from __future__ import annotations
 
@@ -17,7 +17,7 @@ WORKED = "Logistic", -1133972, 701962, -66, 189, 24, -41
 
 
 def table(page):
-    """The normal distribution of mean 0.5 and deviation 1 over five symbols, at 8 bits."""
+    """Finds the normal distribution of mean 0.5 and deviation 1 over five symbols, at 8 bits."""
     location, scale, count = models.location_of(0.5), models.scale_of(1.0), GREATEST - LEAST + 1
     starts = models.starts(models.GAUSSIAN, location, scale, LEAST, count, PRECISION)
     page.has(f"This table has the symbols {LEAST} to {GREATEST}, {PRECISION} bits, and the normal distribution of mean 0.5 and")
@@ -32,14 +32,14 @@ def table(page):
 
 
 def as_the_page_says():
-    """What the page's program defines, and the tables of its families, each with its width."""
+    """Returns the definitions of the page's program, and the tables of its families, each with its width."""
     said = {}
     exec(re.search(r"^```python\n(.*?)^```$", read("docs/MODELS.md"), flags=re.M | re.S)[1], said)
     return said, {name: (said["values"](*it), it[1]) for name, it in said["FAMILIES"].items()}
 
 
 def definition(page):
-    """The page's program gives the tables and the starts of the definitions."""
+    """Compares the tables and the starts of the page's program with those of the definitions."""
     said, tables = as_the_page_says()
     judge([*map(str.lower, tables)] == [*models.FAMILIES], f"{page.name}: the families")
     dice = random.Random(1)
@@ -62,7 +62,7 @@ def definition(page):
 
 
 def worked(page):
-    """The row of the worked start, and what exact straight lines would give."""
+    """Finds the row of the worked start, and the value of exact straight lines."""
     name, location, scale, least, greatest, bits, symbol = WORKED
     table, width, n = models.values(name.lower()), 2 * distributions.REACH[name.lower()], greatest - least + 1
     place, rate = symbol * models.UNIT - models.UNIT // 2, 2**63 // width // scale
@@ -80,7 +80,7 @@ def worked(page):
 
 
 def margin(page):
-    """How far the values are from where their rounding turns."""
+    """Checks how far the values are from the points where their rounding changes."""
     apart = []
     for family, formula in distributions.FORMULAS.items():
         for k in range(2049):
@@ -91,7 +91,7 @@ def margin(page):
 
 
 def mixtures(page):
-    """That distribution with weight 3, and one of mean -1 and deviation 0.5 with weight 1, below the half of symbol 0."""
+    """Finds a mixture of that distribution, weight 3, and one of mean -1 and deviation 0.5, weight 1, below symbol 0."""
     parts = [(3, models.location_of(0.5), models.scale_of(1.0)), (1, models.location_of(-1.0), models.scale_of(0.5))]
     place, count = -models.UNIT // 2, GREATEST - LEAST + 1
     first, other = (models.below(models.GAUSSIAN, location, scale, place) for _, location, scale in parts)
@@ -111,7 +111,7 @@ def histograms(page):
 
 
 def units(page, *texts):
-    """Means of 3.5 and -20, deviations of 2.25 and 0.5, as C and Rattle take them."""
+    """Finds means of 3.5 and -20 and deviations of 2.25 and 0.5 in the units of C and Rattle."""
     means, deviations = (series(map(models.location_of, it)) for it in ((3.5, -20.0), (2.25, 0.5)))
     for text in texts:
         page.has(text.format(means=means, deviations=deviations))

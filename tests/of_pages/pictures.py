@@ -1,4 +1,4 @@
-"""The pictures of docs/pictures are those that their programs draw."""
+"""The pictures of docs/pictures are as their programs draw them."""
 
 from __future__ import annotations
 

@@ -1,4 +1,4 @@
-"""Code that a page says is of a file stands in that file, and the example programs print what the definitions give."""
+"""Code of pages is in the files that the pages name, and example programs print the results of the definitions."""
 
 from __future__ import annotations
 
@@ -11,27 +11,27 @@ EXAMPLES, FLAT = "crates/constriction_examples", "crates/constriction_bench/src/
 
 
 def blocks(name):
-    """The code of a page, each with the text above it up to the code or the heading before."""
+    """Yields each block of code of a page with the text between it and the code or heading above."""
     parts = re.split(r"^```(\w*)\n(.*?)^```$", read(name), flags=re.M | re.S)
     for above, language, code in zip(parts[0::3], parts[1::3], parts[2::3]):
         yield re.split(r"^#", above, flags=re.M)[-1], language, code
 
 
 def in_file(name, path, code, begins):
-    """Each item of the code stands in the file, but for its comments."""
+    """Judges that each item of the code is in the file, without its comments."""
     source = read(path)
     for item in re.split(rf"\n\n(?={begins})", code.strip()):
         judge(item in source, f"{name}: not the text of {path}: {item.splitlines()[0]}")
 
 
 def body(code, function):
-    """What stands between a function's braces, the allocator under one name."""
+    """Returns the body of a function, with one name of the allocator."""
     found = re.search(rf"^(?:pub )?fn {function}\(.*?\{{\n(.*?)^\}}$", code, flags=re.M | re.S)
     return found and found[1].replace("rt.alloc()", "alloc").replace("    let alloc = alloc;\n", "")
 
 
 def calling():
-    """Functions are of `uses`; other code is of the file that is named above it."""
+    """Checks that functions are in `uses`, and other code in the file that is named above it."""
     name = "docs/CALLING.md"
     for above, language, text in blocks(name):
         named = re.findall(r"`((?:specs|proofs)/[\w/]+\.antt)`", above)
@@ -42,7 +42,7 @@ def calling():
 
 
 def programs():
-    """A program that is `run` of a file is named so above it."""
+    """Checks the programs that are `run` of a file, by the text above them."""
     name = "docs/EXAMPLES.md"
     for above, _, text in blocks(name):
         for path in re.findall(r"is the function `run` of `([\w/]+\.rt)`", above):
@@ -51,7 +51,7 @@ def programs():
 
 
 def prints():
-    """What the programs that docs/EXAMPLES.md links to print, as far as it is computed."""
+    """Checks the computed part of the output of the programs that docs/EXAMPLES.md links to."""
     page, words = Page(f"{EXAMPLES}/src/programs/chain.rt"), [1, 2, 0x9ABCDEF0, 0x12345678, 256]
     page.has(f"let words = [1, 2, 0x{words[2]:x}, 0x{words[3]:x}, 256]")
     page.has("&[8388608, 4194304, 4194304]")

@@ -1,4 +1,4 @@
-"""What docs/PROVED.md names is there: a clause in a contract of a function, a part in a record, all else somewhere."""
+"""Names in docs/PROVED.md exist: clauses in contracts of functions, fields in records, other names anywhere."""
 
 from __future__ import annotations
 
@@ -11,7 +11,7 @@ BELOW = ["constriction_words", "constriction_base", "constriction_stream"]
 
 
 def sources(crates, folders):
-    """The texts of the files of these crates, in their folders src, specs or proofs."""
+    """Yields the texts of the files of these crates, in their folders src, specs or proofs."""
     for folder in (f"crates/{crate}/{folder}" for crate in crates for folder in folders):
         for path, _, names in sorted(os.walk(f"{TOP}/{folder}")):
             for name in sorted(names):
@@ -20,7 +20,7 @@ def sources(crates, folders):
 
 
 def parts_of(crates):
-    """The clauses of each function, and the parts of each record, of these crates, by its name."""
+    """Returns the clauses of each function and the fields of each record of these crates, by its name."""
     parts = {}
     for text in sources(crates, ["src"]):
         starts = [(found.start(), found[1]) for found in re.finditer(r"\bfn (\w+)", text)] + [(len(text), "")]

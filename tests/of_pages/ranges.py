@@ -12,7 +12,7 @@ def start(state):
 
 
 def narrowed(weights, symbol, low, length, moves, state=16):
-    """The run after a symbol, and the three numbers on the way."""
+    """Returns the run after a symbol, and the three intermediate numbers."""
     scale = length // 256
     left, weight = entries(weights)[symbol]
     low, length = cut = low + scale * left, scale * weight
@@ -22,26 +22,26 @@ def narrowed(weights, symbol, low, length, moves, state=16):
 
 
 def sealed(low, length, moves, state=16):
-    """The seal's number, and the words."""
+    """Returns the seal's number, and the words."""
     unit = 2 ** (state - 8)
     number = -(-low // unit)
     return number, digits(number, moves + 1) + [0] * ((low + length) // unit == number)
 
 
 def zero_words(low, length, state):
-    """The least number of zero words with which any words may follow."""
+    """Returns the least number of zero words after which any words may follow."""
     unit = 2 ** (state - 8)
     number = -(-low // unit)
     return next(t for t in range(state // 8) if number * unit + unit // 256**t <= low + length)
 
 
 def number_of(words, count):
-    """The number of the first so many words, with zeros past their end."""
+    """Returns the number of the first `count` words, with zeros past their end."""
     return sum(word << 8 * (count - 1 - place) for place, word in enumerate(words[:count]))
 
 
 def found(tables, words, state):
-    """The symbols that words are read as; of each the moves, the number, the low end and the quantile; and the run."""
+    """Returns the decoded symbols, each with its moves, number, low end and quantile, and the run after them."""
     symbols, stands, run = [], [], start(state)
     for weights in tables:
         number = number_of(words, run[2] + state // 8)
@@ -53,7 +53,7 @@ def found(tables, words, state):
 
 
 def steps(page, tables, symbols, state):
-    """The steps as rows, and the runs after them."""
+    """Finds the rows of the steps. Returns the runs after them."""
     runs = [start(state)]
     page.row("", "", "", "", *runs[0])
     for weights, symbol in zip(tables, symbols):
@@ -64,7 +64,7 @@ def steps(page, tables, symbols, state):
 
 
 def growing(page):
-    """The table, the two steps and their seal; the runs and the words."""
+    """Finds the table, the two steps and their seal. Returns the runs and the words."""
     for symbol, (left, length) in enumerate(entries(WEIGHTS)):
         page.row(symbol, left, length, bits_of_information(length, 8))
     page.has(f"It starts with `A = 0`, `R = {start(16)[1]}`, `n = 0`")
@@ -78,7 +78,7 @@ def growing(page):
 
 
 def next_word(page, run):
-    """What each symbol makes of the word that waits after the first step."""
+    """Finds the effect of each symbol on the pending word after the first step."""
     held, lower = divmod(run[0], 2**16)
     length, end = run[1], lower + run[1]
     judge(end > 65535, "the interval straddles two words")
@@ -97,7 +97,7 @@ def next_word(page, run):
 
 
 def waiting(page, runs, words):
-    """Words that are held, and carries through them."""
+    """Finds pending words, and carries through them."""
     held, lower = next_word(page, runs[0])
     page.row("", 0, 65535, "", "", "")
     why = f"`z * p` is below 256, so the word {held} is shifted out and held"
@@ -134,7 +134,7 @@ def reading(page, runs, words):
 
 
 def following(page):
-    """The seal that any words may follow, with states of 32 bits."""
+    """Finds the self-delimiting seal, with states of 32 bits."""
     tables, symbols = [[27, 229], [19, 237], [128, 128]], [0, 0, 1]
     weights = [f"`{listed(table)}`" for table in tables]
     page.has(f"With states of 32 bits `q` is `2^24`. The symbols {symbols[0]}, {symbols[1]} and {symbols[2]}, under the weights {weights[0]}, {weights[1]} and {weights[2]}, leave")
@@ -152,7 +152,7 @@ def following(page):
 
 
 def joined(page):
-    """Two lists one behind the other, with states of 32 bits."""
+    """Finds two lists, one after the other, with states of 32 bits."""
     tables, symbols = [WEIGHTS] * 2, [1, 3]
     other, later = [129, 127], [0, 1, 1]
     first, second = self_delimited(tables, symbols), self_delimited([other] * 3, later)
@@ -166,7 +166,7 @@ def joined(page):
 
 
 def self_delimited(tables, symbols, state=32):
-    """The words of symbols that any words may follow."""
+    """Returns the self-delimiting words of symbols."""
     run = start(state)
     for weights, symbol in zip(tables, symbols):
         run, _ = narrowed(weights, symbol, *run, state)

@@ -1,4 +1,4 @@
-"""README.md, docs/PROGRAM.md and docs/ANS.md: what commands print; README's speed, number of crates and gate's multiple."""
+"""README.md, docs/PROGRAM.md and docs/ANS.md: output of commands; README's speed, number of crates, gate's multiple."""
 
 from __future__ import annotations
 
@@ -51,7 +51,7 @@ def speed(page):
 
 
 def gate():
-    """README's multiple is that of docs/GATE.md, which is the sum of its table's columns and of what stands below the table."""
+    """README has the multiple of docs/GATE.md: the sum of the table's columns and of the number below the table."""
     times = read("docs/GATE.md").partition("\n## Cost of each crate\n")[2]
     *rows, whole = [line.split("|")[1:-1] for line in times.splitlines() if line.startswith("|")][2:]
     sums = [round(sum(float(row[column]) for row in rows if row[column].strip())) for column in (1, 3)]
@@ -63,7 +63,7 @@ def gate():
 
 
 def crates_below(name):
-    """The crates of crates.txt that this one stands on, and itself."""
+    """Returns a crate and all crates below it, by crates.txt."""
     uses = {}
     for line in read("crates.txt").splitlines():
         head, _, rest = line.partition("#")[0].partition(":")
@@ -79,12 +79,12 @@ def crates_below(name):
 
 
 def crates(page):
-    """The first call proves as many crates as the program is made of."""
+    """README has the number of the program's crates."""
     page.has(f"the program's {len(crates_below('constriction_cli'))} crates")
 
 
 def commands(readme, program, ans):
-    """The program's commands, by the coders' definitions: README has the first one, docs/ANS.md the first two."""
+    """Checks the program's commands by the coders' definitions. README has the first one, docs/ANS.md the first two."""
 
     def prints(command, text, answer, page=program):
         page.has(f"printf '{text}\\n' | ./constriction {command} # {answer}")
@@ -132,7 +132,7 @@ def faults(program):
 
 
 def trial_first():
-    """README.md's first command is a trial, and so comes before all that proves something."""
+    """README.md's first command is a trial, which proves nothing."""
     first = re.search(r"^[^#\n]*\./constriction( --trial)?", read("README.md").partition("\n```sh\n")[2], flags=re.M)
     judge(first and first[1], "README.md: the first command isn't a trial")
 
