@@ -1,4 +1,4 @@
-"""Cases of Exp-Golomb codewords and of Huffman trees, as queues and as stacks. `streams.py` says what a case is."""
+"""Cases of Exp-Golomb codewords and of Huffman trees, in queues and in stacks. `streams.py` defines a case."""
 
 from __future__ import annotations
 
@@ -11,30 +11,30 @@ from library import Ours, Refused
 from streams import Case
 from verdict import END_OF_BITS, STACK_END, Verdict, longest, numbers, text
 
-#: The symbols of words in an order, so many of them.
+#: Returns a given number of symbols of words in an order.
 Decode = Callable[[str, list[int], int], list[int]]
 
 
 def ended(decode: Decode, order: str, words: list[int], many: int) -> tuple[str, str]:
-    """The symbols that the words hold, and how that ended; or nothing, and why the words are none."""
+    """Returns the symbols that the words encode and how decoding ended, or no symbols and why the import failed."""
     count, symbols, end = longest(lambda some: decode(order, words, some), many)
     return ("", end) if count < 0 else (text(symbols), end)
 
 
 def same_end(verdict: Verdict, what: str, ours: tuple[str, str], theirs: str, named: str) -> None:
-    """The answers are the same, but that theirs can call an end of the bits `invalid`, where that is named."""
+    """Compares two answers. If `named` is given, theirs may be `invalid` where the bits end."""
     symbols, end = ours
     instead = f"{symbols} invalid" if end == "out" else ""
     verdict.same(what, f"{symbols} {end}".strip(), theirs, named, instead)
 
 
 def imported(words: list[int]) -> list[int]:
-    """The words that mean to us what theirs takes these to be: the lowest set bit of the last one is the end."""
+    """Returns words with the bits that their import reads: the lowest set bit of the last word is the end."""
     return [*words[:-1], words[-1] & -words[-1]] if words else []
 
 
 def requests_of(head: str, order: str, given: str, words: list[int], many: int) -> list[str]:
-    """The requests to decode words: of a stack as it is imported, and with its bits pushed."""
+    """Returns the requests to decode words: from an imported stack, and from a stack with pushed bits."""
     orders = [order, "pushed"] if order == "stack" and words and words[-1] else [order]
     return [f"{head} {it}{given} {text(words)} {many}" for it in orders]
 
@@ -42,7 +42,7 @@ def requests_of(head: str, order: str, given: str, words: list[int], many: int) 
 def same_reads(
     verdict: Verdict, decode: Decode, order: str, words: list[int], many: int, answers: list[str], named: str
 ) -> None:
-    """Theirs reads these words as ours does, a stack as its own import takes it."""
+    """Compares how both read words. A stack also by their import."""
     ours = ended(decode, order, words, many)
     same_end(verdict, "decode", ours, answers[-1], named)
     if len(answers) == 2:
@@ -55,7 +55,7 @@ def same_reads(
 
 
 def golomb(ours: Ours, dice: random.Random, verdict: Verdict) -> Case:
-    """Numbers are encoded, and both decode the other's words; or both decode any words."""
+    """Encodes numbers, and each side decodes the other's words. In a third of the cases, both decode random words."""
     order, many, bits = dice.choice(("queue", "stack")), drawn.count(dice), ours.bits
     if dice.randrange(3) == 0:
         words = drawn.words(dice, bits, dice.randrange(6))
@@ -72,7 +72,7 @@ def golomb(ours: Ours, dice: random.Random, verdict: Verdict) -> Case:
 
 
 def huffman(ours: Ours, dice: random.Random, verdict: Verdict) -> Case:
-    """Symbols are encoded by the tree of weights, and both decode the other's words; or both decode any words."""
+    """Encodes symbols, and each side decodes the other's words. In a third of the cases, both decode random words."""
     order, many, bits = dice.choice(("queue", "stack")), drawn.count(dice), ours.bits
     weights = drawn.tree(dice)
     decode = partial(ours.huffman_decode, weights)

@@ -6,12 +6,12 @@ import ctypes
 from ctypes import Structure, byref, c_size_t, c_uint16, c_uint32, c_uint64
 from typing import Any, NamedTuple
 
-#: What a request is refused for, by the codes of include/constriction.h.
+#: The reasons of refusals, by the codes of include/constriction.h.
 REFUSALS = {1: "impossible", 7: "invalid", 8: "out"}
 
 
 class Refused(Exception):
-    """A call was refused, for what `args[0]` says."""
+    """A call was refused. `args[0]` is the reason."""
 
 
 class Stack(NamedTuple):
@@ -30,7 +30,7 @@ class Chain(NamedTuple):
 
 
 def structures(word: Any, state: Any) -> tuple[Any, Any, Any]:
-    """A range encoder's and a range decoder's state, and a chain coder's heads."""
+    """Returns the structs of a range encoder, a range decoder and a chain coder's heads."""
 
     class Encoder(Structure):
         _fields_ = [("lower", state), ("range", state), ("held", c_size_t), ("first", word)]
@@ -45,7 +45,7 @@ def structures(word: Any, state: Any) -> tuple[Any, Any, Any]:
 
 
 class Library:
-    """The C functions of the shared object PATH at words of so many bits."""
+    """The C functions of the shared object `path` for words of `bits` bits."""
 
     def __init__(self, path: str, bits: int) -> None:
         self.bits, self.precision = bits, {16: 12, 32: 24}[bits]
@@ -54,22 +54,22 @@ class Library:
         self._functions = ctypes.CDLL(path)
 
     def call(self, name: str, *arguments: Any) -> None:
-        """Calls the function of this name. Raises Refused where it doesn't give CONSTRICTION_DONE."""
+        """Calls the function of this name. Raises Refused unless it returns CONSTRICTION_DONE."""
         code = getattr(self._functions, f"constriction_{name}_u{self.bits}")(*arguments)
         if code:
             raise Refused(REFUSALS.get(code, f"code {code} of {name}"))
 
     def read(self, words: list[int]) -> tuple[Any, c_size_t]:
-        """A list of words that a call reads."""
+        """Returns the arguments for a list of words that a call reads."""
         return (self.word * len(words))(*words), c_size_t(len(words))
 
     def room(self, words: list[int], more: int) -> tuple[Any, c_size_t, c_size_t]:
-        """A buffer with these words and room for more: it, its length, and how many are in use."""
+        """Returns a buffer with these words and room for more, its length, and the number of words in use."""
         buffer = (self.word * (len(words) + more))(*words)
         return buffer, c_size_t(len(buffer)), c_size_t(len(words))
 
     def rows(self, name: str, tables: list[list[int]], count: int) -> tuple[str, list[Any]]:
-        """The call's name, and weights as it takes them: of one table for all symbols, or of one for each."""
+        """Returns the call's name and its arguments for the weights, of one table for all symbols or one for each."""
         if len(tables) == 1:
             return name.replace("_each", ""), list(self.read(tables[0]))
         weights = [weight for i in range(count) for weight in tables[i]]
@@ -77,25 +77,25 @@ class Library:
 
 
 def symbols_of(symbols: list[int]) -> tuple[Any, c_size_t]:
-    """A list of symbols that a call reads."""
+    """Returns the arguments for a list of symbols that a call reads."""
     return (c_size_t * len(symbols))(*symbols), c_size_t(len(symbols))
 
 
 class Ours:
-    """The coders at one size: calls with lists, whose answers are lists. A refusal raises Refused."""
+    """The coders at one size, by calls that take and return lists. A refusal raises Refused."""
 
     def __init__(self, library: Library) -> None:
         self._c = library
         self.bits, self.precision = library.bits, library.precision
 
     def ans(self, kind: str, words: list[int]) -> Stack:
-        """The stack coder of these words."""
+        """Returns the stack coder of these words."""
         length, head = c_size_t(0), self._c.state(0)
         self._c.call(f"ans_from_{kind}", *self._c.read(words), byref(length), byref(head))
         return Stack(words[: length.value], head.value)
 
     def ans_encode(self, coder: Stack, tables: list[list[int]], symbols: list[int]) -> Stack:
-        """The coder behind these symbols, the last one first."""
+        """Returns the coder after it encoded these symbols, the last one first."""
         head, needed = self._c.state(coder.head), c_size_t(0)
         buffer, capacity, length = self._c.room(coder.words, len(symbols))
         name, weights = self._c.rows("ans_encode_each_reverse", tables, len(symbols))
@@ -104,27 +104,27 @@ class Ours:
         return Stack(list(buffer[: length.value]), head.value)
 
     def ans_decode(self, coder: Stack, tables: list[list[int]], count: int) -> tuple[list[int], Stack]:
-        """So many symbols, and the coder behind them."""
+        """Returns `count` decoded symbols, and the coder after them."""
         head, length, symbols = self._c.state(coder.head), c_size_t(len(coder.words)), (c_size_t * count)()
         name, weights = self._c.rows("ans_decode_each", tables, count)
         self._c.call(name, byref(head), *self._c.read(coder.words), byref(length), *weights, symbols, c_size_t(count))
         return list(symbols), Stack(coder.words[: length.value], head.value)
 
     def ans_words(self, coder: Stack, kind: str) -> list[int]:
-        """The coder's words."""
+        """Returns the coder's words."""
         buffer, capacity, length = self._c.room(coder.words, 2)
         head, needed = self._c.state(coder.head), c_size_t(0)
         self._c.call(f"ans_into_{kind}", head, buffer, capacity, byref(length), byref(needed))
         return list(buffer[: length.value])
 
     def range_encoder(self) -> Any:
-        """A range encoder's state without symbols."""
+        """Returns the state of a new range encoder."""
         encoder = self._c.Encoder()
         self._c.call("range_encoder", byref(encoder))
         return encoder
 
     def range_encode(self, encoder: Any, words: list[int], tables: list[list[int]], symbols: list[int]) -> list[int]:
-        """Encodes symbols, and gives the words behind which the encoder is then."""
+        """Encodes symbols, and returns the words that the encoder has written."""
         buffer, capacity, length = self._c.room(words, encoder.held + len(symbols))
         name, weights = self._c.rows("range_encode_each", tables, len(symbols))
         needed = c_size_t(0)
@@ -133,13 +133,13 @@ class Ours:
         return list(buffer[: length.value])
 
     def range_words(self, encoder: Any, words: list[int]) -> list[int]:
-        """The sealed words."""
+        """Returns the sealed words."""
         buffer, capacity, length = self._c.room(words, encoder.held + 2)
         self._c.call("range_into_compressed", byref(encoder), buffer, capacity, byref(length), byref(c_size_t(0)))
         return list(buffer[: length.value])
 
     def range_decode(self, words: list[int], tables: list[list[int]], count: int) -> list[int]:
-        """The first so many symbols of these words."""
+        """Returns the first `count` symbols of these words."""
         decoder, data, symbols = self._c.Decoder(), self._c.read(words), (c_size_t * count)()
         self._c.call("range_from_compressed", *data, byref(decoder))
         name, weights = self._c.rows("range_decode_each", tables, count)
@@ -147,14 +147,14 @@ class Ours:
         return list(symbols)
 
     def chain(self, kind: str, words: list[int]) -> Chain:
-        """The chain coder of these words."""
+        """Returns the chain coder of these words."""
         length, heads = c_size_t(0), self._c.Heads()
         self._c.call(f"chain_from_{kind}", *self._c.read(words), byref(length), byref(heads))
         below, both = words[: length.value], (heads.remainders, heads.compressed)
         return Chain([], below, both) if kind == "remainders" else Chain(below, [], both)
 
     def chain_encode(self, coder: Chain, tables: list[list[int]], symbols: list[int]) -> Chain:
-        """The coder behind these symbols, the last one first."""
+        """Returns the coder after it encoded these symbols, the last one first."""
         heads, needed = self._c.Heads(*coder.heads), c_size_t(0)
         buffer, capacity, length = self._c.room(coder.compressed, len(symbols))
         remainders, rest = self._c.read(coder.remainders), c_size_t(len(coder.remainders))
@@ -165,7 +165,7 @@ class Ours:
         return Chain(list(buffer[: length.value]), coder.remainders[: rest.value], both)
 
     def chain_decode(self, coder: Chain, tables: list[list[int]], count: int) -> tuple[list[int], Chain]:
-        """So many symbols, and the coder behind them."""
+        """Returns `count` decoded symbols, and the coder after them."""
         heads, needed, symbols = self._c.Heads(*coder.heads), c_size_t(0), (c_size_t * count)()
         data, rest = self._c.read(coder.compressed), c_size_t(len(coder.compressed))
         buffer, capacity, length = self._c.room(coder.remainders, count)
@@ -176,7 +176,7 @@ class Ours:
         return list(symbols), Chain(coder.compressed[: rest.value], list(buffer[: length.value]), both)
 
     def chain_words(self, coder: Chain, kind: str) -> tuple[list[int], list[int]]:
-        """The words of the other side, and then of this one with the heads' behind them."""
+        """Returns the words of the other side, and the words of this side followed by the words of the heads."""
         other, side = coder.remainders, coder.compressed
         if kind == "remainders":
             other, side = side, other
@@ -186,31 +186,31 @@ class Ours:
         return other, list(buffer[: length.value])
 
     def golomb_encode(self, order: str, numbers: list[int]) -> list[int]:
-        """The words of the numbers' codewords."""
+        """Returns the words of the numbers' codewords."""
         room = self._c.room([], 3 * len(numbers) + 1)
         return self._put(f"exp_golomb_encode_{order}", self._c.read(numbers), room)
 
     def golomb_decode(self, order: str, words: list[int], count: int) -> list[int]:
-        """So many numbers whose codewords the words begin with."""
+        """Returns the first `count` numbers whose codewords the words have."""
         numbers = (self._c.word * count)()
         self._c.call(f"exp_golomb_decode_{order}", *self._c.read(words), numbers, c_size_t(count))
         return list(numbers)
 
     def huffman_encode(self, order: str, weights: list[int], symbols: list[int]) -> list[int]:
-        """The words of the symbols' codewords."""
+        """Returns the words of the symbols' codewords."""
         tree = (c_uint32 * len(weights))(*weights), c_size_t(len(weights))
         room = self._c.room([], len(weights) * len(symbols) // 16 + 2)
         return self._put(f"huffman_encode_{order}", (*tree, *symbols_of(symbols)), room)
 
     def huffman_decode(self, weights: list[int], order: str, words: list[int], count: int) -> list[int]:
-        """So many symbols whose codewords the words begin with."""
+        """Returns the first `count` symbols whose codewords the words have."""
         tree = (c_uint32 * len(weights))(*weights), c_size_t(len(weights))
         symbols = (c_size_t * count)()
         self._c.call(f"huffman_decode_{order}", *tree, *self._c.read(words), symbols, c_size_t(count))
         return list(symbols)
 
     def _put(self, name: str, given: tuple[Any, ...], room: tuple[Any, c_size_t, c_size_t]) -> list[int]:
-        """The words that this call puts into a buffer from its beginning on."""
+        """Returns the words that this call writes to the beginning of a buffer."""
         buffer, capacity, length = room
         self._c.call(name, *given, buffer, capacity, byref(length), byref(c_size_t(0)))
         return list(buffer[: length.value])

@@ -17,13 +17,13 @@ Case = Generator[list[str], list[str], None]
 
 
 def ans_exports(ours: Ours, coder: Stack) -> tuple[str, str]:
-    """The coder's words, and those of the binary form."""
+    """Returns the coder's words, and its words in binary form."""
     words = text(ours.ans_words(coder, "compressed"))
     return words, attempt(lambda: text(ours.ans_words(coder, "binary")))
 
 
 def same_exports(verdict: Verdict, what: str, ours: tuple[str, str], theirs: list[str]) -> None:
-    """Ours are theirs by `into_compressed`, `into_binary` and `get_binary`."""
+    """Compares our exports with those of `into_compressed`, `into_binary` and `get_binary`."""
     words, binary = ours[0], ours[1].replace("invalid", "no")
     verdict.same(f"{what}, compressed", words, theirs[0])
     verdict.same(f"{what}, binary lent", binary, theirs[2])
@@ -33,7 +33,7 @@ def same_exports(verdict: Verdict, what: str, ours: tuple[str, str], theirs: lis
 
 
 def ans_encodes(ours: Ours, dice: random.Random, verdict: Verdict) -> Case:
-    """Symbols are put onto any words and taken off the other's."""
+    """Encodes symbols onto random words, and each side decodes them from the other's words."""
     kind, start = dice.choice(("compressed", "binary")), drawn.words(dice, ours.bits, dice.randrange(5))
     many = drawn.count(dice)
     tables = drawn.tables(dice, many, ours.precision)
@@ -62,7 +62,7 @@ def ans_encodes(ours: Ours, dice: random.Random, verdict: Verdict) -> Case:
 
 
 def ans_decodes(ours: Ours, dice: random.Random, verdict: Verdict) -> Case:
-    """Symbols are taken off any words, and put back onto what the other left."""
+    """Decodes symbols from random words, and each side encodes them back onto the other's words."""
     kind, start = dice.choice(("compressed", "binary")), drawn.words(dice, ours.bits, dice.randrange(20))
     many = drawn.count(dice)
     tables = drawn.tables(dice, many, ours.precision)
@@ -89,7 +89,7 @@ def ans_decodes(ours: Ours, dice: random.Random, verdict: Verdict) -> Case:
 
 
 def range_encodes(ours: Ours, dice: random.Random, verdict: Verdict) -> Case:
-    """Symbols are encoded, the words are looked at, the encoder is cleared or not, more follow; and both decode."""
+    """Encodes symbols, looks at the words, may clear the encoder, and encodes more. Then both decode."""
     then, many = dice.choice(("on", "on", "clear")), drawn.count(dice)
     first = dice.randrange(many + 1)
     if dice.randrange(3):
@@ -127,9 +127,9 @@ def range_encodes(ours: Ours, dice: random.Random, verdict: Verdict) -> Case:
 
 
 def range_decodes(ours: Ours, dice: random.Random, verdict: Verdict) -> Case:
-    """Symbols are read from any words, until they are none that an encoder wrote.
+    """Decodes symbols from random words, up to the first word that no encoder wrote.
 
-    At least one is asked for: where the words lie beyond all intervals, the C function refuses even to decode none.
+    At least one symbol is requested, because the C function refuses words past all intervals even for no symbols.
     """
     words, many = drawn.words(dice, ours.bits, dice.randrange(20)), drawn.count(dice) or 1
     if dice.randrange(8) == 0:  # Beyond each interval: no encoder wrote them.
@@ -141,7 +141,7 @@ def range_decodes(ours: Ours, dice: random.Random, verdict: Verdict) -> Case:
 
 
 def chain_exports(ours: Ours, coder: Chain) -> str:
-    """Both sides in each form."""
+    """Returns both sides in each form."""
     sides = []
     for kind in ("compressed", "binary", "remainders"):
         try:
@@ -152,7 +152,7 @@ def chain_exports(ours: Ours, coder: Chain) -> str:
 
 
 def chain_encodes(ours: Ours, dice: random.Random, verdict: Verdict) -> Case:
-    """Symbols are encoded from any remainders, or words, until these end."""
+    """Encodes symbols from random remainders or words, until these end."""
     kind = dice.choice(("remainders", "remainders", "remainders", "compressed", "binary"))
     many = drawn.count(dice)
     words = drawn.words(dice, ours.bits, 3 + dice.randrange(many + 2))
@@ -171,7 +171,7 @@ def chain_encodes(ours: Ours, dice: random.Random, verdict: Verdict) -> Case:
 
 
 def chain_decodes(ours: Ours, dice: random.Random, verdict: Verdict) -> Case:
-    """Symbols are decoded from any words, until these end, and put back from what the other left."""
+    """Decodes symbols from random words, until these end. Both encode them back from the other's remainders."""
     kind = dice.choice(("compressed", "compressed", "binary", "binary", "remainders"))
     many = drawn.count(dice)
     words = drawn.words(dice, ours.bits, dice.randrange(many + 5))

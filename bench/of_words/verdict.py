@@ -1,4 +1,4 @@
-"""What a case found, and lists as the Rust crate's program reads and writes them."""
+"""The result of a case, and lists in the form of the Rust crate's program."""
 
 from __future__ import annotations
 
@@ -7,7 +7,7 @@ from typing import Any
 
 from library import Refused
 
-#: The differences that docs/DIFFERENCES.md names and a case can meet.
+#: The differences of docs/DIFFERENCES.md that a case can have.
 INTO_BINARY = "`AnsCoder::into_binary` drops zero words at the top"
 CLEAR = "`RangeEncoder::clear` keeps the pending words"
 STACK_END = "`StackCoder::from_compressed` takes the lowest set bit of the last word as the end"
@@ -16,7 +16,7 @@ NAMED = (INTO_BINARY, CLEAR, STACK_END, END_OF_BITS)
 
 
 class Verdict:
-    """The differences that a case found, and which of those that are named it met."""
+    """The differences of a case, and the named differences that it has."""
 
     def __init__(self) -> None:
         self.differences: list[str] = []
@@ -24,7 +24,7 @@ class Verdict:
         self.requests: list[str] = []
 
     def same(self, what: str, ours: str, theirs: str, named: str = "", instead: str = "") -> None:
-        """The two answers are the same; or theirs is `instead`, as the difference `named` says."""
+        """Compares two answers. Theirs may also be `instead`, which is the named difference."""
         if ours == theirs:
             return
         if named and theirs == instead:
@@ -34,27 +34,27 @@ class Verdict:
 
 
 def text(numbers: list[int]) -> str:
-    """A list as a field."""
+    """Returns a list as a field."""
     return ",".join(map(str, numbers)) or "-"
 
 
 def texts(tables: list[list[int]]) -> str:
-    """Tables as a field."""
+    """Returns tables as a field."""
     return ";".join(map(text, tables))
 
 
 def numbers(field: str) -> list[int]:
-    """The list that a field is."""
+    """Returns the list of a field."""
     return [] if field == "-" else list(map(int, field.split(",")))
 
 
 def part(tables: list[list[int]], start: int, stop: int) -> list[list[int]]:
-    """The tables of these symbols: one for all stays so, and there is one at least."""
+    """Returns the tables of these symbols, at least one. One table for all symbols stays."""
     return tables if len(tables) == 1 else tables[start:stop] or tables[:1]
 
 
 def attempt(call: Callable[[], str]) -> str:
-    """The call's answer, or what it was refused for."""
+    """Returns the call's answer, or the reason of its refusal."""
     try:
         return call()
     except Refused as refused:
@@ -62,9 +62,9 @@ def attempt(call: Callable[[], str]) -> str:
 
 
 def longest(decode: Callable[[int], Any], count: int) -> tuple[int, Any, str]:
-    """The most symbols up to `count` that can be decoded, the answer for so many, and how it ended.
+    """Returns how many symbols up to `count` can be decoded, the answer for them, and how decoding ended.
 
-    A call takes all symbols or refuses, so their number is searched for. Where not even none can be decoded, it is -1.
+    A call decodes all symbols or none, so a search finds the number. It is -1 if decoding no symbols fails too.
     """
     try:
         return count, decode(count), "done"
