@@ -15,16 +15,25 @@ class Crate:
         self.is_static = "staticlib" in kinds
         self.is_program = os.path.isfile(f"{self.folder}/src/main.rt")
         self.rlib = f"{self.folder}/out/rlib/{name}.rlib"
+        self.machine = ""  # the machine that a static library is built for; "" is x86-64
 
     def below(self):
         """Returns the crates of the repository below this one, each behind those that it uses."""
         return list(dict.fromkeys(it for used in self.uses for it in [*used.below(), used]))
 
+    def out(self):
+        """Returns the folder of what is built of the crate."""
+        return f"{self.folder}/out/{self.machine}" if self.machine else f"{self.folder}/out"
+
+    def target(self):
+        """Returns the prover's words for the machine."""
+        return ["--target", f"{self.machine}-unknown-linux-gnu"] if self.machine else []
+
     def built(self):
         """Returns the path of the program, the static library or the library."""
         if self.is_program:
-            return f"{self.folder}/out/{self.name}"
-        return f"{self.folder}/out/lib{self.name}.a" if self.is_static else self.rlib
+            return f"{self.out()}/{self.name}"
+        return f"{self.out()}/lib{self.name}.a" if self.is_static else self.rlib
 
     def files(self):
         """Returns the paths of the files that the crate is made from."""

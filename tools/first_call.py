@@ -3,9 +3,11 @@
 Libraries that an earlier run of this file proved are kept where neither they nor anything below has changed, also from a run that was ended early.
 With --over-gate the libraries that `rt ci` has just left are taken as they are. Progress goes to standard error: on a terminal as one line
 that is drawn again each second, elsewhere as a line for each crate and each half minute (PROGRESS_SECONDS: each so many seconds). With --answer a
-trial run answers a command of the program meanwhile, on the input that the launcher puts into a folder.
+trial run answers a command of the program meanwhile, on the input that the launcher puts into a folder. With --target MACHINE the static library is
+built for Linux on that machine; only this library is proved again for the machine.
 
-usage: first_call.py KIT REPOSITORY CRATE [--over-gate | --answer FOLDER COMMAND..]"""
+usage: first_call.py KIT REPOSITORY CRATE [--over-gate] [--target MACHINE]
+       first_call.py KIT REPOSITORY CRATE --answer FOLDER COMMAND.."""
 
 import json
 import os
@@ -73,7 +75,7 @@ class Record:
     """What a run of this file has proved and built of a crate: by a sum over its files and those below, and when these builds were made."""
 
     def __init__(self, toolchain, crate):
-        self.toolchain, self.crate, self.path = toolchain, crate, f"{crate.folder}/out/proved"
+        self.toolchain, self.crate, self.path = toolchain, crate, f"{crate.out()}/proved"
         self.stamp = toolchain.stamp(crate)
 
     def made(self):
@@ -129,7 +131,7 @@ class Run:
 
     def prove(self, crate, jobs):
         """Proves and builds a crate, and returns what is to be noted of it, or None where that failed."""
-        os.makedirs(f"{crate.folder}/out", exist_ok=True)
+        os.makedirs(crate.out(), exist_ok=True)
         record = Record(self.toolchain, crate)
         return record if self.toolchain.prove(crate, jobs, log_of(crate)) else None
 
@@ -181,7 +183,7 @@ def weight(crate):
 
 
 def log_of(crate):
-    return f"{crate.folder}/out/first_call.log"
+    return f"{crate.out()}/first_call.log"
 
 
 def about(seconds):
@@ -208,7 +210,8 @@ def begin(progress, toolchain, crate, count, kept):
         trial = "./constriction --trial COMMAND < INPUT answers in a minute, unproved"
         progress.say(f"proving {of} crates of the program {toolchain.how} and building it, once{first}. {trial}")
     else:
-        progress.say(f"proving {of} crates of {crate.name} {toolchain.how} and building it{first}")
+        machine = f" for {crate.machine}" * bool(crate.machine)
+        progress.say(f"proving {of} crates of {crate.name} {toolchain.how} and building it{machine}{first}")
 
 
 def main(kit, top, name, *how):
@@ -216,8 +219,9 @@ def main(kit, top, name, *how):
     toolchain = toolchain_of(kit, top)
     crates = toolchain.and_below(name)
     toolchain.lock(crates)
-    crate = crates[-1]
-    done, unit = ({it.name for it in crates[:-1]}, None) if how == ("--over-gate",) else kept_of(toolchain, crates)
+    crate, options = crates[-1], () if how[:1] == ("--answer",) else how
+    crate.machine = options[options.index("--target") + 1] if "--target" in options else ""
+    done, unit = ({it.name for it in crates[:-1]}, None) if "--over-gate" in options else kept_of(toolchain, crates)
     progress = Progress("constriction" if crate.is_program else "library")
     if len(done) == len(crates):
         progress.say(f"{name} is proved already")

@@ -155,15 +155,15 @@ class Toolchain(Kit):
 
     def build(self, crate, theirs, flags):
         """Proves a program or a static library and builds it, and returns the status of that."""
-        made = f"out/{crate.name}.o" if crate.is_program else f"out/lib{crate.name}.a"
-        words = theirs.words(flags, keeps=False)
+        made = f"out/{crate.name}.o" if crate.is_program else crate.built()
+        words = [*theirs.words(flags, keeps=False), *crate.target()]
         status = theirs.prove(["build", *words, "--toolchain", f"{self.kit}/toolchain", "--backend", "llvm", "-o", made])
         return status or (theirs.link(made, f"out/{crate.name}") if crate.is_program else 0)
 
 
 class Commands(Kit):
-    """A kit of which documented commands alone are used: `rt lib`, and `rt run` for a program. They begin with the work that `rt check` kept, and
-    choose their jobs themselves."""
+    """A kit of which documented commands alone are used: `rt lib`, `rt run` for a program, and `rattle build` for another machine. The first two
+    begin with the work that `rt check` kept, and choose their jobs themselves."""
 
     how = "one after the other"
 
@@ -184,10 +184,13 @@ class Commands(Kit):
         """Proves a crate and builds it, and tells whether both succeeded. The log gets what the prover says."""
         if crate.is_program and os.path.exists(crate.built()):
             os.remove(crate.built())
-        verb = "run" if crate.is_program else "lib"
+        command = [f"{self.kit}/bin/rt", "run" if crate.is_program else "lib"]
+        if crate.machine:  # rt builds for x86-64 only
+            rattle, _, *words = words_of_check(self.kit, crate)
+            command = [rattle, "build", *words, *crate.target(), "--toolchain", f"{self.kit}/toolchain", "--backend", "llvm", "-o", crate.built()]
         with open(log, "w", encoding="utf-8", errors="replace") as out:
             how = {"cwd": crate.folder, "stdin": subprocess.DEVNULL, "stdout": out, "stderr": out}
-            ran = subprocess.run([f"{self.kit}/bin/rt", verb], preexec_fn=end_with_parent, **how)
+            ran = subprocess.run(command, preexec_fn=end_with_parent, **how)
         # After `rt run` the status is the program's own.
         return os.access(crate.built(), os.X_OK) if crate.is_program else ran.returncode == 0
 
