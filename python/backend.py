@@ -22,6 +22,7 @@ HERE = Path(__file__).resolve().parent
 PROJECT = (HERE / "pyproject.toml").read_text()
 NAME = "constriction_proved"
 LIBRARY = "constriction/libconstriction.so"
+MACHINES = {62: "x86_64", 183: "aarch64"}  # by their numbers in an ELF header
 
 
 def _said(pattern: str, text: str) -> str:
@@ -71,9 +72,12 @@ def _library() -> bytes:
 def _tag(library: bytes) -> str:
     """Returns the wheel's tag: any Python 3 on this system.
 
-    On Linux the tag names the oldest C library that the shared object allows.
+    On Linux the tag names the shared object's machine, and the oldest C library that it allows.
     """
     system = sysconfig.get_platform().replace("-", "_").replace(".", "_")
+    if system.startswith("linux_") and library.startswith(b"\x7fELF"):
+        machine = int.from_bytes(library[18:20], "little")
+        system = f"linux_{MACHINES[machine]}" if machine in MACHINES else system
     asked = [(int(a), int(b)) for a, b in re.findall(rb"GLIBC_(\d+)\.(\d+)", library)]
     if system.startswith("linux_") and asked:
         least = (2, 5) if system == "linux_x86_64" else (2, 17)  # There is no tag for older C libraries.
