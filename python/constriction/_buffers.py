@@ -14,7 +14,7 @@ from importlib import import_module
 from typing import TYPE_CHECKING, Any, SupportsFloat, SupportsIndex, Union, overload
 
 __all__ = [
-    "NUMBER", "SYMBOL", "WORD", "Amount", "Answer", "Array", "List", "Numbers", "Parameter", "Real", "Reals", "Symbols", "answered", "lent", "listed",
+    "NUMBER", "SYMBOL", "WORD", "Amount", "Answer", "Array", "List", "Numbers", "Parameter", "Real", "Reals", "Symbols", "addressed", "answered", "lent", "listed",
     "room",
 ]  # fmt: skip
 
@@ -134,6 +134,12 @@ def listed(memory: Any) -> tuple[Any, int]:
     return lent(memory), len(memory)
 
 
+def addressed(memory: array[Any]) -> tuple[int, int]:
+    """Returns the address of the memory of an array, and the number of items. The memory must stay as it is meanwhile.
+    """
+    return memory.buffer_info()
+
+
 @overload
 def room(code: str, count: int) -> Numbers:
     ...
@@ -187,5 +193,5 @@ def answered(numbers: Numbers) -> Any:
     numpy = numpy_for_answers()
     if numpy is None:
         return numbers
-    kind = {WORD: "uint32", SYMBOL: "int64"}[numbers.typecode]
+    kind = numpy.uint32 if numbers.typecode == WORD else numpy.int64
     return numpy.frombuffer(numbers, dtype=kind) if len(numbers) else numpy.empty(0, dtype=kind)

@@ -8,6 +8,8 @@ from operator import index
 from threading import RLock
 from typing import Any, TypeVar
 
+from ._buffers import SYMBOL, Numbers, answered
+from ._numbers import is_one
 from ._single import Lane
 from .stream.model._base import Model
 
@@ -73,14 +75,17 @@ class Coder:
                 return False
         return isinstance(model, Model) and (self._lane or self._made_lane()).encode(self, symbol, model, given)
 
-    def _decoded_alone(self, model: Any, given: tuple[Any, ...]) -> int | None:
-        """Decodes a single symbol with a quick call, and returns the symbol.
+    def _decoded_alone(self, model: Any, given: tuple[Any, ...]) -> Any:
+        """Decodes a single symbol with a quick call, and returns the symbol, or a list of it for lists of one parameter.
 
         Returns None if this isn't possible. The coder is then unchanged.
         """
         if not isinstance(model, Model) or given and not model.missing:
             return None
-        return (self._lane or self._made_lane()).decode(self, model, given)
+        symbol = (self._lane or self._made_lane()).decode(self, model, given)
+        if symbol is None or not given or model.core or all(isinstance(it, float) or is_one(it) for it in given):
+            return symbol
+        return answered(Numbers(SYMBOL, (symbol,)))
 
     def _compared(self, state: Any) -> Any:
         """Returns a value that is equal for equal coders."""

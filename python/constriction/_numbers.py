@@ -39,6 +39,9 @@ def is_one(it: Any) -> bool:
 
 def is_row(numbers: Any) -> bool:
     """Returns whether these are a list of numbers that isn't empty, and no list of rows."""
+    kind = type(numbers)
+    if (kind is list or kind is tuple) and numbers:
+        return type(numbers[0]) is float or is_one(numbers[0])
     dimensions = getattr(numbers, "ndim", None)
     if dimensions is not None:
         return bool(dimensions == 1 and len(numbers))

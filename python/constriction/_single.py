@@ -17,7 +17,7 @@ from typing import Any
 
 from ._buffers import SYMBOL, WORD, Array
 from ._library import plain_function
-from .stream.model._base import ENDS, TOTAL, UNITS, Model
+from .stream.model._base import ENDS, MIXED, TOTAL, UNITS, Model
 
 __all__ = ["Buffer", "Lane", "made", "memory_of"]
 
@@ -38,17 +38,22 @@ class Lane:
         self._interval, self._three, self._place = array(WORD, (0, 0)), array(WORD, (0, 0, 0)), array(SYMBOL, (0,))
         self._location, self._scale, self._row, self._width = c_int64(), c_uint32(), c_void_p(), c_size_t()
         self._family, self._least, self._greatest, self._model = c_uint32(), c_int32(), c_int32(), None
+        self._mixed = c_size_t(), c_void_p(), c_void_p(), c_void_p()
         one, three, needed = c_size_t(1), c_size_t(3), byref(c_size_t())
         left, symbol = self._interval.buffer_info()[0], (memory_of(self._place), one)
         interval = c_void_p(left), one, c_void_p(left + self._interval.itemsize), one
         family = self._family, self._least, self._greatest, byref(self._location), one, byref(self._scale), one
         row = self._row, self._width
+        count, weights, locations, scales = self._mixed
+        mixture = *family[:3], count, weights, count, locations, count, scales, count
         self._encode_interval = _bound(encode.format("_intervals"), *lead, *interval, needed)
         self._encode_units = _bound(encode.format("_quantized"), *lead, *family, *symbol, needed)
         self._encode_row = _bound(encode.format(""), *lead, *row, *symbol, needed)
+        self._encode_mixture = _bound(encode.format("_mixture"), *lead, *mixture, *symbol, needed)
         self._decode_three = _bound(decode.format(""), *lead, memory_of(self._three), three, *symbol, *behind_decode)
         self._decode_units = _bound(decode.format("_quantized"), *lead, *family, *symbol, *behind_decode)
         self._decode_row = _bound(decode.format(""), *lead, *row, *symbol, *behind_decode)
+        self._decode_mixture = _bound(decode.format("_mixture"), *lead, *mixture, *symbol, *behind_decode)
 
     #: The state in this memory, or None if it isn't known.
     _kept: Any = None
@@ -85,7 +90,7 @@ class Lane:
                         return False
                 kind, first, second = order
                 place = symbol - model.first
-                if not 0 <= place < (model.size if kind == UNITS else len(first)):
+                if not 0 <= place < (model.size if kind in (UNITS, MIXED) else len(first)):
                     return False
                 state = coder._state
                 if state is not self._kept or not self._encodes:
@@ -106,11 +111,14 @@ class Lane:
                 coder._busy = False
 
     def _encode_by(self, kind: int, place: int, model: Model, first: Any, second: Any) -> int:
-        """Calls the C function for a location and a scale, or for a row of weights."""
+        """Calls the C function for a location and a scale, for a row of weights, or for a row of components."""
         self._place[0] = place
         if kind == UNITS:
             self._take_units(model, first, second)
             return self._encode_units()
+        if kind == MIXED:
+            self._take_components(model, *first)
+            return self._encode_mixture()
         self._row.value, self._width.value = first.buffer_info()
         return self._encode_row()
 
@@ -154,18 +162,33 @@ class Lane:
                 coder._busy = False
 
     def _decode_by(self, kind: int, model: Model, first: Any, second: Any) -> int:
-        """Calls the C function for a location and a scale, or for a row of weights."""
+        """Calls the C function for a location and a scale, for a row of weights, or for a row of components."""
         if kind == UNITS:
             self._take_units(model, first, second)
             return self._decode_units()
+        if kind == MIXED:
+            self._take_components(model, *first)
+            return self._decode_mixture()
         self._row.value, self._width.value = first.buffer_info()
         return self._decode_row()
 
+    def _take_family(self, model: Any, of: Any) -> None:
+        if model is not self._model:
+            self._family.value, self._least.value = of._family, of._least
+            self._greatest.value, self._model = of._least + of.size - 1, model
+
     def _take_units(self, model: Any, location: int, scale: int) -> None:
         if model is not self._model:
-            self._family.value, self._least.value = model._family, model._least
-            self._greatest.value, self._model = model._least + model.size - 1, model
+            self._take_family(model, model)
         self._location.value, self._scale.value = location, scale
+
+    def _take_components(self, model: Any, weights: array[int], locations: array[int], scales: array[int]) -> None:
+        if model is not self._model:
+            self._take_family(model, model._components)
+        count, *addresses = self._mixed
+        count.value = len(weights)
+        for address, numbers in zip(addresses, (weights, locations, scales)):
+            address.value = numbers.buffer_info()[0]
 
 
 class Buffer:

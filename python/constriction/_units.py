@@ -12,8 +12,8 @@ from ._numbers import real
 from .errors import WrongWeightsError, shown
 
 __all__ = [
-    "FARTHEST", "NARROWEST", "UNITS_OF_ONE", "WIDEST", "component_weights_of", "counts_of", "counts_of_rows", "counts_of_wholes", "locations_of", "moved", "parts_of", "scales_of",
-    "unit_of", "wrong_row",
+    "FARTHEST", "MOST_WEIGHT", "NARROWEST", "SHARES", "UNITS_OF_ONE", "WIDEST", "component_weights_of", "counts_of", "counts_of_row", "counts_of_rows", "counts_of_wholes", "locations_of", "moved", "parts_of", "scales_of",
+    "unit_of", "units_of", "wrong_row",
 ]  # fmt: skip
 
 #: The number of units in a location or a scale of 1.
@@ -24,14 +24,18 @@ FARTHEST = 2.0**46
 NARROWEST, WIDEST, TOO_WIDE = 1 / UNITS_OF_ONE, 65536.0 - 1 / UNITS_OF_ONE, 65536.0
 #: The sum of the two weights of a Bernoulli model.
 _TOTAL = 16777216.0
-#: The number of units in a component's weight of 1, and the greatest sum of a row's weights.
-_SHARES, _MOST_SHARES = 2.0**31, 2.0
+#: The number of units in a component's weight of 1, the greatest sum of a row's weights, and the greatest weight.
+SHARES, _MOST_SHARES = 2.0**31, 2.0
+MOST_WEIGHT = _MOST_SHARES - 1 / SHARES
 #: The number of bits in the count of the greatest probability of a list.
 _COUNT_BITS = 62
 
 
 #: For lists that aren't longer than this, Python's own functions are faster than those of numpy.
 _FEW = 32
+_FLOAT = frozenset((float,))
+#: Floats from this one upwards are whole.
+_WHOLE = 2.0**52
 #: The least float of a list, and the greatest float.
 Ends = tuple[float, float]
 
@@ -107,14 +111,42 @@ def moved(floats: array[float], origin: float) -> array[float]:
 def unit_of(number: Any, origin: float, least: float, greatest: float) -> int | None:
     """Returns a float minus ``origin``, in units, rounded like a list of floats.
 
-    Returns None for a list, and for a float outside the bounds.
+    Returns None for a float outside the bounds, and for a list, unless it is a list of one float.
     """
     if type(number) is not float:
-        if not hasattr(number, "__float__") and type(number) is not int or hasattr(number, "__len__"):
+        if hasattr(number, "__len__"):
+            number = _only(number)
+        if not hasattr(number, "__float__") and type(number) is not int:
             return None
         number = real(number)
     number -= origin
     return round(number * UNITS_OF_ONE) if least <= number <= greatest else None
+
+
+def _only(numbers: Any) -> Any:
+    """Returns the number of a list of one number. Returns None for other lists."""
+    item = getattr(numbers, "item", None)
+    if item is not None:
+        return item() if numbers.size == 1 and numbers.ndim < 2 else None
+    number = numbers[0] if isinstance(numbers, (list, tuple, array)) and len(numbers) == 1 else None
+    return None if hasattr(number, "__len__") else number
+
+
+def units_of(floats: Any, unit: float, origin: float, within: Ends) -> array[int] | None:
+    """Returns a few floats minus ``origin``, in units, rounded like ``locations_of``, ``scales_of`` and the like.
+
+    Returns None if one isn't within the bounds, or isn't a plain number. Bounds below 0 are those of locations.
+    """
+    listed = floats.tolist() if hasattr(floats, "tolist") else floats
+    try:
+        if origin:
+            listed = [it - origin for it in listed]
+        if not (within[0] <= min(listed) and max(listed) <= within[1]):
+            return None
+        nearest: Callable[[float], int] = round
+        return array(SYMBOL if within[0] < 0 else WORD, map(nearest, map(unit.__mul__, listed)))
+    except (TypeError, ValueError, OverflowError):
+        return None
 
 
 def locations_of(name: str, floats: array[float], width: int | None = None) -> array[int]:
@@ -149,7 +181,7 @@ def component_weights_of(floats: array[float], width: int) -> array[int]:
         raise _fault("weight", floats, lambda it: 0 <= it < inf, "that is at least 0 and finite", width)
     if not width or ends[1] >= _MOST_SHARES:
         raise wrong_row(floats, width)
-    return _rounded(WORD, floats, _SHARES, (0.0, _MOST_SHARES - 1 / _SHARES), ends)
+    return _rounded(WORD, floats, SHARES, (0.0, MOST_WEIGHT), ends)
 
 
 def wrong_row(floats: Any, width: int) -> WrongWeightsError:
@@ -158,7 +190,7 @@ def wrong_row(floats: Any, width: int) -> WrongWeightsError:
         return WrongWeightsError("expected at least one component, got rows without components")
     for start in range(0, len(floats), width):
         row = [float(it) for it in floats[start : start + width]]
-        if max(row) >= _MOST_SHARES or not 0 < sum(round(it * _SHARES) for it in row) <= _MOST_SHARES * _SHARES:
+        if max(row) >= _MOST_SHARES or not 0 < sum(round(it * SHARES) for it in row) <= _MOST_SHARES * SHARES:
             return WrongWeightsError(
                 f"expected weights with a sum above 0 and of at most 2, got a sum of {sum(row)} for symbol {start // width}"
             )
@@ -174,6 +206,34 @@ def parts_of(probabilities: array[float]) -> array[int]:
     if not (ends[0] >= 0 and ends[1] <= 1):
         raise _fault("probability", probabilities, lambda it: 0 <= it <= 1, "between 0 and 1")
     return _rounded(WORD, probabilities, _TOTAL, (1 / _TOTAL, 1 - 1 / _TOTAL), ends)
+
+
+def counts_of_row(row: Any) -> array[int] | None:
+    """Does the same as ``counts_of`` in fewer steps, for a list of floats or a numpy array of these.
+
+    Returns None for other lists, and for those that ``counts_of`` refuses.
+    """
+    numpy = numpy_module()
+    if type(row) is list:
+        if len(row) > _FEW or not _FLOAT.issuperset(map(type, row)) or not row:
+            return None
+        least, greatest, total = min(row), max(row), sum(row)
+    elif numpy is not None and type(row) is numpy.ndarray and row.ndim == 1 and row.dtype.char == "d" and len(row):
+        least, greatest = numpy.minimum.reduce(row), float(numpy.maximum.reduce(row))
+        total = greatest
+    else:
+        return None
+    shift = _COUNT_BITS - frexp(greatest)[1]
+    if not (least >= 0 and 0 < greatest and total < inf and shift < 1000):  # The comparisons fail for NaN.
+        return None
+    unit = 2.0**shift
+    if type(row) is list:
+        nearest: Callable[[float], int] = round
+        return array("Q", [nearest(it * unit) or 1 for it in row])
+    table = numpy.multiply(row, unit)
+    if least * unit < _WHOLE:
+        numpy.maximum(numpy.rint(table, table), 1.0, table)
+    return array("Q", table.astype(numpy.uint64).tobytes())
 
 
 def counts_of(probabilities: Any) -> array[int]:

@@ -3,17 +3,21 @@
 from __future__ import annotations
 
 import copy
+import math
 import pickle
+import random
 import sys
 import unittest
 from array import array
 from typing import Any
 from unittest import mock
 
+import definitions as by
+from constriction import errors
 from constriction._buffers import Numbers
 from constriction.stream.chain import ChainCoder
 from constriction.stream.model import Bernoulli, Categorical, QuantizedGaussian, QuantizedMixture, Uniform, WeightTable
-from constriction.stream.queue import RangeDecoder
+from constriction.stream.queue import RangeDecoder, RangeEncoder
 from constriction.stream.stack import AnsCoder
 
 
@@ -73,6 +77,54 @@ class Single(unittest.TestCase):
         self.assertIs(type(AnsCoder([5]).decode(Bernoulli(), 0.5)), int)
         self.assertIs(type(AnsCoder([5]).decode(QuantizedGaussian(-9, 9), 0.5, 2.0)), int)
         self.assertEqual(len(AnsCoder([5]).decode(Bernoulli(), [0.5])), 1)
+
+
+class QuickWays(unittest.TestCase):
+    """Calls of one symbol under rows don't go the way of lists, and have its words, symbols and refusals."""
+
+    def test_beside_lists(self) -> None:
+        slow = mock.patch("constriction._coder.Coder._changed", side_effect=AssertionError("the way of lists"))
+        dice, mixture, family = random.Random(5), QuantizedMixture(QuantizedGaussian(-9, 9)), QuantizedGaussian(-9, 9)
+        far = QuantizedMixture(QuantizedGaussian(1 << 40, (1 << 40) + 6))
+        for _ in range(200):
+            shares = [dice.choice((0.0, 1e-9, 0.5, dice.random() * 10 ** dice.randint(-30, 30))) for _ in range(dice.choice((2, 5, 16)))] + [0.25]
+            weights = by.random_weights(dice, 3)
+            components = [dice.random() / 2 for _ in range(3)], [dice.uniform(-12, 12) for _ in range(3)], [dice.uniform(0.01, 70) for _ in range(3)]
+            for model, given, symbol in (
+                (Categorical(), (shares,), 0), (WeightTable(), (weights,), by.random_symbol(dice, weights)), (mixture, components, 3),
+                (far, (components[0], [2.0**40] * 3, components[2]), (1 << 40) + 2), (family, ([components[1][0]], [components[2][0]]), -4),
+            ):  # fmt: skip
+                for coder in (AnsCoder([5, 6]), RangeEncoder(), ChainCoder(range(1, 20))):
+                    coder.decode(Uniform(3), 5) if isinstance(coder, ChainCoder) else None
+                    other, name = coder.clone(), "encode" if isinstance(coder, RangeEncoder) else "encode_reverse"
+                    with slow:
+                        getattr(coder, name)(symbol, model, *given)
+                    getattr(other, name)([symbol], model, *(given if model is family else ([it] for it in given)))
+                    self.assertEqual(coder._plain(coder._state), other._plain(other._state))
+                    if isinstance(coder, RangeEncoder):
+                        coder, other = coder.get_decoder(), other.get_decoder()
+                    with slow:
+                        found: Any = coder.decode(model, *given)
+                    self.assertEqual(found if model is family else [found], other.decode(model, *(given if model is family else ([it] for it in given))))
+                    self.assertEqual([found] if model is not family else found, [symbol])
+
+    def test_refusals(self) -> None:
+        mixture, nan, inf = QuantizedMixture(QuantizedGaussian(-9, 9)), math.nan, math.inf
+        half, zeros, ones = [0.5, 0.5], [0.0, 0.0], [1.0, 1.0]
+        for weights, means, stds in (
+            ([nan, 0.5], zeros, ones), ([0.5, nan], zeros, ones), ([-0.5, 1.0], zeros, ones), ([1.5, 1.5], zeros, ones), (zeros, zeros, ones),
+            (half, [0.0, nan], ones), (half, [inf, 0.0], ones), (half, zeros, [1.0, nan]), (half, zeros, [0.0, 1.0]), (half, zeros, [65536.0, 1.0]),
+            ([0.5], zeros, ones), (half, [0.0], ones), (half, zeros, [1.0] * 3), ([2.0, 0.0], zeros, ones),
+        ):  # fmt: skip
+            coder = AnsCoder([5, 6])
+            self.assertRaises(ValueError, coder.decode, mixture, weights, means, stds)
+            self.assertRaises(ValueError, coder.encode_reverse, 1, mixture, weights, means, stds)
+            self.assertEqual(coder, AnsCoder([5, 6]))
+        self.assertRaises(errors.ImpossibleSymbolError, AnsCoder().encode_reverse, 10, mixture, half, zeros, ones)
+        for wrong in ([nan, 0.5], [0.5, nan], [-0.5, 1.0], [0.0, 0.0], [inf, 1.0], [1.7e308, 1.7e308, -1.0]):
+            self.assertRaises(ValueError, AnsCoder([5]).decode, Categorical(), wrong)
+        self.assertEqual(list(Categorical([1.7e308, 1.7e308]).table()), [1 << 23] * 2)
+        self.assertEqual(list(Categorical([5e-324, 5e-324]).table()), [1 << 23] * 2)
 
 
 class OneForAll(unittest.TestCase):

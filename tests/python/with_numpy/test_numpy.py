@@ -280,6 +280,30 @@ print(*kinds, type(coder.decode(Uniform(3), 2)).__name__)
         with self.assertRaisesRegex(ValueError, "^expected a probability above 0, got none in row 0$"):
             AnsCoder().decode(Categorical(), numpy.zeros((2, 3)))
 
+    def test_rows_that_are_copied_together(self) -> None:
+        """The same as lists of rows, in several parts, without a look at each row in Python."""
+        dice = numpy.random.default_rng(8)
+        for width, count in ((1, 3), (3, 40), (256, 700)):
+            rows = dice.integers(1, 1 << 14, (count, width), dtype="int64")
+            rows[:, -1] += (1 << 24) - rows.sum(axis=1)
+            symbols, wanted = dice.integers(0, width, count), AnsCoder()
+            wanted.encode_reverse(symbols, WeightTable(), rows.tolist())
+            for kind in ("int64", "uint32", ">u4", "int32"):
+                coder, some = AnsCoder(), rows.astype(kind)
+                with mock.patch.object(WeightTable, "_row", side_effect=AssertionError("row by row")):
+                    coder.encode_reverse(symbols, WeightTable(), some)
+                    self.assertEqual(coder, wanted)
+                    self.assertEqual(coder.decode(WeightTable(), some).tolist(), symbols.tolist())
+                    self.assertTrue(coder.is_empty())
+            for wrong in (-1, 1 << 32):
+                rows[count - 1, 0] = wrong
+                with self.assertRaisesRegex(errors.WrongWeightsError, f"got {wrong} at place 0 in row {count - 1}$"):
+                    AnsCoder([5]).decode(WeightTable(), rows)
+            rows[count - 1, 0] = 3
+            with self.assertRaisesRegex(errors.WrongWeightsError, f" in row {count - 1}$"):
+                AnsCoder([5]).decode(WeightTable(), rows)
+        self.assertRaises(TypeError, AnsCoder([5]).decode, WeightTable(), numpy.ones((2, 2)))
+
     def test_one_symbol(self) -> None:
         """Numbers of numpy alone, as symbols and as parameters."""
         family, coder, wanted = QuantizedGaussian(-9, 9), AnsCoder(), AnsCoder()

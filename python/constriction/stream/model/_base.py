@@ -15,6 +15,7 @@ from ...errors import ImpossibleSymbolError, Refusal, WrongLengthError, impossib
 __all__ = [
     "ENDS",
     "FALLS",
+    "MIXED",
     "PRECISION",
     "ROW",
     "TOTAL",
@@ -30,8 +31,9 @@ __all__ = [
     "spread",
 ]
 
-#: The forms of the model of a single symbol: the ends of the intervals, a location and a scale, or a row of weights.
-ENDS, UNITS, ROW = range(3)
+#: The forms of the model of a single symbol: the ends of the intervals, a location and a scale, a row of weights, or a
+#: row of components.
+ENDS, UNITS, ROW, MIXED = range(4)
 #: After ``_SELDOM`` calls with one symbol, a model of at most ``_MOST_ENDS`` symbols keeps its sums of weights.
 #: Before that, a model of at most ``_FEW_WEIGHTS`` symbols passes all weights.
 _SELDOM, _MOST_ENDS, _FEW_WEIGHTS = 2, 1 << 16, 64

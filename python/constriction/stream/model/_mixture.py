@@ -8,9 +8,12 @@ from typing import Any, NamedTuple
 
 from ..._buffers import listed
 from ..._numbers import grid_of, is_row
-from ..._units import component_weights_of, locations_of, moved, scales_of, wrong_row
+from ..._units import (
+    FARTHEST, MOST_WEIGHT, NARROWEST, SHARES, UNITS_OF_ONE, WIDEST, component_weights_of, locations_of, moved, scales_of, units_of,
+    wrong_row,
+)  # fmt: skip
 from ...errors import Refusal, WrongLengthError, WrongWeightsError
-from ._base import Model, shown_range
+from ._base import MIXED, Model, shown_range
 from ._quantized import _Quantized
 
 __all__ = ["QuantizedMixture"]
@@ -106,6 +109,19 @@ class QuantizedMixture(Model):
     def is_single(self, given: Sequence[Any]) -> bool:
         """Returns whether these are the parameters of a single symbol."""
         return all(map(is_row, given))
+
+    def _alone_by(self, given: tuple[Any, ...]) -> tuple[int, Any, Any] | None:
+        if len(given) != 3 or not all(map(is_row, given)):
+            return None
+        weights, locations, scales = given
+        lists = (
+            units_of(weights, SHARES, 0.0, (0.0, MOST_WEIGHT)),
+            units_of(locations, UNITS_OF_ONE, self._components._origin, (-FARTHEST, FARTHEST)),
+            units_of(scales, UNITS_OF_ONE, 0.0, (NARROWEST, WIDEST)),
+        )
+        if any(it is None or len(it) != len(weights) for it in lists):
+            return None
+        return MIXED, lists, None
 
     def explained(self, refused: Refusal, given: Sequence[Any]) -> Refusal:
         """Returns the exception with a text that names the symbol whose weights have a wrong sum."""

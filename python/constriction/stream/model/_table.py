@@ -7,10 +7,10 @@ from collections.abc import Iterator, Sequence
 from operator import index
 from typing import Any
 
-from ..._buffers import WORD, List, Reals, listed, room
+from ..._buffers import WORD, List, Reals, addressed, room
 from ..._library import call
-from ..._numbers import is_one, is_row, plain_of, reals_of, rows_of, sequence_of, table_of, words_of
-from ..._units import counts_of, counts_of_rows, counts_of_wholes
+from ..._numbers import as_numpy, is_one, is_row, plain_of, reals_of, rows_of, sequence_of, table_of, wholes_of, words_of
+from ..._units import counts_of, counts_of_row, counts_of_rows, counts_of_wholes
 from ...errors import WrongWeightsError
 from ._base import ROW, Model, sized
 
@@ -117,6 +117,23 @@ class WeightTable(Rows):
         return words_of(numbers, "weight", WrongWeightsError)
 
 
+    def rows(self, given: Sequence[Any]) -> Iterator[tuple[array[int], int, int]]:
+        """Does the same as ``Rows.rows``. Copies the rows of a numpy array together."""
+        self._known(given)
+        table = as_numpy(given[0])
+        if table is None or table.ndim != 2 or table.dtype.kind not in "iu" or not table.size:
+            yield from super().rows(given)
+            return
+        width = table.shape[1]
+        size = max(ROWS_AT_A_TIME // width, 1)
+        for start in range(0, len(table), size):
+            some = table[start : start + size]
+            try:
+                yield wholes_of(WORD, some.ravel()), width, len(some)
+            except OverflowError:
+                yield from self._packed(some, start)  # This raises an exception that names the weight.
+
+
 class Categorical(Rows):
     """A model of the symbols 0, 1, .. with these probabilities or counts. Only their proportions matter.
 
@@ -152,14 +169,17 @@ class Categorical(Rows):
             self._fixed = self._row(probabilities)
 
     def _row(self, numbers: Any) -> array[int]:
-        if is_one(numbers):
-            raise TypeError(f"expected a list of probabilities, got {type(numbers).__name__}")
-        given = sequence_of(numbers)
-        sized(len(given))
-        wholes = _wholes(given)
-        counts = counts_of(reals_of(given)) if wholes is None else counts_of_wholes(wholes)
-        weights = room(WORD, len(counts))
-        call("weights_of_counts", *listed(counts), *listed(weights))
+        counts = counts_of_row(numbers)
+        if counts is None:
+            if is_one(numbers):
+                raise TypeError(f"expected a list of probabilities, got {type(numbers).__name__}")
+            given = sequence_of(numbers)
+            sized(len(given))
+            wholes = _wholes(given)
+            counts = counts_of(reals_of(given)) if wholes is None else counts_of_wholes(wholes)
+        sized(len(counts))
+        weights = room(WORD, len(counts), array)
+        call("weights_of_counts", *addressed(counts), *addressed(weights))
         return weights
 
     def rows(self, given: Sequence[Any]) -> Iterator[tuple[array[int], int, int]]:
