@@ -8,6 +8,7 @@ from ctypes import POINTER, Structure, c_int32, c_size_t, c_uint32, c_uint64, c_
 from pathlib import Path
 from typing import Any
 
+from ._version import VERSION
 from .errors import refusal
 
 __all__ = ["PATH", "ChainHeads", "RangeDecoderState", "RangeEncoderState", "call"]
@@ -56,7 +57,17 @@ def _load() -> ctypes.CDLL:
     """
     if not PATH.is_file():
         raise ImportError(f"expected the library at {PATH}, got no file: run tools/library, or set CONSTRICTION_LIBRARY to its path")
-    return ctypes.CDLL(str(PATH))
+    library = ctypes.CDLL(str(PATH))
+    ask = getattr(library, "constriction_version", None)
+    found = f"version {_version(ask())}" if ask else "no version"
+    if found != f"version {VERSION}":
+        raise ImportError(f"expected a library of version {VERSION}, as this package, got {found} at {PATH}")
+    return library
+
+
+def _version(number: int) -> str:
+    """Returns the text of a version from its number: 10000 times the first part, 100 times the second, and the third."""
+    return f"{number // 10000}.{number // 100 % 100}.{number % 100}"
 
 
 _size, _list = c_size_t, c_void_p

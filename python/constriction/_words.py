@@ -8,8 +8,9 @@ from typing import Any, NamedTuple, TypeVar
 
 from ._buffers import WORD, Array, List, Numbers, lent, room
 from ._numbers import words_of
+from .errors import InvalidDataError
 
-__all__ = ["Words", "copied", "packed", "unpacked"]
+__all__ = ["Words", "bytes_of", "copied", "packed", "unpacked", "words_from"]
 
 Memory = TypeVar("Memory", bound=Array)
 
@@ -69,6 +70,24 @@ def unpacked(data: bytes) -> Words:
     memory = room(WORD, 0, array)
     memory.frombytes(data)
     return Words(swapped(memory), len(memory))
+
+
+def bytes_of(numbers: Numbers) -> bytes:
+    """Returns words as a file has them: 4 bytes for each word, lowest first. The call may change ``numbers``."""
+    return swapped(numbers).tobytes()
+
+
+def words_from(data: Any) -> Numbers:
+    """Returns the words of such bytes. Raises TypeError for other objects, and InvalidDataError for a part of a word."""
+    try:
+        view = memoryview(data)
+    except TypeError:
+        raise TypeError(f"expected bytes, got {type(data).__name__}") from None
+    if view.nbytes % 4:
+        raise InvalidDataError(f"expected 4 bytes for each word, got {view.nbytes} bytes")
+    words = room(WORD, 0)
+    words.frombytes(view.tobytes())
+    return swapped(words)
 
 
 def swapped(numbers: Memory) -> Memory:

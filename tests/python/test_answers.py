@@ -6,6 +6,7 @@ import copy
 import math
 import pickle
 import random
+import struct
 import sys
 import unittest
 from array import array
@@ -13,7 +14,7 @@ from typing import Any
 from unittest import mock
 
 import definitions as by
-from constriction import errors
+from constriction import _library, errors
 from constriction._buffers import Numbers
 from constriction.stream.chain import ChainCoder
 from constriction.stream.model import Bernoulli, Categorical, QuantizedGaussian, QuantizedMixture, Uniform, WeightTable
@@ -159,6 +160,39 @@ class OneForAll(unittest.TestCase):
         self.assertRaises(ValueError, AnsCoder().encode_reverse, [0], family, means, stds)
         self.assertRaises(TypeError, AnsCoder().decode, Uniform(3), amt=(2.5,))
         self.assertEqual(len(AnsCoder([5, 6]).decode(Uniform(3), amt=(7,))), 7)
+
+
+class Bytes(unittest.TestCase):
+    def test_there_and_back(self) -> None:
+        model = Uniform(300)
+        for count in (0, 1, 5, 40):
+            symbols = [i * 7 % 300 for i in range(count)]
+            coder, encoder = AnsCoder(), RangeEncoder()
+            coder.encode_reverse(symbols, model), encoder.encode(symbols, model)
+            for it in (coder, encoder):
+                words = list(it.get_compressed())
+                self.assertEqual(it.to_bytes(), b"".join(word.to_bytes(4, "little") for word in words))
+            self.assertEqual(encoder.to_bytes(self_delimiting=True), struct.pack(f"<{len(encoder.get_compressed(True))}I", *encoder.get_compressed(True)))
+            for kind in (bytes, bytearray, memoryview, lambda it: array("B", it)):
+                self.assertEqual(list(AnsCoder.from_bytes(kind(coder.to_bytes())).decode(model, count)), symbols)
+                self.assertEqual(list(RangeDecoder.from_bytes(kind(encoder.to_bytes())).decode(model, count)), symbols)
+        words = [5, 6, 0, 7, 0]
+        sealed = AnsCoder(words, seal=True)
+        self.assertEqual(sealed.to_bytes(unseal=True), struct.pack("<5I", *words))
+        self.assertEqual(AnsCoder.from_bytes(sealed.to_bytes(unseal=True), seal=True), sealed)
+
+    def test_refusals(self) -> None:
+        for make in (AnsCoder.from_bytes, RangeDecoder.from_bytes):
+            for size in (1, 2, 3, 5):
+                self.assertRaisesRegex(errors.InvalidDataError, f"^expected 4 bytes for each word, got {size} bytes$", make, bytes(size))
+            for wrong in ([1, 2], "abcd", 4, None):
+                self.assertRaisesRegex(TypeError, f"^expected bytes, got {type(wrong).__name__}$", make, wrong)
+        self.assertRaises(errors.InvalidDataError, AnsCoder.from_bytes, bytes(4))
+
+    def test_a_library_of_another_version(self) -> None:
+        for version in ("0.6.0", "0.5.1", "1.5.0"):
+            with mock.patch.object(_library, "VERSION", version):
+                self.assertRaisesRegex(ImportError, f"^expected a library of version {version}, as this package, got version 0.5.0 at /", _library._load)
 
 
 if __name__ == "__main__":

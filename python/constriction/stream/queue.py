@@ -13,7 +13,7 @@ from .._coding import decoded, encoded
 from .._library import RangeDecoderState, RangeEncoderState, call
 from .._numbers import whole
 from .._single import Buffer, Lane, made, memory_of
-from .._words import Words, copied, packed, unpacked
+from .._words import Words, bytes_of, copied, packed, unpacked, words_from
 from .model import Categorical, Model, QuantizedMixture, WeightTable
 
 __all__ = ["RangeDecoder", "RangeEncoder"]
@@ -182,6 +182,10 @@ class RangeEncoder(Coder):
         found: Answer = answered(self._compressed(self_delimiting))
         return found
 
+    def to_bytes(self, self_delimiting: bool = False) -> bytes:
+        """Returns the words of ``get_compressed`` for a file: 4 bytes for each word, lowest first on every machine."""
+        return bytes_of(self._compressed(self_delimiting))
+
     def _compressed(self, self_delimiting: bool = False) -> Numbers:
         return self._asked(lambda state: self._sealed(state, self_delimiting).numbers())
 
@@ -238,6 +242,14 @@ class RangeDecoder(Coder):
         words, it = copied(compressed), RangeDecoderState()
         call("range_from_compressed", lent(words.memory), words.length, byref(it))
         self._begin(_reading(words, it))
+
+    @classmethod
+    def from_bytes(cls, data: Any) -> RangeDecoder:
+        """Creates a decoder of bytes that the encoder's ``to_bytes`` returned.
+
+        Raises :class:`InvalidDataError` if these aren't 4 bytes for each word.
+        """
+        return cls(words_from(data))
 
     @overload
     def decode(self, model: Model) -> int:

@@ -13,7 +13,7 @@ from .._coding import decoded, encoded
 from .._library import call
 from .._numbers import whole
 from .._single import Buffer, Lane, made, memory_of
-from .._words import Words, copied, packed, unpacked
+from .._words import Words, bytes_of, copied, packed, unpacked, words_from
 from .model import Categorical, Model, QuantizedMixture, WeightTable
 
 __all__ = ["AnsCoder"]
@@ -223,7 +223,20 @@ class AnsCoder(Coder):
 
         With ``unseal`` the call does the same as ``get_binary``.
         """
-        return self._exported("ans_into_binary" if unseal else "ans_into_compressed")
+        found: Answer = answered(self._exported("ans_into_binary" if unseal else "ans_into_compressed"))
+        return found
+
+    def to_bytes(self, unseal: bool = False) -> bytes:
+        """Returns the words of ``get_compressed`` for a file: 4 bytes for each word, lowest first on every machine."""
+        return bytes_of(self._exported("ans_into_binary" if unseal else "ans_into_compressed"))
+
+    @classmethod
+    def from_bytes(cls, data: Any, seal: bool = False) -> AnsCoder:
+        """Imports a coder from bytes that ``to_bytes`` returned, or from any words with ``seal``.
+
+        Raises :class:`InvalidDataError` if these aren't 4 bytes for each word, and as the constructor does.
+        """
+        return cls(words_from(data), seal)
 
     def get_binary(self) -> Answer:
         """Returns a copy of the words, followed by the words of the head below its leading 1.
@@ -233,9 +246,10 @@ class AnsCoder(Coder):
         Raises :class:`InvalidDataError` if the head is 0, or if the number of bits below its leading 1 isn't a multiple
         of 32.
         """
-        return self._exported("ans_into_binary")
+        found: Answer = answered(self._exported("ans_into_binary"))
+        return found
 
-    def _exported(self, name: str) -> Answer:
+    def _exported(self, name: str) -> Numbers:
         def export(state: _State) -> Numbers:
             words = (state.words.clone() if state.top > state.words.length else state.words).reserve(2)
             length, needed = c_size_t(words.length), c_size_t(0)
@@ -243,8 +257,7 @@ class AnsCoder(Coder):
             call(name, state.head, *words.lent(), byref(length), byref(needed), texts=texts)
             return Words(words.memory, length.value).numbers()
 
-        found: Answer = answered(self._asked(export))
-        return found
+        return self._asked(export)
 
     def num_words(self) -> int:
         """Returns the number of words that ``get_compressed`` returns."""
