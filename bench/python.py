@@ -11,8 +11,9 @@ of -100 .. 100, as bench/models.c has; in those of `array` the package doesn't s
 and array('q').
 
 Cases of `one` are a symbol a call, 20,000 of them, in nanoseconds a call: `table` under a fixed model of 256
-symbols, `gaussian` with a mean and a deviation of its own over -100 .. 100, `row` by a row of 16 weights that is
-handed in (a decode makes a model of it). `bare` is a call of the C function alone, ans_decode of one symbol under
+symbols, `gaussian` with a mean and a deviation of its own over -100 .. 100, `row` by a row of 16 weights. Where numpy
+is there, `numpy256` is by a row of 256 probabilities, `slice` by a mean and a deviation as parts of arrays with one
+number, and `mixture` by five logistic distributions over -100 .. 100. `bare` is a call of the C function alone, ans_decode of one symbol under
 three weights, by ctypes with all its arguments made before.
 
 Cases of `mixture` have five logistic distributions for each of 100,000 symbols of -128 .. 127, in arrays of numpy.
@@ -169,7 +170,22 @@ def bare() -> None:
         function(*arguments)
 
 
-def single_cases(weights: list[int]) -> list[Case]:
+def single_rows(numpy: Any, dice: random.Random) -> list[tuple[str, Model, list[Any]]]:
+    """Models with the parameters of each call in arrays of numpy."""
+    if not numpy:
+        return []
+    row = numpy.array([dice.random() for _ in range(256)])
+    means = numpy.array([dice.uniform(-30, 30) for _ in range(CALLS)])
+    stds = numpy.array([dice.uniform(0.3, 20.3) for _ in range(CALLS)])
+    five = [numpy.array([dice.uniform(*ends) for _ in range(5)]) for ends in ((0.1, 0.3), (-30, 30), (0.3, 20.3))]
+    return [
+        ("numpy256", Categorical(), [(row,)] * CALLS),
+        ("slice", QuantizedGaussian(-100, 100), [(means[i : i + 1], stds[i : i + 1]) for i in range(CALLS)]),
+        ("mixture", QuantizedMixture(QuantizedLogistic(-100, 100)), [tuple(five)] * CALLS),
+    ]
+
+
+def single_cases(weights: list[int], numpy: Any) -> list[Case]:
     """One symbol a call."""
     dice, table, family, given = random.Random(2), WeightTable(weights), QuantizedGaussian(-100, 100), WeightTable()
     places = dice.choices(range(256), weights, k=CALLS)
@@ -210,14 +226,27 @@ def single_cases(weights: list[int]) -> list[Case]:
 
     def decode_by_row(make: Any, words: Any) -> list[int]:
         decode = make(words).decode
-        return [decode(WeightTable(row)) for _ in few]
+        return [decode(given, row) for _ in few]
 
     cases: list[Case] = [("python_one_bare", bare)]
-    ways = (
+    ways: list[tuple[str, Any, Any, Any]] = [
         ("table", by_table, decode_by_table, places),
         ("gaussian", by_parameters, decode_by_parameters, near),
         ("row", by_row, decode_by_row, few),
-    )
+    ]
+    for name, other, rows in single_rows(numpy, dice):
+
+        def by_rows(coder: str, other: Model = other, rows: list[Any] = rows) -> Any:
+            it, encode = encoder(coder)
+            for place, parameters in zip(few, rows):
+                encode(place, other, *parameters)
+            return it
+
+        def decode_by_rows(make: Any, words: Any, other: Model = other, rows: list[Any] = rows) -> list[int]:
+            decode = make(words).decode
+            return [int(decode(other, *parameters)) for parameters in rows]
+
+        ways.append((name, by_rows, decode_by_rows, few))
     for coder, make in (("ans", AnsCoder), ("range", RangeDecoder)):
         for name, encode, decode, symbols in ways:
             words = encode(coder).get_compressed()
@@ -259,17 +288,17 @@ def categorical_cases(numpy: Any) -> list[tuple[str, Callable[[], Any], int]]:
 def main() -> None:
     wanted = sys.argv[1] if len(sys.argv) > 1 else ""
     weights = driver_weights()
-    if "_one_" in wanted:
-        for name, run in single_cases(weights):
-            if wanted in name:
-                print(f"{name} {least(run, CALLS):.0f}", flush=True)
-        return
     numpy: Any
     try:
         import numpy
     except ImportError:
         numpy = None
         print("numpy is not there, so nothing of it is measured", file=sys.stderr)
+    if "_one_" in wanted:
+        for name, run in single_cases(weights, numpy):
+            if wanted in name:
+                print(f"{name} {least(run, CALLS):.0f}", flush=True)
+        return
     if "_categorical_" in wanted:
         for name, run, count in categorical_cases(numpy):
             if wanted in name:

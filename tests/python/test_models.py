@@ -336,10 +336,9 @@ class Families(unittest.TestCase):
             family = kind(0, 9)
             for call in (
                 lambda: AnsCoder().encode_reverse([1], family, [0.5], [0.5, 0.5]),
-                lambda: AnsCoder().decode(family, [0.5], [0.5, 0.5]),
-                lambda: AnsCoder().encode_reverse([1, 2], family, [0.5], [0.5]), lambda: kind(5, 4),
+                lambda: AnsCoder().decode(family, [0.5] * 3, [0.5] * 2), lambda: AnsCoder().decode(family, [], [0.5] * 2),
+                lambda: AnsCoder().encode_reverse([1, 2, 3], family, [0.5] * 2, [0.5]), lambda: kind(5, 4),
                 lambda: kind(0, 1 << 24),
-                lambda: AnsCoder().encode_reverse([1, 2], family, 0.5, 0.5),
             ):  # fmt: skip
                 self.assertRaises(ValueError, call)
 
