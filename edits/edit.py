@@ -76,14 +76,18 @@ class Edit:
         if not re.match(r"(src|specs|proofs)/", file) or ".." in file or not os.path.isfile(f"{self.folder}/{file}"):
             raise BadEdit(f"{self.name}: there is no {file} in src/, specs/ or proofs/")
         text = texts.get(file) or read(f"{self.folder}/{file}")
-        if not old or text.count(old) != 1:
-            raise BadEdit(f"{self.name}: an 'old:' text is in {file} {text.count(old) if old else 0} times, and not once")
-        lines, number = text.split("\n"), text[: text.index(old)].count("\n")
+        lines = text.split("\n")
+        starts = [it.start() for it in re.finditer(re.escape(old), text)] if old else []
+        if len(starts) > 1:  # then it has to be in the heading's function once
+            starts = [it for it in starts if function_at(lines, text[:it].count("\n")) == self.function]
+        if len(starts) != 1:
+            raise BadEdit(f"{self.name}: an 'old:' text is in {file} {text.count(old) if old else 0} times, and not once in it or in the function")
+        number = text[: starts[0]].count("\n")
         function = function_at(lines, number) if file.startswith("src/") else ""
         member = MEMBER.match(lines[number])
         self.is_apart |= not function
         self.functions.update([function] if function else [member[1]] if member else [])
-        texts[file] = text.replace(old, new)
+        texts[file] = text[: starts[0]] + new + text[starts[0] + len(old) :]
 
     def fits(self, other):
         """Returns whether one check can judge both: they change functions of different names, in places that do not meet."""

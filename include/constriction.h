@@ -75,9 +75,9 @@
    NO_MEMORY can replace only those after IMPOSSIBLE_SYMBOL.
 
    MEMORY. Most functions use the program's malloc, realloc and free, and free all of their memory before they
-   return. These three must come from one allocator. malloc and realloc must align a block to each power of two up to
-   16 that divides its size. Don't call a function from a signal handler, or from the forked child of a process that
-   had threads. */
+   return. An encode by intervals or by rows of weights requests memory for its new words only. malloc, realloc and
+   free must come from one allocator. malloc and realloc must align a block to each power of two up to 16 that divides
+   its size. Don't call a function from a signal handler, or from the forked child of a process that had threads. */
 #ifndef CONSTRICTION_H
 #define CONSTRICTION_H
 
@@ -160,8 +160,7 @@ uint32_t constriction_ans_encode_reverse_u32(uint64_t *head, uint32_t *words, si
                                              const uint32_t *weights, size_t weight_count,
                                              const size_t *symbols, size_t symbol_count, size_t *needed);
 
-/* Do the same with symbols of 8 and of 16 bits, and write the same words. These functions first convert the symbols
-   to a list of size_t. */
+/* Do the same with symbols of 8 and of 16 bits, and write the same words. */
 uint32_t constriction_ans_encode_bytes_reverse_u32(uint64_t *head, uint32_t *words, size_t capacity, size_t *len,
                                                    const uint32_t *weights, size_t weight_count,
                                                    const uint8_t *symbols, size_t symbol_count, size_t *needed);
@@ -252,8 +251,7 @@ uint32_t constriction_range_encode_u32(struct constriction_range_encoder_state_u
                                        const uint32_t *weights, size_t weight_count,
                                        const size_t *symbols, size_t symbol_count, size_t *needed);
 
-/* Do the same with symbols of 8 and of 16 bits, and write the same words. These functions first convert the symbols
-   to a list of size_t. */
+/* Do the same with symbols of 8 and of 16 bits, and write the same words. */
 uint32_t constriction_range_encode_bytes_u32(struct constriction_range_encoder_state_u32 *encoder,
                                              uint32_t *words, size_t capacity, size_t *len,
                                              const uint32_t *weights, size_t weight_count,
@@ -435,8 +433,7 @@ uint32_t constriction_chain_encode_reverse_u32(struct constriction_chain_heads_u
                                                const uint32_t *weights, size_t weight_count,
                                                const size_t *symbols, size_t symbol_count, size_t *needed);
 
-/* Do the same with symbols of 8 and of 16 bits, and write the same words. These functions first convert the symbols
-   to a list of size_t. */
+/* Do the same with symbols of 8 and of 16 bits, and write the same words. */
 uint32_t constriction_chain_encode_bytes_reverse_u32(struct constriction_chain_heads_u32 *heads,
                                                      uint32_t *compressed, size_t capacity, size_t *compressed_len,
                                                      const uint32_t *remainders, size_t remainders_count,
@@ -569,8 +566,7 @@ uint32_t constriction_ans_encode_reverse_u16(uint32_t *head, uint16_t *words, si
                                              const uint16_t *weights, size_t weight_count,
                                              const size_t *symbols, size_t symbol_count, size_t *needed);
 
-/* Do the same with symbols of 8 and of 16 bits, and write the same words. These functions first convert the symbols
-   to a list of size_t. */
+/* Do the same with symbols of 8 and of 16 bits, and write the same words. */
 uint32_t constriction_ans_encode_bytes_reverse_u16(uint32_t *head, uint16_t *words, size_t capacity, size_t *len,
                                                    const uint16_t *weights, size_t weight_count,
                                                    const uint8_t *symbols, size_t symbol_count, size_t *needed);
@@ -661,8 +657,7 @@ uint32_t constriction_range_encode_u16(struct constriction_range_encoder_state_u
                                        const uint16_t *weights, size_t weight_count,
                                        const size_t *symbols, size_t symbol_count, size_t *needed);
 
-/* Do the same with symbols of 8 and of 16 bits, and write the same words. These functions first convert the symbols
-   to a list of size_t. */
+/* Do the same with symbols of 8 and of 16 bits, and write the same words. */
 uint32_t constriction_range_encode_bytes_u16(struct constriction_range_encoder_state_u16 *encoder,
                                              uint16_t *words, size_t capacity, size_t *len,
                                              const uint16_t *weights, size_t weight_count,
@@ -844,8 +839,7 @@ uint32_t constriction_chain_encode_reverse_u16(struct constriction_chain_heads_u
                                                const uint16_t *weights, size_t weight_count,
                                                const size_t *symbols, size_t symbol_count, size_t *needed);
 
-/* Do the same with symbols of 8 and of 16 bits, and write the same words. These functions first convert the symbols
-   to a list of size_t. */
+/* Do the same with symbols of 8 and of 16 bits, and write the same words. */
 uint32_t constriction_chain_encode_bytes_reverse_u16(struct constriction_chain_heads_u16 *heads,
                                                      uint16_t *compressed, size_t capacity, size_t *compressed_len,
                                                      const uint16_t *remainders, size_t remainders_count,

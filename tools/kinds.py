@@ -8,7 +8,7 @@ import re
 import textwrap
 
 
-def of_models(name, says, parameters, models, lets, kind, variable):
+def of_models(name, says, parameters, models, lets):
     """The change from a call with one table of weights to the call with another kind of models."""
     return {
         r"_(encode|decode)_": rf"_\1_{name}_",
@@ -17,11 +17,9 @@ def of_models(name, says, parameters, models, lets, kind, variable):
         r"by_weights \(map \(lowest 32\) weights\.now\)": models,
         r"    let models = .*\n": "",
         r"\n\{\n": "\n{\n" + "".join(f"    {it};\n" for it in lets.split("; ")),
-        r"_by_weights(.*) 24>\(\n": rf"\1 {kind}, 24>(\n",
         r"_by_weights(.*) 24>": r"\1 _, 24>",
         r"_by_weights": "",
-        r"Weights<'_, u32>": kind,
-        r"(weights|&models), symbols(?=[,)])": f"&{variable}, symbols",
+        r"\bweights, symbols(?=[,)])": "&models, symbols",
     }
 
 
@@ -31,32 +29,28 @@ def of_symbols(name, bits):
         r"_(encode|decode)_": rf"_\1_{name}_",
         r"(Encodes|Decodes) symbols": rf"\1 symbols of type `u{bits}`",
         r"symbols: &(mut )?\[usize\]": rf"symbols: &\1[u{bits}]",
-        r"symbols\.(now|old|new)": rf"(map (lowest {bits}) symbols.\1)",
+        r"symbols\.(old|new)": rf"(map (lowest {bits}) symbols.\1)",
         r"(Takes[^{}]*?\()by_weights \(map \(lowest 32\) weights\.now\)": rf"\1narrow_from_u32 {bits} weights.now",
-        r"    let models = .*\n": "",
         r"\bdecode_by_weights(.*) 24>": rf"decode_narrow\1 u{bits}, 24>",
-        r"\bencode(_reverse)?(::<.*) (?:_|Weights<'_, u32>), 24>": rf"encode_narrow\1\2 u{bits}, 24>",
         r"\[`decode_by_weights`\]": "[`decode_narrow`]",
-        r"\[`encode(_reverse)?`\]": r"[`encode_narrow\1`]",
-        r"&models, symbols": "weights, symbols",
     }
 
 
 EACH = of_models(
     "each", r"\1 with a row of `width` weights for each symbol", "weights: &[u32], width: usize",
-    "by_rows width (map (lowest 32) weights.now)", "let rows = Rows { weights, width }", "Rows<'_, u32>", "rows",
+    "by_rows width (map (lowest 32) weights.now)", "let models = Rows { weights, width }",
 )
 QUANTIZED = of_models(
     "quantized", ", each with the model of its own location and scale ([`Families`])",
     "family: u32, min: i32, max: i32, locations: &[i64], scales: &[u32]", "in_family family min max locations.now scales.now",
-    "let models = Families::new(family, min, max, locations, scales)", "Families<'_>", "models",
+    "let models = Families::new(family, min, max, locations, scales)",
 )
 MIXTURE = of_models(
     "mixture", ", each with its own mixture of a family's distributions ([`Mixtures`])",
     "family: u32, min: i32, max: i32, width: usize, component_weights: &[u32], locations: &[i64], scales: &[u32]",
     "in_mixture family min max width component_weights.now locations.now scales.now",
     "let components = Families::new(family, min, max, locations, scales); "
-    "let mixtures = Mixtures::new(components, component_weights, width)", "Mixtures<'_>", "mixtures",
+    "let models = Mixtures::new(components, component_weights, width)",
 )
 BYTES = of_symbols("bytes", 8)
 SHORTS = of_symbols("shorts", 16)
@@ -65,10 +59,8 @@ INTERVALS = {
     r"symbols (.*), with .*": r"intervals \1. Interval `i` begins at quantile `lefts[i]` and has length `ps[i]`.",
     r"weights: &\[u32\],\n    symbols: &\[usize\],": "lefts: &[u32],\n    ps: &[u32],",
     r"by_weights \(map \(lowest 32\) weights\.now\)": "intervals_from_u32 lefts.now",
-    r"symbols\.now": "(map (lowest 32) ps.now)",
-    r"    let models = .*\n": "",
-    r"\bencode(_reverse)?\b": r"encode_intervals\1",
-    r"[^ ]*( u32>)?, 24>(\(\n?.*)&models, symbols": r"24>\2lefts, ps",
+    r"length symbols\.now": "length ps.now", r"symbols\.now": "(map (lowest 32) ps.now)",
+    r"    let models = .*\n": "", r"Symbols \{ models, symbols \}": "Intervals { lefts, ps }",
 }
 ANS_BINARY = {
     r"Exports .*": "Exports the binary form: writes the bits of the head below its leading 1 after the first `len` words of `words`.",
@@ -119,15 +111,14 @@ ghost use Rattle.constriction_inputs.specs.Quantized.{in_family};
 ghost use Rattle.constriction_inputs.specs.Rows.{by_rows};
 ghost use Rattle.std.specs.Prelude.{◌≡◌, map};
 use constriction_calls::ans::decoding::{decode, decode_narrow};
-use constriction_calls::ans::encoding::{encode_intervals_reverse, encode_narrow_reverse};
 use constriction_calls::ans::words::into_binary;
-use constriction_calls::chain::{ChainHeads, decode, decode_narrow, encode_intervals_reverse, encode_narrow_reverse};
+use constriction_calls::chain::{ChainHeads, decode, decode_narrow};
 use constriction_calls::chain::{from_binary, from_remainders, into_binary, into_remainders};
 use constriction_calls::range::decoding::{decode, decode_narrow};
-use constriction_calls::range::encoding::{encode_intervals, encode_narrow};
 use constriction_calls::range::parts::{DecoderParts, EncoderParts};
 use constriction_calls::range::words::into_self_delimited;
 use constriction_calls::symbol::{Tree, decode_stack, encode_stack};
+use constriction_inputs::intervals::Intervals;
 use constriction_inputs::models::{Families, Mixtures, Rows};
 """
 

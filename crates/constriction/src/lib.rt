@@ -139,7 +139,7 @@
 //!
 //! - [`store::Store`]: lists of symbols (chunks) with one model, and an index with the position of each chunk. A store
 //!   has at most [`store::MOST_SYMBOLS`] symbols. [`store::BuildError`], [`store::ChunkError`] and [`store::BadIndex`]
-//!   are the errors of a store's calls.
+//!   are the errors of a store's calls. [`store::decoder_at`] creates a range decoder at the position of a chunk.
 //!
 //! # [`symbol`]: symbols as lists of bits
 //!
@@ -268,7 +268,9 @@ pub mod stream {
 }
 
 pub mod store {
-    pub use constriction_store::{BadIndex, BuildError, ChunkError, MOST_SYMBOLS, Store};
+    pub use constriction_store::{
+        BadIndex, BuildError, ChunkError, MOST_SYMBOLS, Store, decoder_at,
+    };
 }
 
 pub mod symbol {

@@ -49,11 +49,11 @@ pub ans_puts : {Word State : Type 0} {number : Word → ℕ} {state : State → 
 ans_puts code old_needed needed is answer_is needed_is call = (rw (sym is, answer_is) call, rw answer_is needed_is)
 
 -- ---- the range coder
-pub puts_told : {Word State : Type 0} {number : Word → ℕ} {state : State → ℕ} {w s precision : ℕ} {coded other : List ℕ → Coded} {symbols : List ℕ}
+pub puts_told : {Word State : Type 0} {number : Word → ℕ} {state : State → ℕ} {w s precision : ℕ} {coded other : Coded} {count : ℕ}
     {old kept new put : EncoderParts Word State} {words new_words : List Word} {len new_len : ℕ} {answer : Result (Unit {0}) Refusal} (code old_needed needed : ℕ)
     → coded ≡ other → old ≡ kept → put ≡ new → answer_by_code code needed ≡ answer → needed ≡ needed_by answer old_needed
-    → RangePuts number state w s precision coded symbols (kept_in old words len) (kept_in new new_words new_len) answer
-    → Told code old_needed needed (RangePuts number state w s precision other symbols (kept_in kept words len) (kept_in put new_words new_len))
+    → RangePuts number state w s precision coded count (kept_in old words len) (kept_in new new_words new_len) answer
+    → Told code old_needed needed (RangePuts number state w s precision other count (kept_in kept words len) (kept_in put new_words new_len))
 puts_told code old_needed needed is old_is new_is answer_is needed_is call = (rw (sym is, sym old_is, new_is, answer_is) call, rw answer_is needed_is)
 
 pub takes_told : {State : Type 0} {state : State → ℕ} {w s precision : ℕ} {coded other : List ℕ → Coded} {buffer : List ℕ} {old kept new put : DecoderParts State}

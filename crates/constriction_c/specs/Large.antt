@@ -63,9 +63,9 @@ abbrev pub large_decoder : RangeDecoderU32 → DecoderParts ℕ
 large_decoder d = record { lower = d.lower; range = d.range; point = d.point; pos = d.pos }
 
 -- The function encodes a caller's arguments.
-abbrev pub RangePutsU32 : ℕ → ℕ → ℕ → (List ℕ → Coded) → List ℕ → RangeEncoderU32 → List ℕ → ℕ → RangeEncoderU32 → List ℕ → ℕ → Type 0
-RangePutsU32 code before needed coded symbols encoder words len new_encoder new_words new_len =
-    Told code before needed (RangePuts (lowest 32) (lowest 64) 32 64 24 coded symbols (kept_in (large_encoder encoder) words len) (kept_in (large_encoder new_encoder) new_words new_len))
+abbrev pub RangePutsU32 : ℕ → ℕ → ℕ → Coded → ℕ → RangeEncoderU32 → List ℕ → ℕ → RangeEncoderU32 → List ℕ → ℕ → Type 0
+RangePutsU32 code before needed coded count encoder words len new_encoder new_words new_len =
+    Told code before needed (RangePuts (lowest 32) (lowest 64) 32 64 24 coded count (kept_in (large_encoder encoder) words len) (kept_in (large_encoder new_encoder) new_words new_len))
 
 -- The function appends a seal as `seals` says. `encoder` stays as it is.
 abbrev pub RangeEndsU32 : ℕ → ℕ → ℕ → (RangeKept ℕ ℕ → RangeKept ℕ ℕ → Result (Unit {0}) Refusal → Type 0) → RangeEncoderU32 → List ℕ → ℕ → List ℕ → ℕ → Type 0

@@ -64,9 +64,9 @@ abbrev pub small_decoder : RangeDecoderU16 → DecoderParts ℕ
 small_decoder d = record { lower = d.lower; range = d.range; point = d.point; pos = d.pos }
 
 -- The function encodes a caller's arguments.
-abbrev pub RangePutsU16 : ℕ → ℕ → ℕ → (List ℕ → Coded) → List ℕ → RangeEncoderU16 → List ℕ → ℕ → RangeEncoderU16 → List ℕ → ℕ → Type 0
-RangePutsU16 code before needed coded symbols encoder words len new_encoder new_words new_len =
-    Told code before needed (RangePuts (lowest 16) (lowest 32) 16 32 12 coded symbols (kept_in (small_encoder encoder) words len) (kept_in (small_encoder new_encoder) new_words new_len))
+abbrev pub RangePutsU16 : ℕ → ℕ → ℕ → Coded → ℕ → RangeEncoderU16 → List ℕ → ℕ → RangeEncoderU16 → List ℕ → ℕ → Type 0
+RangePutsU16 code before needed coded count encoder words len new_encoder new_words new_len =
+    Told code before needed (RangePuts (lowest 16) (lowest 32) 16 32 12 coded count (kept_in (small_encoder encoder) words len) (kept_in (small_encoder new_encoder) new_words new_len))
 
 -- The function appends a seal as `seals` says. `encoder` stays as it is.
 abbrev pub RangeEndsU16 : ℕ → ℕ → ℕ → (RangeKept ℕ ℕ → RangeKept ℕ ℕ → Result (Unit {0}) Refusal → Type 0) → RangeEncoderU16 → List ℕ → ℕ → List ℕ → ℕ → Type 0

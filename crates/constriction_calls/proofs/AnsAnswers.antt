@@ -1,6 +1,6 @@
--- What calls of the stack coder say of words that were put behind a caller's, or had no room there; and of intervals.
-use Rattle.std.proofs.Common.{◌≡◌, ◌≢◌, ◌⊎◌, ◌↔◌, ◌+◌, ◌<◌, ◌∙◌, ℕ, List, [], ◌++◌, Ok, Err, Result, length, map, reverse, refl, ap, inl, inr, subst, append-nil, arith}
-use Rattle.std.specs.Prelude.{IfErr, IsErrOf, OnErr, OnOk}
+-- What calls of the stack coder say of words that were put behind a caller's, or had no room there.
+use Rattle.std.proofs.Common.{◌≡◌, ◌⊎◌, ◌+◌, ◌<◌, ◌∙◌, ℕ, List, [], ◌++◌, Ok, Err, Result, length, map, reverse, refl, ap, inl, inr, append-nil, arith}
+use Rattle.std.specs.Prelude.{IfErr, OnErr, OnOk}
 use Rattle.std.proofs.lemmas.List.{length-append}
 use Rattle.constriction_base.specs.Models.{AreKnown, AreModels, IsModel, Item}
 use Rattle.constriction_base.specs.Steps.{IsSizes}
@@ -10,12 +10,10 @@ use Rattle.constriction_stack.specs.Symbols.{EncodesAll}
 use Rattle.constriction_calls.specs.AnsCalls.{AnsExports, AnsKept, AnsPuts, AreBinary, AsksItems, ExportLacksRoom, HasBinary, IsWithin, NeedsRoom, PutsItems, state_kept}
 use Rattle.constriction_inputs.specs.Buffers.{Appended, stack_in}
 use Rattle.constriction_inputs.specs.Coded.{AreFit, Coded, items}
-use Rattle.constriction_inputs.specs.Intervals.{AreIntervals, as_intervals}
 use Rattle.constriction_inputs.specs.declared.refusal.Refusal.{Refusal}
-use Rattle.constriction_inputs.specs.declared.refusal.Refusal.TheVariants.{NoMemory, NoSpace, WrongInterval, WrongLength}
-use Rattle.constriction_inputs.proofs.Asking.{fit_behind, fit_then, room_of}
+use Rattle.constriction_inputs.specs.declared.refusal.Refusal.TheVariants.{NoMemory, NoSpace}
+use Rattle.constriction_inputs.proofs.Asking.{fit_then, room_of}
 use Rattle.constriction_calls.proofs.AnsFrame.{encodes_over}
-use Rattle.constriction_calls.proofs.Intervals as rows
 use Rattle.constriction_calls.proofs.Known.{known_turned}
 use Rattle.constriction_calls.proofs.Stacked.{counted, stacked}
 
@@ -97,36 +95,3 @@ module _ {Word State : Type 0} (number : Word → ℕ) (state : State → ℕ) (
         asked = inr (within, inr (binary, room_of _ e (old.len + length added) why lacks));
         kept = rw (same.0, same.1) refl;
       }
-
--- ---- intervals
--- an encode of the same items, handed in otherwise
-pub puts_as : {Word State : Type 0} (number : Word → ℕ) (state : State → ℕ) (w s precision : ℕ) (coded other : Coded) (old new : AnsKept Word State) (answer : Result (Unit {0}) Refusal)
-    → items precision coded ≡ items precision other → AreFit precision coded → AreFit precision other → AnsPuts number state w s precision coded old new answer → AnsPuts number state w s precision other old new answer
-puts_as number state w s precision coded other old new answer is fit fit' call = record {
-  put = subst (λ (xs : List (Item ℕ)). OnOk answer (IsValid w s (state_kept number state old) → EncodesAll w s (reverse xs) (state_kept number state old) (state_kept number state new))) is call.put;
-  behind = subst (λ (xs : List (Item ℕ)). OnOk answer (PutsItems number state w s (reverse xs) old new)) is call.behind;
-  asked = elim call.asked [
-    | inl past ↦ inl past
-    | inr goes ↦ inr (
-      goes.0,
-      fit_then precision other fit' (subst (λ (xs : List (Item ℕ)). AsksItems w s xs (length old.words) (state_kept number state old) answer) is (fit_behind precision coded fit goes.1)),
-    )
-  ];
-  kept = call.kept;
-}
-
--- their rows were refused
-pub intervals_refused : {Word State P : Type 0} (T : Type 0) (number : Word → ℕ) (state : State → ℕ) (w s precision : ℕ) (digits : P → ℕ) (lefts ps : List P) (old : AnsKept Word State) (e : Refusal)
-    → IsWithin old → (e ≡ WrongLength) ⊎ ((e ≡ WrongInterval) ⊎ (e ≡ NoMemory)) → (IsErrOf {T = T} (Err e) WrongLength ↔ (length lefts ≢ length ps))
-    → (IsErrOf {T = T} (Err e) WrongInterval ↔ ((length lefts ≡ length ps) × (AreIntervals precision (map digits lefts) (map digits ps) → ⊥)))
-    → AnsPuts number state w s precision (as_intervals (map digits lefts) (map digits ps)) old old (Err e)
-intervals_refused T number state w s precision digits lefts ps old e within why lengths intervals = record {
-  put = tt;
-  behind = tt;
-  asked = inr (
-    within,
-    rows.intervals_refused digits precision lefts ps e lengths intervals (AsksItems w s (items precision (as_intervals (map digits lefts) (map digits ps))) (length old.words) (state_kept number state old)) why
-        (λ all. inr (rows.intervals_known precision (map digits lefts) (map digits ps) all, tt)),
-  );
-  kept = refl;
-}

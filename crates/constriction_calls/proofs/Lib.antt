@@ -1,9 +1,11 @@
 mod AnsAnswers
 mod AnsFrame
 mod AnsNarrow
+mod AnsPlaces
 mod ChainAnswers
 mod ChainFrame
 mod ChainNarrow
+mod ChainPlaces
 mod ChainSteps
 mod ChainWords
 mod Intervals
@@ -13,6 +15,7 @@ mod RangeAnswers
 mod RangeFrame
 mod RangeKept
 mod RangeNarrow
+mod RangePlaces
 mod RangeTaking
 mod Stacked
 mod StoreAnswers

@@ -1,85 +1,54 @@
 -- What calls of the range coder did, as their records say it.
-use Rattle.std.proofs.Common.{◌≡◌, ℕ, ◌+◌, ◌-◌, ◌/◌, ◌<◌, ◌≤◌, ◌^◌, ◌⊎◌, List, [], ◌++◌, length, map, take, refl, sym, ap, subst, ◌∙◌, inl, inr, arith, Result, Ok, Err}
+use Rattle.std.proofs.Common.{◌≡◌, ℕ, ◌+◌, ◌-◌, ◌/◌, ◌<◌, ◌≤◌, ◌^◌, ◌⊎◌, List, [], ◌++◌, length, map, take, refl, sym, ap, ◌∙◌, inl, inr, arith, Result, Ok, Err}
 use Rattle.std.specs.Prelude.{OnErr, OnOk, IfErr}
 use Rattle.std.proofs.lemmas.List.{length-append, length-map, length-take, map-append}
-use Rattle.constriction_base.specs.Models.{AreKnown, Item}
+use Rattle.constriction_base.specs.Models.{AreKnown}
 use Rattle.constriction_base.specs.Steps.{IsSizes}
 use Rattle.constriction_queue.specs.Range.{Run, narrowed_by, sealed}
 use Rattle.constriction_queue.specs.Symbols.{NarrowsAll}
 use Rattle.constriction_inputs.specs.Buffers.{Appended}
 use Rattle.constriction_inputs.specs.Coded.{AreFit, Coded, items}
-use Rattle.constriction_calls.specs.RangeCalls.{CanEncode, IsDecoderKept, IsEncodedBy, IsEncoderKept, IsSealed, IsSelfSealed, LacksRoom, LeadsBy, LeadsNowhere, RangeKept, RangePuts, RangeSeals, RangeTakes, RoomFirst, count_needed, run_kept}
-use Rattle.constriction_inputs.specs.Refusals.{Asks, Else, Room, Words}
+use Rattle.constriction_calls.specs.RangeCalls.{CanEncode, IsDecoderKept, IsEncoderKept, IsSealed, IsSelfSealed, LacksRoom, LeadsBy, LeadsNowhere, RangeKept, RangePuts, RangeSeals, RangeTakes, RoomFirst, run_kept}
+use Rattle.constriction_inputs.specs.Refusals.{Room, Words}
 use Rattle.constriction_inputs.specs.declared.refusal.Refusal.{Refusal}
 use Rattle.constriction_inputs.specs.declared.refusal.Refusal.TheVariants as refusals
 use Rattle.constriction_calls.specs.declared.range.parts.DecoderParts.{DecoderParts}
 use Rattle.constriction_calls.specs.declared.range.parts.EncoderParts.{EncoderParts}
-use Rattle.constriction_inputs.proofs.Asking.{asked_ok, fit_behind, fit_then, room_of}
+use Rattle.constriction_inputs.proofs.Asking.{asked_ok, fit_then, room_of}
 use Rattle.constriction_calls.proofs.Known.{known_by}
 use Rattle.constriction_calls.proofs.RangeKept.{interval_kept, narrows_kept, sealed_kept, sealed_self}
 
 -- ---- encodes
-module _ {Word State : Type 0} (number : Word → ℕ) (state : State → ℕ) (w s precision : ℕ) (coded : List ℕ → Coded) (symbols : List ℕ) (old : RangeKept Word State)
-    (within : old.len ≤ length old.words) (fit : AreFit precision (coded symbols)) where
-  pub puts_numbers : (CanEncode number state w s old.encoder (length symbols) → ⊥) → RangePuts number state w s precision coded symbols old old (Err refusals.InvalidData)
-  puts_numbers none = record { put = tt; asked = inr (within, fit_then precision (coded symbols) fit (inl (none, refl))); kept = refl }
+module _ {Word State : Type 0} (number : Word → ℕ) (state : State → ℕ) (w s precision : ℕ) (coded : Coded) (count : ℕ) (old : RangeKept Word State)
+    (within : old.len ≤ length old.words) (fit : AreFit precision coded) where
+  module _ (can : CanEncode number state w s old.encoder count) (room : old.len + old.encoder.held ≤ length old.words) where
+    pub puts_room : AreKnown (items precision coded) → (new : RangeKept Word State) → new ≡ old → (e : Refusal)
+        → Room (LacksRoom number state w s (items precision coded) old.encoder old.words old.len) e → RangePuts number state w s precision coded count old new (Err e)
+    puts_room known new kept e why = record { put = tt; asked = inr (within, fit_then precision coded fit (inr (can, inr (known, inr (room, why))))); kept = kept }
 
-  module _ (can : CanEncode number state w s old.encoder (length symbols)) where
-    -- no room for the words held back
-    pub puts_full : AreKnown (items precision (coded symbols)) → (old.len + old.encoder.held ≤ length old.words → ⊥) → (needed : ℕ) → needed ≡ count_needed (old.len + old.encoder.held)
-        → RangePuts number state w s precision coded symbols old old (Err (refusals.NoSpace needed))
-    puts_full known full needed is =
-        record { put = tt; asked = inr (within, fit_then precision (coded symbols) fit (inr (can, inr (known, inl (full, ap (λ n. Err (refusals.NoSpace n)) is))))); kept = refl }
+    -- words were written, and put into the buffer, or not
+    module _ (first : Run) (first_is : first ≡ run_kept number state w s old.encoder []) (now : EncoderParts Word State) (is : IsEncoderKept number state w s now) (made added : List Word) (same : added ≡ made)
+        (all : NarrowsAll w s (items precision coded) first (run_kept number state w s now made)) where
+      known : AreKnown (items precision coded)
+      known = known_by (λ e a b. b ≡ narrowed_by w s e a) _ _ _ all
 
-    module _ (room : old.len + old.encoder.held ≤ length old.words) where
-      pub puts_room : AreKnown (items precision (coded symbols)) → (new : RangeKept Word State) → new ≡ old → (e : Refusal)
-          → Room (LacksRoom number state w s (items precision (coded symbols)) old.encoder old.words old.len) e → RangePuts number state w s precision coded symbols old new (Err e)
-      puts_room known new kept e why = record { put = tt; asked = inr (within, fit_then precision (coded symbols) fit (inr (can, inr (known, inr (room, why))))); kept = kept }
+      narrowed : NarrowsAll w s (items precision coded) (run_kept number state w s old.encoder (take old.len old.words)) (run_kept number state w s now (take old.len old.words ++ added))
+      narrowed = rw same (narrows_kept number state w s old.encoder (items precision coded) now made (rw first_is at all) (take old.len old.words))
 
-      -- words were written, and put into the buffer, or not
-      module _ (first : Run) (first_is : first ≡ run_kept number state w s old.encoder []) (now : EncoderParts Word State) (is : IsEncoderKept number state w s now) (made added : List Word) (same : added ≡ made)
-          (all : NarrowsAll w s (items precision (coded symbols)) first (run_kept number state w s now made)) where
-        known : AreKnown (items precision (coded symbols))
-        known = known_by (λ e a b. b ≡ narrowed_by w s e a) _ _ _ all
-
-        narrowed : NarrowsAll w s (items precision (coded symbols)) (run_kept number state w s old.encoder (take old.len old.words)) (run_kept number state w s now (take old.len old.words ++ added))
-        narrowed = rw same (narrows_kept number state w s old.encoder (items precision (coded symbols)) now made (rw first_is at all) (take old.len old.words))
-
-        pub puts_ended : (answer : Result (Unit {0}) Refusal) (encoder : EncoderParts Word State) (words : List Word) (len : ℕ) → OnOk answer ((encoder ≡ now) × Appended old.words old.len added words len)
-            → IfErr answer (λ e. (e ≡ refusals.NoSpace (old.len + length added)) ⊎ ((e ≡ refusals.NoMemory) × (2 ^ 64 ≤ old.len + length added))) → OnErr answer (length old.words < old.len + length added)
-            → OnErr answer ((encoder ≡ old.encoder) × (words ≡ old.words) × (len ≡ old.len))
-            → RangePuts number state w s precision coded symbols old (record { encoder = encoder; words = words; len = len }) answer
-        puts_ended (Ok u) encoder words len ended err full kept = record {
-          put = record { narrowed = rw (ended.0, ended.1.words) narrowed; is = rw ended.0 is; added = added; appended = ended.1 };
-          asked = inr (within, fit_then precision (coded symbols) fit (inr (can, inr (known, inr (room, tt)))));
-          kept = tt;
-        }
-        puts_ended (Err e) encoder words len ended err full kept =
-            let count = length-append (take old.len old.words) added in
-            let lacks : LacksRoom number state w s (items precision (coded symbols)) old.encoder old.words old.len (old.len + length added) =
-            record { less = full; new = now; words = take old.len old.words ++ added; narrowed = narrowed; is = is; count = omega (arith, count, length-take old.len old.words, within) } in
-            puts_room known (record { encoder = encoder; words = words; len = len }) (rw (kept.0, kept.1, kept.2) refl) e (room_of _ e (old.len + length added) err lacks)
-
--- an encode of the same items, handed in otherwise
-module _ {Word State : Type 0} (number : Word → ℕ) (state : State → ℕ) (w s precision : ℕ) (coded other : List ℕ → Coded) (symbols others : List ℕ) (old new : RangeKept Word State) (answer : Result (Unit {0}) Refusal) where
-  abbrev behind : ℕ → List (Item ℕ) → Type 0
-  behind count xs = Asks refusals.InvalidData (CanEncode number state w s old.encoder count) (Asks refusals.ImpossibleSymbol (AreKnown xs)
-      (Asks (refusals.NoSpace (count_needed (old.len + old.encoder.held))) (old.len + old.encoder.held ≤ length old.words) (Else (Room (LacksRoom number state w s xs old.encoder old.words old.len))))) answer
-
-  pub puts_as : items precision (coded symbols) ≡ items precision (other others) → length symbols ≡ length others → AreFit precision (coded symbols) → AreFit precision (other others)
-      → RangePuts number state w s precision coded symbols old new answer → RangePuts number state w s precision other others old new answer
-  puts_as is same fit fit' call = record {
-    put = subst (λ (xs : List (Item ℕ)). OnOk answer (IsEncodedBy number state w s xs old.encoder old.words old.len new.encoder new.words new.len)) is call.put;
-    asked = elim call.asked [
-      | inl past ↦ inl past
-      | inr goes ↦ inr (
-        goes.0,
-        fit_then precision (other others) fit'
-            (subst (λ (n : ℕ). behind n (items precision (other others))) same (subst (λ (xs : List (Item ℕ)). behind (length symbols) xs) is (fit_behind precision (coded symbols) fit goes.1))),
-      )
-    ];
-    kept = call.kept;
-  }
+      pub puts_ended : (answer : Result (Unit {0}) Refusal) (encoder : EncoderParts Word State) (words : List Word) (len : ℕ) → OnOk answer ((encoder ≡ now) × Appended old.words old.len added words len)
+          → IfErr answer (λ e. (e ≡ refusals.NoSpace (old.len + length added)) ⊎ ((e ≡ refusals.NoMemory) × (2 ^ 64 ≤ old.len + length added))) → OnErr answer (length old.words < old.len + length added)
+          → OnErr answer ((encoder ≡ old.encoder) × (words ≡ old.words) × (len ≡ old.len))
+          → RangePuts number state w s precision coded count old (record { encoder = encoder; words = words; len = len }) answer
+      puts_ended (Ok u) encoder words len ended err full kept = record {
+        put = record { narrowed = rw (ended.0, ended.1.words) narrowed; is = rw ended.0 is; added = added; appended = ended.1 };
+        asked = inr (within, fit_then precision coded fit (inr (can, inr (known, inr (room, tt)))));
+        kept = tt;
+      }
+      puts_ended (Err e) encoder words len ended err full kept =
+          let long = length-append (take old.len old.words) added in
+          let lacks : LacksRoom number state w s (items precision coded) old.encoder old.words old.len (old.len + length added) =
+          record { less = full; new = now; words = take old.len old.words ++ added; narrowed = narrowed; is = is; count = omega (arith, long, length-take old.len old.words, within) } in
+          puts_room known (record { encoder = encoder; words = words; len = len }) (rw (kept.0, kept.1, kept.2) refl) e (room_of _ e (old.len + length added) err lacks)
 
 -- ---- seals
 module _ {Word State : Type 0} (number : Word → ℕ) (state : State → ℕ) (w s : ℕ) (old : RangeKept Word State) (within : old.len ≤ length old.words) (is : IsEncoderKept number state w s old.encoder) where

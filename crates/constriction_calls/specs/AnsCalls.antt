@@ -1,13 +1,12 @@
 -- Contracts of the stack coder's calls: what each call does with the caller's coder, and when it returns each error.
 use Rattle.std.specs.Prelude.{◌≡◌, ℕ, ◌+◌, ◌<◌, ◌≤◌, List, [], Result, length, map, reverse, OnErr, OnOk}
-use Rattle.constriction_base.specs.Models.{AreKnown, Item}
+use Rattle.constriction_base.specs.Models.{AreKnown, AreModels, Item}
 use Rattle.constriction_stack.specs.Ans.{AnsState, IsValid, exported}
 use Rattle.constriction_base.specs.Writing.{IsOneAbove}
 use Rattle.constriction_stack.specs.Binary.{binary_words}
 use Rattle.constriction_stack.specs.Symbols.{DecodesAll, EncodesAll}
 use Rattle.constriction_inputs.specs.Buffers.{Appended, stack_in}
 use Rattle.constriction_inputs.specs.Coded.{AsksFit, Coded, items}
-use Rattle.constriction_inputs.specs.Intervals.{as_intervals}
 use Rattle.constriction_inputs.specs.Refusals.{Asks, Else, Memory, Never, Room}
 use Rattle.constriction_inputs.specs.Weights.{by_weights}
 use Rattle.constriction_inputs.specs.declared.refusal.Refusal.{Refusal}
@@ -48,6 +47,13 @@ abbrev pub PutsItems : {Word State : Type 0} → (Word → ℕ) → (State → �
 PutsItems {Word} number state w s items old new = (added : List Word) × Appended old.words old.len added new.words new.len
     × EncodesAll w s items (record { head = state old.head; words = [] }) (record { head = state new.head; words = map number (reverse added) })
 
+-- Encoding the items from the last to the first, from a head and no words, writes the added words and leads to the new
+-- head.
+pub record CodesAlone {Word State : Type 0} (number : Word → ℕ) (state : State → ℕ) (w s : ℕ) (items : List (Item ℕ)) (head : State)
+    (added : List Word) (new_head : State) : Type 0 where
+  pub models : AreModels w items
+  pub coded : EncodesAll w s (reverse items) (record { head = state head; words = [] }) (record { head = state new_head; words = map number (reverse added) })
+
 -- The errors of encoding items: `ImpossibleSymbol` if a model has no entry for its symbol. After this check, `NoSpace`
 -- or `NoMemory` can come.
 abbrev pub AsksItems : ℕ → ℕ → List (Item ℕ) → ℕ → AnsState → Result (Unit {0}) Refusal → Type 0
@@ -82,12 +88,6 @@ abbrev pub AnsPutsBy : {Word State N M : Type 0} → numbers.Ghosts Word N → n
     → State → List Word → ℕ → State → List Word → ℕ → Result (Unit {0}) Refusal → Type 0
 AnsPutsBy word state precision coded head words len new_head new_words new_len answer =
     AnsPuts word.number state.number word.BITS state.BITS precision coded (coder_of head words len) (coder_of new_head new_words new_len) answer
-
--- `AnsPutsBy` for intervals, each given by its start and its length.
-abbrev pub AnsPutsIntervals : {Word State P N M : Type 0} → numbers.Ghosts Word N → numbers.Ghosts State M → ℕ → (P → ℕ) → List P → List P
-    → State → List Word → ℕ → State → List Word → ℕ → Result (Unit {0}) Refusal → Type 0
-AnsPutsIntervals word state precision number lefts ps head words len new_head new_words new_len answer =
-    AnsPutsBy word state precision (as_intervals (map number lefts) (map number ps)) head words len new_head new_words new_len answer
 
 -- `AnsTakes` with the numbers and sizes in bits of two types: of words and of heads. The buffer stays as it is.
 abbrev pub AnsTakesBy : {Word State N M : Type 0} → numbers.Ghosts Word N → numbers.Ghosts State M → ℕ → (List ℕ → Coded)

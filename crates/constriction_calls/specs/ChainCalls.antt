@@ -70,6 +70,10 @@ pub record LacksCompressed (w s P : ℕ) (items : List ℕ → List (Item ℕ)) 
   pub needs : NeedsWord w P last.h
   pub ended : last.compressed ≡ []
 
+-- Encoding the item onto this state reads a word of the remainders.
+abbrev pub NeedsRemainders : ℕ → ℕ → ChainState → Item ℕ → Type 0
+NeedsRemainders w s state item = AtEntry item.model.precision item.model.table item.symbol (λ e. state.r < e.p * least w s e.precision)
+
 -- The remainders end too early: after the items `first`, encoding `item` needs a word, and no word is left.
 pub record LacksRemainders (w s : ℕ) (items : List (Item ℕ)) (old : ChainState) : Type 0 where
   pub first : List (Item ℕ)
@@ -78,7 +82,7 @@ pub record LacksRemainders (w s : ℕ) (items : List (Item ℕ)) (old : ChainSta
   pub last : ChainState
   pub parts : items ≡ first ++ item ∷ others
   pub put : PutsBackAll w s first old last
-  pub needs : AtEntry item.model.precision item.model.table item.symbol (λ e. last.r < e.p * least w s e.precision)
+  pub needs : NeedsRemainders w s last item
   pub ended : last.remainders ≡ []
 
 -- After decoding `count` symbols there are `n` words of remainders, but their buffer holds only `size` words.

@@ -1,6 +1,7 @@
 pub mod AnsCalls
 pub mod ChainCalls
 pub mod ChainFits
+pub mod ChainItems
 pub mod ChainWords
 pub mod NarrowSymbols
 pub mod RangeCalls

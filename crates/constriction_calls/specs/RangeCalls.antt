@@ -10,7 +10,6 @@ use Rattle.constriction_queue.specs.States.{IsPosition}
 use Rattle.constriction_queue.specs.Symbols.{FindsAll, MayEnd, NarrowsAll}
 use Rattle.constriction_inputs.specs.Buffers.{Appended}
 use Rattle.constriction_inputs.specs.Coded.{AsksFit, Coded, items}
-use Rattle.constriction_inputs.specs.Intervals.{as_intervals}
 use Rattle.constriction_inputs.specs.Refusals.{Asks, Else, Never, Room, Words}
 use Rattle.constriction_inputs.specs.Weights.{by_weights}
 use Rattle.constriction_inputs.specs.declared.refusal.Refusal.{Refusal}
@@ -94,31 +93,32 @@ kept_in encoder words len = record { encoder = encoder; words = words; len = len
 abbrev pub IsNew : {Word State : Type 0} → (Word → ℕ) → (State → ℕ) → ℕ → ℕ → EncoderParts Word State → Type 0
 IsNew number state w s e = IsEncoderKept number state w s e × (run_kept number state w s e [] ≡ initial s)
 
--- The contract of an encode call. `old` and `new` are the encoder and its buffer before and after the call.
-pub record RangePuts {Word State : Type 0} (number : Word → ℕ) (state : State → ℕ) (w s precision : ℕ) (coded : List ℕ → Coded) (symbols : List ℕ)
+-- Encoding the items narrows the run `old` to the run of an encoder with these numbers, which has written `words`.
+pub record Narrowed {Word State S : Type 0} (number : Word → ℕ) (state : State → ℕ) (w s : ℕ) (items : List (Item S)) (old : Run)
+    (words : List Word) (new : EncoderParts Word State) : Type 0 where
+  pub narrowed : NarrowsAll w s items old (run_kept number state w s new words)
+  pub is : IsEncoderKept number state w s new
+
+-- The contract of an encode call with `count` items. `old` and `new` are the encoder and its buffer before and after
+-- the call.
+pub record RangePuts {Word State : Type 0} (number : Word → ℕ) (state : State → ℕ) (w s precision : ℕ) (coded : Coded) (count : ℕ)
     (old new : RangeKept Word State) (answer : Result (Unit {0}) Refusal) : Type 0 where
   -- The call encodes the items in order.
-  pub put : OnOk answer (IsEncodedBy number state w s (items precision (coded symbols)) old.encoder old.words old.len new.encoder new.words new.len)
-  -- The call checks in this order: the words in use are within the buffer, the arguments make models, the encoder can
-  -- count the symbols, each model has an entry for its symbol, and the buffer can hold the words in use and pending words.
-  pub asked : Asks WrongLength (old.len ≤ length old.words) (AsksFit precision (coded symbols)
-      (Asks InvalidData (CanEncode number state w s old.encoder (length symbols)) (Asks ImpossibleSymbol (AreKnown (items precision (coded symbols)))
+  pub put : OnOk answer (IsEncodedBy number state w s (items precision coded) old.encoder old.words old.len new.encoder new.words new.len)
+  -- The call checks in this order: the words in use are within the buffer, the arguments make items, the encoder can
+  -- count the items, each model has an entry for its symbol, and the buffer can hold the words in use and pending words.
+  pub asked : Asks WrongLength (old.len ≤ length old.words) (AsksFit precision coded
+      (Asks InvalidData (CanEncode number state w s old.encoder count) (Asks ImpossibleSymbol (AreKnown (items precision coded))
       (Asks (NoSpace (count_needed (old.len + old.encoder.held))) (old.len + old.encoder.held ≤ length old.words)
-      (Else (Room (LacksRoom number state w s (items precision (coded symbols)) old.encoder old.words old.len))))))) answer
+      (Else (Room (LacksRoom number state w s (items precision coded) old.encoder old.words old.len))))))) answer
   pub kept : OnErr answer (new ≡ old)
 
 -- `RangePuts` with the numbers and sizes in bits of two types: of words and of interval ends. The encoder, the buffer
 -- and the number of words in use come first as they are before the call, and then as they are after it.
-abbrev pub RangePutsBy : {Word State N M : Type 0} → numbers.Ghosts Word N → numbers.Ghosts State M → ℕ → (List ℕ → Coded) → List ℕ
+abbrev pub RangePutsBy : {Word State N M : Type 0} → numbers.Ghosts Word N → numbers.Ghosts State M → ℕ → Coded → ℕ
     → EncoderParts Word State → List Word → ℕ → EncoderParts Word State → List Word → ℕ → Result (Unit {0}) Refusal → Type 0
-RangePutsBy word state precision coded symbols encoder words len new_encoder new_words new_len answer =
-    RangePuts word.number state.number word.BITS state.BITS precision coded symbols (kept_in encoder words len) (kept_in new_encoder new_words new_len) answer
-
--- `RangePutsBy` for intervals, each given by its start and its length.
-abbrev pub RangePutsIntervals : {Word State P N M : Type 0} → numbers.Ghosts Word N → numbers.Ghosts State M → ℕ → (P → ℕ) → List P → List P
-    → EncoderParts Word State → List Word → ℕ → EncoderParts Word State → List Word → ℕ → Result (Unit {0}) Refusal → Type 0
-RangePutsIntervals word state precision number lefts ps encoder words len new_encoder new_words new_len answer =
-    RangePutsBy word state precision (as_intervals (map number lefts)) (map number ps) encoder words len new_encoder new_words new_len answer
+RangePutsBy word state precision coded count encoder words len new_encoder new_words new_len answer =
+    RangePuts word.number state.number word.BITS state.BITS precision coded count (kept_in encoder words len) (kept_in new_encoder new_words new_len) answer
 
 -- The words are those of the run, completed with a seal.
 abbrev pub IsSealed : ℕ → ℕ → Run → List ℕ → Type 0

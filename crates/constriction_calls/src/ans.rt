@@ -3,7 +3,7 @@
 //! The caller keeps the coder's state: a head, and a buffer of the words below the head. The first `len` words of the
 //! buffer are in use, and the last of them is the top word.
 //!
-//! - [`encoding`]: encoding symbols.
+//! - [`encoding`]: encoding items, which are symbols with models, or intervals.
 //! - [`decoding`]: decoding symbols.
 //! - [`words`]: exporting and importing the words of a state.
 //!
@@ -32,8 +32,9 @@
 //! ```
 //! let weights = [8388608u32, 8388608];
 //! let models = Weights { weights: &weights };
+//! let items = Symbols { models, symbols: &[1usize, 0] };
 //! let (mut head, mut words, mut len) = (0u64, [0u32; 4], 0);
-//! encode_reverse::<_, _, u32, _, 24>(alloc, &mut head, &mut words, &mut len, &models, &[1, 0])?;
+//! encode_reverse::<_, _, u32, _, 24>(alloc, &mut head, &mut words, &mut len, &items)?;
 //! let mut symbols = [0; 2];
 //! decode::<_, _, u32, _, 24>(alloc, &mut head, &words, &mut len, &models, &mut symbols)?; // symbols is [1, 0]
 //! ```

@@ -30,7 +30,7 @@ mod encoding;
 mod words;
 
 pub use decoding::{decode, decode_by_weights, decode_narrow};
-pub use encoding::{encode_intervals_reverse, encode_narrow_reverse, encode_reverse};
+pub use encoding::encode_reverse;
 pub use words::{
     from_binary, from_compressed, from_remainders, into_binary, into_compressed, into_remainders,
 };

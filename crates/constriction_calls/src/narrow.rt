@@ -1,25 +1,8 @@
-//! Conversions between symbols of a narrow type, such as bytes, and numbers of type `usize`.
+//! Conversions of decoded numbers of type `usize` to symbols of a narrow type, such as bytes.
 
-ghost use Rattle.std.specs.Prelude.{◌≡◌, ◌↔◌, ◌≤◌, ◌%◌, ◌^◌, length, map, IfSome, IsTrue};
-ghost use Rattle.constriction_base.specs.Models.{AreKnown, items_of};
-ghost use Rattle.constriction_inputs.specs.Weights.{weights_model};
+ghost use Rattle.std.specs.Prelude.{◌≡◌, ◌↔◌, ◌≤◌, ◌%◌, ◌^◌, length, map, IsTrue};
 
-use constriction_inputs::known::is_known;
 use constriction_words::{BitArray, WordOf};
-use std::alloc::Global;
-
-/// Converts each symbol to `usize`. Returns `None` if there is no memory for the list.
-pub(crate) fn widened<S: WordOf<usize>>(alloc: Global, symbols: &[S]) -> Option<Vec<usize>>
-    ensures { IfSome result (λ wide. wide.items ≡ map S.number symbols.now) }
-{
-    let Ok(mut wide) = Vec::with_capacity(alloc, symbols.len()) else {
-        return None;
-    };
-    for i in 0..symbols.len() {
-        wide.push_reserved(symbols[i].to_index());
-    }
-    Some(wide)
-}
 
 /// Sets each symbol to the lowest `S::BITS` bits of the number at the same index of `wide`.
 ///
@@ -31,22 +14,6 @@ pub(crate) fn narrow_into<S: WordOf<usize>>(wide: &[usize], symbols: &mut [S])
     for i in 0..symbols.len() {
         symbols[i] = S::narrow(wide[i]);
     }
-}
-
-/// Returns whether each symbol has a weight above 0 in `weights`. The call needs no memory.
-pub(crate) fn are_known<P: BitArray, S: WordOf<usize>, const PRECISION: usize>(
-    weights: &[P],
-    symbols: &[S],
-) -> bool
-    ensures { IsTrue result ↔ AreKnown
-        (items_of (weights_model PRECISION (map P.number weights.now)) (map S.number symbols.now)) }
-{
-    for i in 0..symbols.len() {
-        if !is_known::<P, PRECISION>(weights, symbols[i].to_index()) {
-            return false;
-        }
-    }
-    true
 }
 
 /// Returns whether all numbers below `count` fit the symbol type `S`.

@@ -1,10 +1,11 @@
 pub mod Asking
 pub mod FamilyCounts
 pub mod FamilyTables
-pub mod IntervalRows
+pub mod IntervalPlaces
 pub mod KnownRows
 pub mod Listing
 pub mod MixtureTables
 pub mod Pairs
+pub mod Places
 pub mod RowTables
 pub mod RowWeights

@@ -1,8 +1,10 @@
 -- Rows of weights, taken from the first on.
-use Rattle.std.proofs.Common.{◌≡◌, ℕ, suc, ◌+◌, ◌-◌, ◌*◌, List, ◌∷◌, map, take, drop, arith, refl, sym, ap, ◌∙◌, ◌++◌, [], append_assoc, ◌↔◌, Bool, false, IsTrue}
+use Rattle.std.proofs.Common.{◌≡◌, ℕ, zero, suc, ◌<◌, get_or, ◌+◌, ◌-◌, ◌*◌, List, ◌∷◌, map, take, drop, arith, refl, sym, ap, subst, ◌∙◌, ◌++◌, [], append_assoc, ◌↔◌, Bool, false, IsTrue}
+use Rattle.std.proofs.Math.Nat.{mul-suc}
 use Rattle.std.proofs.lemmas.List.{drop-drop, map_push, take-map}
 use Rattle.constriction_base.specs.Tables.{table_of}
 use Rattle.constriction_base.proofs.Guards.{map-drop}
+use Rattle.constriction_inputs.specs.Mixtures.{row_of_place}
 use Rattle.constriction_inputs.specs.Rows.{AreTotals, row_tables}
 use Rattle.constriction_inputs.specs.Weights.{IsTotal}
 use Rattle.std.proofs.lemmas.Bool.{false≢true}
@@ -34,3 +36,27 @@ push_table table rows row first left others all is split before = rw (map_push t
 -- where one isn't, not all are
 pub not_all : (test : Bool) (one all : Type 0) → (IsTrue test ↔ one) → test ≡ false → (all → one) → (IsTrue false → all) × (all → IsTrue false)
 not_all test one all is fails of = (λ yes. absurd (false≢true yes), λ every. sym fails ∙ is.1 (of every))
+
+-- ---- the row at a place
+-- it begins behind the first row and as many as stand before it
+row_start : (width k : ℕ) → width + width * k ≡ width * suc k
+row_start width k = (let next = mul-suc width k in omega (arith, next))
+
+row_behind : (width k : ℕ) (ws : List ℕ) → drop (width * k) (drop width ws) ≡ drop (width * suc k) ws
+row_behind width k ws = drop-drop (width * k) width ws ∙ ap (λ (n : ℕ). drop n ws) (row_start width k)
+
+-- each of the rows adds up
+pub each_total : (precision width : ℕ) (ws : List ℕ) (count : ℕ) → AreTotals precision width count ws → (k : ℕ) → k < count → IsTotal precision (row_of_place width k ws)
+each_total precision width ws zero totals k within = absurd (omega arith)
+each_total precision width ws (suc count) totals zero within =
+    let none : 0 ≡ width * 0 = omega arith in
+    subst (λ (n : ℕ). IsTotal precision (take width (drop n ws))) none totals.0
+each_total precision width ws (suc count) totals (suc k) within =
+    subst (λ (rest : List ℕ). IsTotal precision (take width rest)) (row_behind width k ws) (each_total precision width (drop width ws) count totals.1 k (omega arith))
+
+-- its table
+pub row_table_at : (width : ℕ) (ws : List ℕ) (count k : ℕ) → k < count → get_or (row_tables width count ws) k [] ≡ table_of (row_of_place width k ws)
+row_table_at width ws zero k within = absurd (omega arith)
+row_table_at width ws (suc count) zero within = (let none : 0 ≡ width * 0 = omega arith in ap (λ (n : ℕ). table_of (take width (drop n ws))) none)
+row_table_at width ws (suc count) (suc k) within =
+    row_table_at width (drop width ws) count k (omega arith) ∙ ap (λ (rest : List ℕ). table_of (take width rest)) (row_behind width k ws)

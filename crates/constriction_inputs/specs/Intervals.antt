@@ -23,16 +23,6 @@ interval_items precision lefts ps =
 abbrev pub AreIntervals : ℕ → List ℕ → List ℕ → Type 0
 AreIntervals precision lefts ps = AllByRecursion (λ (pair : ℕ × ℕ). IsIntervalWithin precision pair.0 pair.1) (zip lefts ps)
 
--- The lists are equally long, and each start and its length make an interval of the numbers below 2 ^ precision.
-abbrev pub MakeIntervals : {P : Type 0} → (P → ℕ) → ℕ → List P → List P → Type 0
-MakeIntervals number precision lefts ps = (length lefts ≡ length ps) × AreIntervals precision (map number lefts) (map number ps)
-
--- The rows of three weights for the intervals, one row after another.
-abbrev pub rows_between : ℕ → List ℕ → List ℕ → List ℕ
-rows_between precision [] ps = []
-rows_between precision (left ∷ lefts) [] = []
-rows_between precision (left ∷ lefts) (p ∷ ps) = left ∷ p ∷ (2 ^ precision - (left + p)) ∷ rows_between precision lefts ps
-
 -- A caller's intervals, given by their starts and lengths, and the requirements on them.
 abbrev pub as_intervals : List ℕ → List ℕ → Coded
 as_intervals lefts ps = record {

@@ -1,6 +1,7 @@
 pub mod Buffers
 pub mod Coded
 pub mod Intervals
+pub mod Items
 pub mod Mixtures
 pub mod Quantized
 pub mod QuantizedCalls

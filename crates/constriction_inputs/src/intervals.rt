@@ -1,97 +1,100 @@
-//! Rows of three weights, made from intervals that a caller passes without the rest of their models.
+//! [`Intervals`]: items that a caller passes as intervals, without the rest of their models.
 //!
-//! In each row's table, symbol 1 has the interval, symbol 0 has the quantiles below the interval, and symbol 2 has the
-//! quantiles above the interval. A coder encodes the interval when it encodes symbol 1 with the row as the model.
+//! The item of an interval is symbol 1 in a table of three symbols: symbol 0 has the quantiles below the interval, and
+//! symbol 2 the quantiles above it. No table is made.
 
-ghost use Rattle.std.specs.Prelude.{◌≡◌, ◌≢◌, ◌↔◌, ◌⊎◌, ◌*◌, ◌+◌, ◌^◌, ◌≤◌, length, map, IsTrue, IfOk, IfErr, OnOk};
-ghost use Rattle.std.specs.Prelude.{IfSome, IsErrOf, IsSome, [], ◌∷◌};
-ghost use Rattle.constriction_base.specs.Models.{items_of};
-ghost use Rattle.constriction_inputs.specs.Coded.{AreFit};
-ghost use Rattle.constriction_inputs.specs.Intervals.{IsIntervalWithin, AreIntervals, interval_items, rows_between};
-ghost use Rattle.constriction_inputs.specs.Intervals.{MakeIntervals, as_intervals};
-ghost use Rattle.constriction_inputs.specs.Rows.{AreTotals, row_items};
-ghost use Rattle.constriction_inputs.specs.Weights.{IsTotal, weights_model};
-ghost use Rattle.constriction_inputs.specs.declared.refusal.Refusal.TheVariants as refusals;
+ghost use Rattle.std.specs.Prelude.{◌≡◌, ◌↔◌, ◌≤◌, ◌<◌, ◌+◌, ◌^◌, ℕ, get_or, length, map, IsTrue};
+ghost use Rattle.constriction_inputs.specs.Intervals.{IsIntervalWithin, AreIntervals, as_intervals, interval_items};
 
+use crate::items::{ItemList, Items};
 use crate::refusal::Refusal;
 use constriction_base::weights::starts::ones;
-use constriction_words::BitArray;
-use std::alloc::{AllocError, Global};
+use constriction_words::{BitArray, Reciprocal};
+use std::alloc::Global;
 
-/// Returns a row of three weights for each interval, and a list that has the number 1 for each row.
+/// Intervals of quantiles. Interval `i` begins at quantile `lefts[i]` and has the length `ps[i]`.
 ///
-/// Interval `i` starts at quantile `lefts[i]` and has `ps[i]` quantiles. The first list returned has the rows one after
-/// another. In the table of each row, symbol 1 has the interval. So a coder that encodes the second list with the rows
-/// as models encodes the intervals.
-///
-/// # Errors
-///
-/// The call checks for errors in this order:
-///
-/// - `WrongLength`: `lefts` and `ps` differ in length.
-/// - `WrongInterval`: an interval is empty or ends past `2 ^ PRECISION`.
-/// - `NoMemory`: there is no memory for the rows or the symbols.
+/// No interval may be empty or end past `2 ^ PRECISION`.
 ///
 /// # Examples
 ///
 /// ```
-/// rows_by_intervals::<u8, 4>(alloc, &[3], &[5])? // ([3, 5, 8], [1])
+/// let items = Intervals { lefts: &[3u8, 0], ps: &[5, 16] }; // two intervals, at a precision of 4 bits or more
 /// ```
-pub fn rows_by_intervals<P: BitArray, const PRECISION: usize>(
-    alloc: Global,
-    lefts: &[P],
-    ps: &[P],
-) -> Result<(Vec<P>, Vec<usize>), Refusal>
-    requires { (1 ≤ PRECISION) × (PRECISION ≤ P.BITS) }
-    ensures ok { IfOk result (λ made. row_items PRECISION 3 (map P.number made.0.items) made.1.items
-        ≡ interval_items PRECISION (map P.number lefts.now) (map P.number ps.now)) }
-    ensures totals { IfOk result (λ made. AreTotals PRECISION 3 (length lefts.now) (map P.number made.0.items)) }
-    ensures counted { IfOk result
-        (λ made. (length made.0.items ≡ 3 * length lefts.now) × (length made.1.items ≡ length lefts.now)) }
-    ensures intervals { OnOk result (MakeIntervals P.number PRECISION lefts.now ps.now) }
-    ensures wrong_length { IsErrOf result refusals.WrongLength ↔ (length lefts.now ≢ length ps.now) }
-    ensures wrong_interval { IsErrOf result refusals.WrongInterval
-        ↔ ((length lefts.now ≡ length ps.now)
-        × (AreIntervals PRECISION (map P.number lefts.now) (map P.number ps.now) → ⊥)) }
-    ensures err { IfErr result
-        (λ e. (e ≡ refusals.WrongLength) ⊎ (e ≡ refusals.WrongInterval) ⊎ (e ≡ refusals.NoMemory)) }
-{
-    if lefts.len() != ps.len() {
-        return Err(Refusal::WrongLength);
-    }
-    if !are_intervals::<P, PRECISION>(lefts, ps) {
-        return Err(Refusal::WrongInterval);
-    }
-    let Ok(rows) = rows_made::<P, PRECISION>(alloc, lefts, ps) else {
-        return Err(Refusal::NoMemory);
-    };
-    let Ok(symbols) = vec![in alloc; 1usize; lefts.len()] else {
-        return Err(Refusal::NoMemory);
-    };
-    Ok((rows, symbols))
+#[derive(Clone, Copy, Drop)]
+pub struct Intervals<'a, P> {
+    pub lefts: &'a [P],
+    pub ps: &'a [P],
 }
 
-/// Returns three weights for a single interval: the numbers of quantiles below, in and above the interval.
-///
-/// So symbol 1 has the interval in the table of these weights. The call needs no memory. It returns `None` if `lefts`
-/// or `ps` doesn't have exactly one item, or if the interval is empty or ends past `2 ^ PRECISION`.
-#[inline]
-pub fn row_of_one<P: BitArray, const PRECISION: usize>(lefts: &[P], ps: &[P]) -> Option<[P; 3]>
-    requires { (1 ≤ PRECISION) × (PRECISION ≤ P.BITS) }
-    ensures items { IfSome result (λ row. items_of (weights_model PRECISION (map P.number row)) (1 ∷ [])
-        ≡ interval_items PRECISION (map P.number lefts.now) (map P.number ps.now)) }
-    ensures total { IfSome result (λ row. IsTotal PRECISION (map P.number row)) }
-    ensures variant { IsSome result ↔ ((length lefts.now ≡ 1)
-        × AreFit PRECISION (as_intervals (map P.number lefts.now) (map P.number ps.now))) }
-{
-    if lefts.len() != 1 || ps.len() != 1 {
-        return None;
+/// Intervals that are checked. A look-up reads an interval, and needs no memory.
+#[derive(Drop)]
+pub struct CheckedIntervals<'a, P: BitArray, const PRECISION: usize> {
+    lefts: &'a [P],
+    ps: &'a [P],
+    ghost positive: { 1 ≤ PRECISION },
+    ghost fits: { PRECISION ≤ P.BITS },
+    ghost same: { length lefts.now ≡ length ps.now },
+    ghost some: { (k : ℕ) → k < length lefts.now → 0 < get_or (map P.number ps.now) k 0 },
+    ghost inside: { (k : ℕ) → k < length lefts.now
+        → get_or (map P.number lefts.now) k 0 + get_or (map P.number ps.now) k 0 ≤ 2 ^ PRECISION },
+}
+
+impl<'a, P: BitArray, const PRECISION: usize> Items<P, PRECISION> for Intervals<'a, P> {
+    type List = CheckedIntervals<'a, P, PRECISION>;
+
+    ghost coded = { λ given. as_intervals (map P.number given.lefts.now) (map P.number given.ps.now) };
+
+    ghost item_count = { λ given. length given.ps.now };
+
+    #[inline]
+    fn count(&self) -> usize {
+        self.ps.len()
     }
-    let (left, p) = (lefts[0], ps[0]);
-    if is_interval::<P, PRECISION>(left, p) {
-        Some([left, p, above::<P, PRECISION>(left, p)])
-    } else {
-        None
+
+    fn check(&self) -> Result<(), Refusal> {
+        if self.lefts.len() != self.ps.len() {
+            return Err(Refusal::WrongLength);
+        }
+        if !are_intervals::<P, PRECISION>(self.lefts, self.ps) {
+            return Err(Refusal::WrongInterval);
+        }
+        Ok(())
+    }
+
+    fn know(&self) -> bool {
+        true
+    }
+
+    #[inline]
+    fn list(&self, _alloc: Global, _divides: bool) -> Option<CheckedIntervals<'a, P, PRECISION>> {
+        Some(CheckedIntervals {
+            lefts: self.lefts,
+            ps: self.ps,
+        })
+    }
+}
+
+impl<'a, P: BitArray, const PRECISION: usize> ItemList<P, PRECISION>
+    for CheckedIntervals<'a, P, PRECISION> {
+    const LOOKS_AHEAD: bool = false;
+
+    ghost list_items = { λ list. interval_items PRECISION (map P.number list.lefts.now) (map P.number list.ps.now) };
+
+    #[inline]
+    fn count(&self) -> usize {
+        self.lefts.len()
+    }
+
+    #[inline(always)]
+    fn interval(
+        &mut self,
+        place: usize,
+    ) -> Option<(P, <P as BitArray>::NonZero, Option<Reciprocal>)> {
+        match self.ps[place].to_nonzero() {
+            Some(p) => Some((self.lefts[place], p, None)),
+            None => None,
+        }
     }
 }
 
@@ -121,44 +124,4 @@ fn are_intervals<P: BitArray, const PRECISION: usize>(lefts: &[P], ps: &[P]) -> 
         }
     }
     true
-}
-
-/// Returns the number of quantiles above the interval `[left, left + p)`, which is `2 ^ PRECISION - left - p`.
-///
-/// The caller proves that the interval isn't empty, and that `left + p` is at most `2 ^ PRECISION`.
-fn above<P: BitArray, const PRECISION: usize>(left: P, p: P) -> P
-    requires sizes { (1 ≤ PRECISION) × (PRECISION ≤ P.BITS) }
-    requires interval { IsIntervalWithin PRECISION (P.number left) (P.number p) }
-    ensures { P.number result + (P.number left + P.number p) ≡ 2 ^ PRECISION }
-{
-    ones::<P>(PRECISION).minus(left).minus(p.minus(P::unit()))
-}
-
-/// Returns a row of three weights for each interval `[lefts[i], lefts[i] + ps[i])`, one row after another.
-///
-/// The weights are the numbers of quantiles below, in and above the interval. The caller proves that `lefts` and `ps`
-/// have the same length, and that no interval is empty or ends past `2 ^ PRECISION`.
-///
-/// # Errors
-///
-/// The call returns `AllocError` if there is no memory for the rows.
-fn rows_made<P: BitArray, const PRECISION: usize>(
-    alloc: Global,
-    lefts: &[P],
-    ps: &[P],
-) -> Result<Vec<P>, AllocError>
-    requires sizes { (1 ≤ PRECISION) × (PRECISION ≤ P.BITS) }
-    requires counted { length lefts.now ≡ length ps.now }
-    requires intervals { AreIntervals PRECISION (map P.number lefts.now) (map P.number ps.now) }
-    ensures { IfOk result
-        (λ rows. map P.number rows.items ≡ rows_between PRECISION (map P.number lefts.now) (map P.number ps.now)) }
-{
-    let mut rows = Vec::new(alloc);
-    for i in 0..lefts.len() {
-        let (left, p) = (lefts[i], ps[i]);
-        rows.push(left)?;
-        rows.push(p)?;
-        rows.push(above::<P, PRECISION>(left, p))?;
-    }
-    Ok(rows)
 }

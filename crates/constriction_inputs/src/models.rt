@@ -12,29 +12,62 @@ mod rows;
 pub mod weights;
 pub mod weights_model;
 
-ghost use Rattle.std.specs.Prelude.{◌≡◌, ◌↔◌, ◌<◌, ◌≤◌, ℕ, List, get_or, length, map, replicate, IfSome, IsTrue};
+ghost use Rattle.std.specs.Prelude.{◌≡◌, ◌↔◌, ◌<◌, ◌≤◌, ℕ, List, [], get_or, length, map, replicate};
+ghost use Rattle.std.specs.Prelude.{IfNone, IfSome, IsTrue};
 ghost use Rattle.constriction_base.specs.Models.{AreKnown};
+ghost use Rattle.constriction_base.specs.Tables.{Impossible};
 ghost use Rattle.constriction_inputs.specs.Coded.{AreFit, AreTablesFor, AsksFit, Coded, items};
+ghost use Rattle.constriction_inputs.specs.Items.{IsEntryOf};
 ghost use Rattle.constriction_inputs.specs.Refusals.{Else, Never};
+ghost use Rattle.constriction_words.specs.Reciprocals.{IsReciprocalOf};
 
 use crate::refusal::Refusal;
+use crate::symbol::Symbol;
 use constriction_base::model::{DecoderModel, EncoderModel, EntropyModel};
-use constriction_words::BitArray;
+use constriction_words::{BitArray, Reciprocal};
 pub use families::Families;
 pub use mixtures::Mixtures;
 pub use rows::Rows;
 use std::alloc::Global;
 pub use weights::Weights;
 
-/// The models of a list of symbols, with one model for each symbol.
+/// The models of a list of symbols to encode, with one model for each symbol.
+///
+/// The implementor defines the list of the models' tables (`tables`). It proves that `interval` returns the interval
+/// that a symbol has in the table at an index.
+pub trait ModelList<P: BitArray, const PRECISION: usize>: Drop {
+    /// Whether an encoder takes less time if it finds the interval of a symbol before it takes the step of another.
+    const LOOKS_AHEAD: bool;
+
+    // The tables of the models, in order.
+    ghost tables: { Self → List (List (ℕ × ℕ × ℕ)) };
+
+    /// Returns the start and the length of a symbol's interval under the model at index `place`, in quantiles.
+    ///
+    /// The third value is the reciprocal of the length, if the list stores it. Returns `None` if the model has no entry
+    /// for the symbol. The caller proves that the list has the index. The call needs no memory.
+    fn interval(
+        &mut self,
+        place: usize,
+        symbol: usize,
+    ) -> Option<(P, <P as BitArray>::NonZero, Option<Reciprocal>)>
+        requires { place < length (tables self.now) }
+        ensures found { IfSome result (λ found. IsEntryOf PRECISION P.BITS (get_or (tables self.old) place []) symbol
+            (P.number found.0) (P.nonzero_number found.1)) }
+        ensures reciprocal { IfSome result (λ found. IfSome found.2 (λ r.
+            IsReciprocalOf r (P.nonzero_number found.1))) }
+        ensures impossible { IfNone result (Impossible (get_or (tables self.old) place []) symbol) }
+        ensures tables { tables self.new ≡ tables self.old };
+}
+
+/// The models of a list of symbols to decode, with one model for each symbol.
 ///
 /// A caller selects an index of the list with `turn_to`, and `model` then returns the model at that index. So an
 /// implementor can keep a single model in memory, and change it at each `turn_to`. The implementor defines the list of
 /// the models' tables (`tables`). It proves that `model` returns a model with the table at the selected index.
-pub trait ModelList<P: BitArray, const PRECISION: usize>: Drop {
+pub trait DecoderModelList<P: BitArray, const PRECISION: usize>: Drop {
     /// The type of the models.
-    type Model: EncoderModel<PRECISION, Symbol = usize, Probability = P>
-        + DecoderModel<PRECISION, Symbol = usize, Probability = P>;
+    type Model: DecoderModel<PRECISION, Symbol = usize, Probability = P>;
 
     // The tables of the models, in order.
     ghost tables: { Self → List (List (ℕ × ℕ × ℕ)) };
@@ -65,40 +98,41 @@ pub trait ModelList<P: BitArray, const PRECISION: usize>: Drop {
 /// - `check` returns an error if and only if the arguments aren't valid.
 /// - `know` returns whether each model has an entry for its symbol.
 /// - `list` returns the models.
-pub trait Models<P: BitArray, const PRECISION: usize> {
+pub trait Models<P: BitArray, const PRECISION: usize>: Drop {
     /// The type of the list of models.
     type List: ModelList<P, PRECISION>;
 
     // The symbols with their models, and which arguments are valid.
     ghost coded: { Self → List ℕ → Coded };
 
-    /// Checks that the caller's arguments describe a model for each symbol. The call needs no memory.
+    /// Checks that the caller's arguments describe a model for each of `count` symbols. The call needs no memory.
     ///
     /// # Errors
     ///
     /// The call checks for `WrongLength`, `WrongInterval` and `WrongWeights`, in this order. [`Refusal`] lists the
     /// cases of each error. An implementor's `coded` states which of these cases can arise. The call fails in no other
     /// case.
-    fn check(&self, symbols: &[usize]) -> Result<(), Refusal>
+    fn check(&self, count: usize) -> Result<(), Refusal>
         requires { (1 ≤ PRECISION) × (PRECISION ≤ P.BITS) }
-        ensures { AsksFit PRECISION (coded self.now symbols.now) (Else Never) result };
+        ensures { (symbols : List ℕ) → length symbols ≡ count
+            → AsksFit PRECISION (coded self.now symbols) (Else Never) result };
 
     /// Returns whether each model has an entry for its symbol. The call needs no memory.
     ///
     /// The caller proves that `check` would succeed.
-    fn know(&self, symbols: &[usize]) -> bool
-        requires { AreFit PRECISION (coded self.now symbols.now) }
-        ensures { IsTrue result ↔ AreKnown (items PRECISION (coded self.now symbols.now)) };
+    fn know<S: Symbol>(&self, symbols: &[S]) -> bool
+        requires { AreFit PRECISION (coded self.now (S.numbers symbols.now)) }
+        ensures { IsTrue result ↔ AreKnown (items PRECISION (coded self.now (S.numbers symbols.now))) };
 
-    /// Returns the models of the symbols, or `None` if there is no memory for the models.
+    /// Returns the models of `count` symbols, or `None` if there is no memory for the models.
     ///
     /// `divides` is true if the caller's coder divides by weights, as the stack coder and the chain coder do when they
     /// encode. Then the models may keep the reciprocals of the weights. The caller proves that `check` would succeed.
-    fn list(&self, alloc: Global, symbols: &[usize], divides: bool) -> Option<Self::List>
+    fn list(&self, alloc: Global, count: usize, divides: bool) -> Option<Self::List>
         requires precision { (1 ≤ PRECISION) × (PRECISION ≤ P.BITS) }
-        requires fit { AreFit PRECISION (coded self.now symbols.now) }
-        ensures count { IfSome result (λ list. length (Self.List.tables list) ≡ length symbols.now) }
-        ensures items { IfSome result (λ list. AreTablesFor PRECISION (coded self.now) (length symbols.now)
+        requires fit { (symbols : List ℕ) × (length symbols ≡ count) × AreFit PRECISION (coded self.now symbols) }
+        ensures count { IfSome result (λ list. length (Self.List.tables list) ≡ count) }
+        ensures items { IfSome result (λ list. AreTablesFor PRECISION (coded self.now) count
             (Self.List.tables list)) };
 }
 
@@ -108,17 +142,17 @@ pub trait Models<P: BitArray, const PRECISION: usize> {
 /// only [`Models`], so their proofs don't depend on that type.
 pub trait DecoderModels<P: BitArray, const PRECISION: usize>: Models<P, PRECISION> {
     /// The type of the list of models to decode with.
-    type DecoderList: ModelList<P, PRECISION>;
+    type DecoderList: DecoderModelList<P, PRECISION>;
 
-    /// Returns the models for decoding `symbols.len()` symbols, or `None` if there is no memory for the models.
+    /// Returns the models for decoding `count` symbols, or `None` if there is no memory for the models.
     ///
     /// The implementor can choose models that decode this number of symbols in less time. The caller proves that
     /// `check` would succeed.
-    fn decoder_list(&self, alloc: Global, symbols: &[usize]) -> Option<Self::DecoderList>
+    fn decoder_list(&self, alloc: Global, count: usize) -> Option<Self::DecoderList>
         requires precision { (1 ≤ PRECISION) × (PRECISION ≤ P.BITS) }
-        requires fit { AreFit PRECISION (Self.coded self.now symbols.now) }
-        ensures count { IfSome result (λ list. length (Self.DecoderList.tables list) ≡ length symbols.now) }
-        ensures items { IfSome result (λ list. AreTablesFor PRECISION (Self.coded self.now) (length symbols.now)
+        requires fit { (symbols : List ℕ) × (length symbols ≡ count) × AreFit PRECISION (Self.coded self.now symbols) }
+        ensures count { IfSome result (λ list. length (Self.DecoderList.tables list) ≡ count) }
+        ensures items { IfSome result (λ list. AreTablesFor PRECISION (Self.coded self.now) count
             (Self.DecoderList.tables list)) };
 }
 
@@ -128,9 +162,8 @@ pub trait DecoderModels<P: BitArray, const PRECISION: usize>: Models<P, PRECISIO
 ///
 /// ```
 /// let weights = Weights { weights: &[255u8, 1] };
-/// if let Some(mut list) = Models::<u8, 8>::list(&weights, alloc, &[0, 1], false) {
-///     ModelList::<u8, 8>::turn_to(&mut list, 1);
-///     ModelList::<u8, 8>::model(&list).quantile_function(255) // (1, 255, 1)
+/// if let Some(mut list) = Models::<u8, 8>::list(&weights, alloc, 2, false) {
+///     ModelList::<u8, 8>::interval(&mut list, 1, 1) // Some((255, 1, None))
 /// }
 /// ```
 #[derive(Drop)]
@@ -142,10 +175,31 @@ pub struct One<M> {
 
 impl<
     P: BitArray,
-    M: EncoderModel<PRECISION, Symbol = usize, Probability = P>
-        + DecoderModel<PRECISION, Symbol = usize, Probability = P>,
+    M: EncoderModel<PRECISION, Symbol = usize, Probability = P>,
     const PRECISION: usize,
 > ModelList<P, PRECISION> for One<M> {
+    const LOOKS_AHEAD: bool = false;
+
+    ghost tables = { λ one. replicate one.count (M.table one.model) };
+
+    #[inline(always)]
+    fn interval(
+        &mut self,
+        _place: usize,
+        symbol: usize,
+    ) -> Option<(P, <P as BitArray>::NonZero, Option<Reciprocal>)> {
+        match entry_of::<P, M, PRECISION>(&self.model, symbol) {
+            Some(found) => Some(found),
+            None => None,
+        }
+    }
+}
+
+impl<
+    P: BitArray,
+    M: DecoderModel<PRECISION, Symbol = usize, Probability = P>,
+    const PRECISION: usize,
+> DecoderModelList<P, PRECISION> for One<M> {
     type Model = M;
 
     ghost tables = { λ one. replicate one.count (M.table one.model) };
@@ -169,9 +223,9 @@ impl<
 ///
 /// ```
 /// let rows = Rows { weights: &[255u8, 1, 128, 128], width: 2 };
-/// if let Some(mut list) = Models::<u8, 8>::list(&rows, alloc, &[0, 1], false) {
-///     ModelList::<u8, 8>::turn_to(&mut list, 1);
-///     ModelList::<u8, 8>::model(&list).quantile_function(255) // (1, 128, 128)
+/// if let Some(mut list) = DecoderModels::<u8, 8>::decoder_list(&rows, alloc, 2) {
+///     DecoderModelList::<u8, 8>::turn_to(&mut list, 1);
+///     DecoderModelList::<u8, 8>::model(&list).quantile_function(255) // (1, 128, 128)
 /// }
 /// ```
 #[derive(Drop)]
@@ -182,10 +236,9 @@ pub struct Each<M> {
 
 impl<
     P: BitArray,
-    M: EncoderModel<PRECISION, Symbol = usize, Probability = P>
-        + DecoderModel<PRECISION, Symbol = usize, Probability = P>,
+    M: DecoderModel<PRECISION, Symbol = usize, Probability = P>,
     const PRECISION: usize,
-> ModelList<P, PRECISION> for Each<M> {
+> DecoderModelList<P, PRECISION> for Each<M> {
     type Model = M;
 
     ghost tables = { λ each. map M.table each.models.items };
@@ -200,5 +253,26 @@ impl<
     #[inline]
     fn model(&self) -> &M {
         &self.models[self.place]
+    }
+}
+
+/// Returns the start and the length of the symbol's interval under `model`, and the length's reciprocal if the model
+/// stores it.
+///
+/// Returns `None` if the model has no entry for the symbol.
+#[inline(always)]
+fn entry_of<
+    P: BitArray,
+    M: EncoderModel<PRECISION, Symbol = usize, Probability = P>,
+    const PRECISION: usize,
+>(model: &M, symbol: usize) -> Option<(P, <P as BitArray>::NonZero, Option<Reciprocal>)>
+    ensures found { IfSome result (λ found. IsEntryOf PRECISION P.BITS (M.table model.now) symbol (P.number found.0)
+        (P.nonzero_number found.1)) }
+    ensures reciprocal { IfSome result (λ found. IfSome found.2 (λ r. IsReciprocalOf r (P.nonzero_number found.1))) }
+    ensures impossible { IfNone result (Impossible (M.table model.now) symbol) }
+{
+    match model.left_cumulative_and_reciprocal(&symbol) {
+        Some(found) => Some(found),
+        None => None,
     }
 }

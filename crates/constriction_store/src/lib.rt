@@ -18,7 +18,7 @@ pub mod looking_up;
 pub mod parts;
 
 pub use crate::building::BuildError;
-pub use crate::looking_up::ChunkError;
+pub use crate::looking_up::{ChunkError, decoder_at};
 pub use crate::parts::BadIndex;
 use constriction_base::model::{DecoderModel, EncoderModel, EntropyModel};
 use constriction_queue::RangeCoderState;

@@ -35,11 +35,21 @@ pub enum ChunkError {
     Memory,
 }
 
-/// Returns a decoder of `words` that starts at a position.
+/// Creates a decoder of `words` at the position `place`, with the interval of `state`.
 ///
-/// `place` is the number of words before the position, and `state` is the interval at the position. The caller proves
-/// that `place` is at most the number of words.
-fn decoder_at<'a, Word: WordOf<State>, State: BitArray>(
+/// `place` is the number of words before the position. The decoder first stands past the last word, where it reads no
+/// word. Then it seeks to the position, and reads `State::BITS / Word::BITS` words there.
+///
+/// The caller proves that `place` is at most the number of words.
+///
+/// # Examples
+///
+/// ```
+/// let (place, state, len) = store.index()[0];
+/// let mut decoder = decoder_at::<u32, u64>(store.words(), place, state);
+/// decoder.decode_symbol(&table)?; // the first symbol of chunk 0, if `len` isn't 0
+/// ```
+pub fn decoder_at<'a, Word: WordOf<State>, State: BitArray>(
     words: &'a [Word],
     place: usize,
     state: RangeCoderState<Word, State>,
@@ -49,9 +59,7 @@ fn decoder_at<'a, Word: WordOf<State>, State: BitArray>(
     ensures { StandsAt Word.BITS State.BITS (map Word.number words.now)
         (run_from place (lower_of state) (range_of state)) result }
 {
-    let mut decoder = match RangeDecoder::<Word, State, Cursor<Word, &'a [Word]>>::from_compressed(
-        words,
-    ) {
+    let mut decoder = match RangeDecoder::with_backend(Cursor::new_at_write_end(words)) {
         Ok(decoder) => decoder,
         Err(never) => match never {},
     };

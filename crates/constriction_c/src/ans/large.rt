@@ -14,6 +14,7 @@ use constriction_calls::ans::decoding::decode_by_weights;
 use constriction_calls::ans::encoding::encode_reverse;
 use constriction_calls::ans::words::{from_binary, from_compressed, into_compressed};
 use constriction_inputs::models::Weights;
+use constriction_inputs::symbols::Symbols;
 use std::alloc::Global;
 
 /// Encodes symbols from the last to the first, with one table of weights for all symbols.
@@ -33,7 +34,8 @@ pub extern "C" fn constriction_ans_encode_reverse_u32(
         words.old len.old head.new words.new len.new }
 {
     let models = Weights { weights };
-    let answer = encode_reverse::<_, _, u32, _, 24>(alloc, head, words, len, &models, symbols);
+    let items = Symbols { models, symbols };
+    let answer = encode_reverse::<_, _, u32, _, 24>(alloc, head, words, len, &items);
     code_of(answer, needed)
 }
 

@@ -12,11 +12,11 @@ ghost use Rattle.std.specs.Prelude.{map};
 
 use crate::codes::{code_of, code_without_space};
 use constriction_calls::ans::decoding::{decode, decode_narrow};
-use constriction_calls::ans::encoding::{
-    encode_intervals_reverse, encode_narrow_reverse, encode_reverse,
-};
+use constriction_calls::ans::encoding::encode_reverse;
 use constriction_calls::ans::words::into_binary;
-use constriction_inputs::models::{Families, Mixtures, Rows};
+use constriction_inputs::intervals::Intervals;
+use constriction_inputs::models::{Families, Mixtures, Rows, Weights};
+use constriction_inputs::symbols::Symbols;
 use std::alloc::Global;
 
 /// Encodes symbols from the last to the first, with a row of `width` weights for each symbol.
@@ -36,8 +36,9 @@ pub extern "C" fn constriction_ans_encode_each_reverse_u16(
     ensures { AnsPutsU16 result needed.old needed.new (by_rows width (map (lowest 16) weights.now) symbols.now) head.old
         words.old len.old head.new words.new len.new }
 {
-    let rows = Rows { weights, width };
-    let answer = encode_reverse::<_, _, u16, _, 12>(alloc, head, words, len, &rows, symbols);
+    let models = Rows { weights, width };
+    let items = Symbols { models, symbols };
+    let answer = encode_reverse::<_, _, u16, _, 12>(alloc, head, words, len, &items);
     code_of(answer, needed)
 }
 
@@ -57,14 +58,14 @@ pub extern "C" fn constriction_ans_decode_each_u16(
     ensures { AnsTakesU16 result (by_rows width (map (lowest 16) weights.now)) words.now head.old len.old head.new
         len.new symbols.old symbols.new }
 {
-    let rows = Rows { weights, width };
-    let answer = decode::<_, _, u16, _, 12>(alloc, head, words, len, &rows, symbols);
+    let models = Rows { weights, width };
+    let answer = decode::<_, _, u16, _, 12>(alloc, head, words, len, &models, symbols);
     code_without_space(answer)
 }
 
 /// Encodes intervals from the last to the first. Interval `i` begins at quantile `lefts[i]` and has length `ps[i]`.
 ///
-/// Calls [`encode_intervals_reverse`] and returns the code of its result ([`code_of`]).
+/// Calls [`encode_reverse`] and returns the code of its result ([`code_of`]).
 #[unsafe(no_mangle)]
 pub extern "C" fn constriction_ans_encode_intervals_reverse_u16(
     alloc: Global,
@@ -78,7 +79,8 @@ pub extern "C" fn constriction_ans_encode_intervals_reverse_u16(
     ensures { AnsPutsU16 result needed.old needed.new (intervals_from_u16 lefts.now (map (lowest 16) ps.now)) head.old
         words.old len.old head.new words.new len.new }
 {
-    let answer = encode_intervals_reverse::<_, _, u16, 12>(alloc, head, words, len, lefts, ps);
+    let items = Intervals { lefts, ps };
+    let answer = encode_reverse::<_, _, u16, _, 12>(alloc, head, words, len, &items);
     code_of(answer, needed)
 }
 
@@ -103,7 +105,8 @@ pub extern "C" fn constriction_ans_encode_quantized_reverse_u16(
         head.old words.old len.old head.new words.new len.new }
 {
     let models = Families::new(family, min, max, locations, scales);
-    let answer = encode_reverse::<_, _, u16, _, 12>(alloc, head, words, len, &models, symbols);
+    let items = Symbols { models, symbols };
+    let answer = encode_reverse::<_, _, u16, _, 12>(alloc, head, words, len, &items);
     code_of(answer, needed)
 }
 
@@ -155,8 +158,9 @@ pub extern "C" fn constriction_ans_encode_mixture_reverse_u16(
         len.old head.new words.new len.new }
 {
     let components = Families::new(family, min, max, locations, scales);
-    let mixtures = Mixtures::new(components, component_weights, width);
-    let answer = encode_reverse::<_, _, u16, _, 12>(alloc, head, words, len, &mixtures, symbols);
+    let models = Mixtures::new(components, component_weights, width);
+    let items = Symbols { models, symbols };
+    let answer = encode_reverse::<_, _, u16, _, 12>(alloc, head, words, len, &items);
     code_of(answer, needed)
 }
 
@@ -182,14 +186,14 @@ pub extern "C" fn constriction_ans_decode_mixture_u16(
         words.now head.old len.old head.new len.new symbols.old symbols.new }
 {
     let components = Families::new(family, min, max, locations, scales);
-    let mixtures = Mixtures::new(components, component_weights, width);
-    let answer = decode::<_, _, u16, _, 12>(alloc, head, words, len, &mixtures, symbols);
+    let models = Mixtures::new(components, component_weights, width);
+    let answer = decode::<_, _, u16, _, 12>(alloc, head, words, len, &models, symbols);
     code_without_space(answer)
 }
 
 /// Encodes symbols of type `u8` from the last to the first, with one table of weights for all symbols.
 ///
-/// Calls [`encode_narrow_reverse`] and returns the code of its result ([`code_of`]).
+/// Calls [`encode_reverse`] and returns the code of its result ([`code_of`]).
 #[unsafe(no_mangle)]
 pub extern "C" fn constriction_ans_encode_bytes_reverse_u16(
     alloc: Global,
@@ -200,13 +204,12 @@ pub extern "C" fn constriction_ans_encode_bytes_reverse_u16(
     symbols: &[u8],
     needed: &mut usize,
 ) -> u32
-    ensures { AnsPutsU16 result needed.old needed.new
-        (by_weights (map (lowest 16) weights.now) (map (lowest 8) symbols.now)) head.old words.old len.old head.new
-        words.new len.new }
+    ensures { AnsPutsU16 result needed.old needed.new (by_weights (map (lowest 16) weights.now) symbols.now) head.old
+        words.old len.old head.new words.new len.new }
 {
-    let answer = encode_narrow_reverse::<_, _, u16, u8, 12>(
-        alloc, head, words, len, weights, symbols,
-    );
+    let models = Weights { weights };
+    let items = Symbols { models, symbols };
+    let answer = encode_reverse::<_, _, u16, _, 12>(alloc, head, words, len, &items);
     code_of(answer, needed)
 }
 
@@ -231,7 +234,7 @@ pub extern "C" fn constriction_ans_decode_bytes_u16(
 
 /// Encodes symbols of type `u16` from the last to the first, with one table of weights for all symbols.
 ///
-/// Calls [`encode_narrow_reverse`] and returns the code of its result ([`code_of`]).
+/// Calls [`encode_reverse`] and returns the code of its result ([`code_of`]).
 #[unsafe(no_mangle)]
 pub extern "C" fn constriction_ans_encode_shorts_reverse_u16(
     alloc: Global,
@@ -242,13 +245,12 @@ pub extern "C" fn constriction_ans_encode_shorts_reverse_u16(
     symbols: &[u16],
     needed: &mut usize,
 ) -> u32
-    ensures { AnsPutsU16 result needed.old needed.new
-        (by_weights (map (lowest 16) weights.now) (map (lowest 16) symbols.now)) head.old words.old len.old head.new
-        words.new len.new }
+    ensures { AnsPutsU16 result needed.old needed.new (by_weights (map (lowest 16) weights.now) symbols.now) head.old
+        words.old len.old head.new words.new len.new }
 {
-    let answer = encode_narrow_reverse::<_, _, u16, u16, 12>(
-        alloc, head, words, len, weights, symbols,
-    );
+    let models = Weights { weights };
+    let items = Symbols { models, symbols };
+    let answer = encode_reverse::<_, _, u16, _, 12>(alloc, head, words, len, &items);
     code_of(answer, needed)
 }
 

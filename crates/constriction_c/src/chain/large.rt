@@ -11,6 +11,7 @@ use constriction_calls::chain::{
     decode_by_weights, encode_reverse, from_compressed, into_compressed,
 };
 use constriction_inputs::models::Weights;
+use constriction_inputs::symbols::Symbols;
 use std::alloc::Global;
 
 /// The two heads of a chain coder with 32-bit words, with the fields of [`ChainHeads`].
@@ -68,9 +69,10 @@ pub extern "C" fn constriction_chain_encode_reverse_u32(
         (large_chain heads.new compressed.new count.new remainders.now rest.new) }
 {
     let models = Weights { weights };
+    let items = Symbols { models, symbols };
     let mut both = heads.parts();
-    let answer = encode_reverse::<_, _, u32, Weights<'_, u32>, 24>(
-        alloc, &mut both, compressed, count, remainders, rest, &models, symbols,
+    let answer = encode_reverse::<_, _, u32, _, 24>(
+        alloc, &mut both, compressed, count, remainders, rest, &items,
     );
     *heads = ChainHeadsU32::of(both);
     code_of(answer, needed)

@@ -13,10 +13,12 @@ ghost use Rattle.std.specs.Prelude.{map};
 use crate::chain::large::ChainHeadsU32;
 use crate::codes::{code_of, code_without_space};
 use constriction_calls::chain::{
-    decode, decode_narrow, encode_intervals_reverse, encode_narrow_reverse, encode_reverse,
-    from_binary, from_remainders, into_binary, into_remainders,
+    decode, decode_narrow, encode_reverse, from_binary, from_remainders, into_binary,
+    into_remainders,
 };
-use constriction_inputs::models::{Families, Mixtures, Rows};
+use constriction_inputs::intervals::Intervals;
+use constriction_inputs::models::{Families, Mixtures, Rows, Weights};
+use constriction_inputs::symbols::Symbols;
 use std::alloc::Global;
 
 /// Decodes symbols into `symbols`, with a row of `width` weights for each symbol.
@@ -39,10 +41,10 @@ pub extern "C" fn constriction_chain_decode_each_u32(
         (large_chain heads.old compressed.now count.old remainders.old rest.old)
         (large_chain heads.new compressed.now count.new remainders.new rest.new) symbols.old symbols.new }
 {
-    let rows = Rows { weights, width };
+    let models = Rows { weights, width };
     let mut both = heads.parts();
-    let answer = decode::<_, _, u32, Rows<'_, u32>, 24>(
-        alloc, &mut both, compressed, count, remainders, rest, &rows, symbols,
+    let answer = decode::<_, _, u32, _, 24>(
+        alloc, &mut both, compressed, count, remainders, rest, &models, symbols,
     );
     *heads = ChainHeadsU32::of(both);
     code_of(answer, needed)
@@ -68,10 +70,11 @@ pub extern "C" fn constriction_chain_encode_each_reverse_u32(
         (large_chain heads.old compressed.old count.old remainders.now rest.old)
         (large_chain heads.new compressed.new count.new remainders.now rest.new) }
 {
-    let rows = Rows { weights, width };
+    let models = Rows { weights, width };
+    let items = Symbols { models, symbols };
     let mut both = heads.parts();
-    let answer = encode_reverse::<_, _, u32, Rows<'_, u32>, 24>(
-        alloc, &mut both, compressed, count, remainders, rest, &rows, symbols,
+    let answer = encode_reverse::<_, _, u32, _, 24>(
+        alloc, &mut both, compressed, count, remainders, rest, &items,
     );
     *heads = ChainHeadsU32::of(both);
     code_of(answer, needed)
@@ -79,7 +82,7 @@ pub extern "C" fn constriction_chain_encode_each_reverse_u32(
 
 /// Encodes intervals from the last to the first. Interval `i` begins at quantile `lefts[i]` and has length `ps[i]`.
 ///
-/// Calls [`encode_intervals_reverse`] and returns the code of its result ([`code_of`]).
+/// Calls [`encode_reverse`] and returns the code of its result ([`code_of`]).
 #[unsafe(no_mangle)]
 pub extern "C" fn constriction_chain_encode_intervals_reverse_u32(
     alloc: Global,
@@ -96,9 +99,10 @@ pub extern "C" fn constriction_chain_encode_intervals_reverse_u32(
         (large_chain heads.old compressed.old count.old remainders.now rest.old)
         (large_chain heads.new compressed.new count.new remainders.now rest.new) }
 {
+    let items = Intervals { lefts, ps };
     let mut both = heads.parts();
-    let answer = encode_intervals_reverse::<_, _, u32, 24>(
-        alloc, &mut both, compressed, count, remainders, rest, lefts, ps,
+    let answer = encode_reverse::<_, _, u32, _, 24>(
+        alloc, &mut both, compressed, count, remainders, rest, &items,
     );
     *heads = ChainHeadsU32::of(both);
     code_of(answer, needed)
@@ -129,7 +133,7 @@ pub extern "C" fn constriction_chain_decode_quantized_u32(
 {
     let models = Families::new(family, min, max, locations, scales);
     let mut both = heads.parts();
-    let answer = decode::<_, _, u32, Families<'_>, 24>(
+    let answer = decode::<_, _, u32, _, 24>(
         alloc, &mut both, compressed, count, remainders, rest, &models, symbols,
     );
     *heads = ChainHeadsU32::of(both);
@@ -160,9 +164,10 @@ pub extern "C" fn constriction_chain_encode_quantized_reverse_u32(
         (large_chain heads.new compressed.new count.new remainders.now rest.new) }
 {
     let models = Families::new(family, min, max, locations, scales);
+    let items = Symbols { models, symbols };
     let mut both = heads.parts();
-    let answer = encode_reverse::<_, _, u32, Families<'_>, 24>(
-        alloc, &mut both, compressed, count, remainders, rest, &models, symbols,
+    let answer = encode_reverse::<_, _, u32, _, 24>(
+        alloc, &mut both, compressed, count, remainders, rest, &items,
     );
     *heads = ChainHeadsU32::of(both);
     code_of(answer, needed)
@@ -195,10 +200,10 @@ pub extern "C" fn constriction_chain_decode_mixture_u32(
         (large_chain heads.new compressed.now count.new remainders.new rest.new) symbols.old symbols.new }
 {
     let components = Families::new(family, min, max, locations, scales);
-    let mixtures = Mixtures::new(components, component_weights, width);
+    let models = Mixtures::new(components, component_weights, width);
     let mut both = heads.parts();
-    let answer = decode::<_, _, u32, Mixtures<'_>, 24>(
-        alloc, &mut both, compressed, count, remainders, rest, &mixtures, symbols,
+    let answer = decode::<_, _, u32, _, 24>(
+        alloc, &mut both, compressed, count, remainders, rest, &models, symbols,
     );
     *heads = ChainHeadsU32::of(both);
     code_of(answer, needed)
@@ -231,10 +236,11 @@ pub extern "C" fn constriction_chain_encode_mixture_reverse_u32(
         (large_chain heads.new compressed.new count.new remainders.now rest.new) }
 {
     let components = Families::new(family, min, max, locations, scales);
-    let mixtures = Mixtures::new(components, component_weights, width);
+    let models = Mixtures::new(components, component_weights, width);
+    let items = Symbols { models, symbols };
     let mut both = heads.parts();
-    let answer = encode_reverse::<_, _, u32, Mixtures<'_>, 24>(
-        alloc, &mut both, compressed, count, remainders, rest, &mixtures, symbols,
+    let answer = encode_reverse::<_, _, u32, _, 24>(
+        alloc, &mut both, compressed, count, remainders, rest, &items,
     );
     *heads = ChainHeadsU32::of(both);
     code_of(answer, needed)
@@ -270,7 +276,7 @@ pub extern "C" fn constriction_chain_decode_bytes_u32(
 
 /// Encodes symbols of type `u8` from the last to the first, with one table of weights for all symbols.
 ///
-/// Calls [`encode_narrow_reverse`] and returns the code of its result ([`code_of`]).
+/// Calls [`encode_reverse`] and returns the code of its result ([`code_of`]).
 #[unsafe(no_mangle)]
 pub extern "C" fn constriction_chain_encode_bytes_reverse_u32(
     alloc: Global,
@@ -283,14 +289,15 @@ pub extern "C" fn constriction_chain_encode_bytes_reverse_u32(
     symbols: &[u8],
     needed: &mut usize,
 ) -> u32
-    ensures { ChainPutsU32 result needed.old needed.new
-        (by_weights (map (lowest 32) weights.now) (map (lowest 8) symbols.now))
+    ensures { ChainPutsU32 result needed.old needed.new (by_weights (map (lowest 32) weights.now) symbols.now)
         (large_chain heads.old compressed.old count.old remainders.now rest.old)
         (large_chain heads.new compressed.new count.new remainders.now rest.new) }
 {
+    let models = Weights { weights };
+    let items = Symbols { models, symbols };
     let mut both = heads.parts();
-    let answer = encode_narrow_reverse::<_, _, u32, u8, 24>(
-        alloc, &mut both, compressed, count, remainders, rest, weights, symbols,
+    let answer = encode_reverse::<_, _, u32, _, 24>(
+        alloc, &mut both, compressed, count, remainders, rest, &items,
     );
     *heads = ChainHeadsU32::of(both);
     code_of(answer, needed)
@@ -326,7 +333,7 @@ pub extern "C" fn constriction_chain_decode_shorts_u32(
 
 /// Encodes symbols of type `u16` from the last to the first, with one table of weights for all symbols.
 ///
-/// Calls [`encode_narrow_reverse`] and returns the code of its result ([`code_of`]).
+/// Calls [`encode_reverse`] and returns the code of its result ([`code_of`]).
 #[unsafe(no_mangle)]
 pub extern "C" fn constriction_chain_encode_shorts_reverse_u32(
     alloc: Global,
@@ -339,14 +346,15 @@ pub extern "C" fn constriction_chain_encode_shorts_reverse_u32(
     symbols: &[u16],
     needed: &mut usize,
 ) -> u32
-    ensures { ChainPutsU32 result needed.old needed.new
-        (by_weights (map (lowest 32) weights.now) (map (lowest 16) symbols.now))
+    ensures { ChainPutsU32 result needed.old needed.new (by_weights (map (lowest 32) weights.now) symbols.now)
         (large_chain heads.old compressed.old count.old remainders.now rest.old)
         (large_chain heads.new compressed.new count.new remainders.now rest.new) }
 {
+    let models = Weights { weights };
+    let items = Symbols { models, symbols };
     let mut both = heads.parts();
-    let answer = encode_narrow_reverse::<_, _, u32, u16, 24>(
-        alloc, &mut both, compressed, count, remainders, rest, weights, symbols,
+    let answer = encode_reverse::<_, _, u32, _, 24>(
+        alloc, &mut both, compressed, count, remainders, rest, &items,
     );
     *heads = ChainHeadsU32::of(both);
     code_of(answer, needed)

@@ -12,6 +12,7 @@ use constriction_calls::chain::{
     decode_by_weights, encode_reverse, from_compressed, into_compressed,
 };
 use constriction_inputs::models::Weights;
+use constriction_inputs::symbols::Symbols;
 use std::alloc::Global;
 
 /// The two heads of a chain coder with 16-bit words, with the fields of [`ChainHeads`].
@@ -69,9 +70,10 @@ pub extern "C" fn constriction_chain_encode_reverse_u16(
         (small_chain heads.new compressed.new count.new remainders.now rest.new) }
 {
     let models = Weights { weights };
+    let items = Symbols { models, symbols };
     let mut both = heads.parts();
-    let answer = encode_reverse::<_, _, u16, Weights<'_, u16>, 12>(
-        alloc, &mut both, compressed, count, remainders, rest, &models, symbols,
+    let answer = encode_reverse::<_, _, u16, _, 12>(
+        alloc, &mut both, compressed, count, remainders, rest, &items,
     );
     *heads = ChainHeadsU16::of(both);
     code_of(answer, needed)

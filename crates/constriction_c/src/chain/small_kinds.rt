@@ -13,10 +13,12 @@ ghost use Rattle.std.specs.Prelude.{map};
 use crate::chain::small::ChainHeadsU16;
 use crate::codes::{code_of, code_without_space};
 use constriction_calls::chain::{
-    decode, decode_narrow, encode_intervals_reverse, encode_narrow_reverse, encode_reverse,
-    from_binary, from_remainders, into_binary, into_remainders,
+    decode, decode_narrow, encode_reverse, from_binary, from_remainders, into_binary,
+    into_remainders,
 };
-use constriction_inputs::models::{Families, Mixtures, Rows};
+use constriction_inputs::intervals::Intervals;
+use constriction_inputs::models::{Families, Mixtures, Rows, Weights};
+use constriction_inputs::symbols::Symbols;
 use std::alloc::Global;
 
 /// Decodes symbols into `symbols`, with a row of `width` weights for each symbol.
@@ -39,10 +41,10 @@ pub extern "C" fn constriction_chain_decode_each_u16(
         (small_chain heads.old compressed.now count.old remainders.old rest.old)
         (small_chain heads.new compressed.now count.new remainders.new rest.new) symbols.old symbols.new }
 {
-    let rows = Rows { weights, width };
+    let models = Rows { weights, width };
     let mut both = heads.parts();
-    let answer = decode::<_, _, u16, Rows<'_, u16>, 12>(
-        alloc, &mut both, compressed, count, remainders, rest, &rows, symbols,
+    let answer = decode::<_, _, u16, _, 12>(
+        alloc, &mut both, compressed, count, remainders, rest, &models, symbols,
     );
     *heads = ChainHeadsU16::of(both);
     code_of(answer, needed)
@@ -68,10 +70,11 @@ pub extern "C" fn constriction_chain_encode_each_reverse_u16(
         (small_chain heads.old compressed.old count.old remainders.now rest.old)
         (small_chain heads.new compressed.new count.new remainders.now rest.new) }
 {
-    let rows = Rows { weights, width };
+    let models = Rows { weights, width };
+    let items = Symbols { models, symbols };
     let mut both = heads.parts();
-    let answer = encode_reverse::<_, _, u16, Rows<'_, u16>, 12>(
-        alloc, &mut both, compressed, count, remainders, rest, &rows, symbols,
+    let answer = encode_reverse::<_, _, u16, _, 12>(
+        alloc, &mut both, compressed, count, remainders, rest, &items,
     );
     *heads = ChainHeadsU16::of(both);
     code_of(answer, needed)
@@ -79,7 +82,7 @@ pub extern "C" fn constriction_chain_encode_each_reverse_u16(
 
 /// Encodes intervals from the last to the first. Interval `i` begins at quantile `lefts[i]` and has length `ps[i]`.
 ///
-/// Calls [`encode_intervals_reverse`] and returns the code of its result ([`code_of`]).
+/// Calls [`encode_reverse`] and returns the code of its result ([`code_of`]).
 #[unsafe(no_mangle)]
 pub extern "C" fn constriction_chain_encode_intervals_reverse_u16(
     alloc: Global,
@@ -96,9 +99,10 @@ pub extern "C" fn constriction_chain_encode_intervals_reverse_u16(
         (small_chain heads.old compressed.old count.old remainders.now rest.old)
         (small_chain heads.new compressed.new count.new remainders.now rest.new) }
 {
+    let items = Intervals { lefts, ps };
     let mut both = heads.parts();
-    let answer = encode_intervals_reverse::<_, _, u16, 12>(
-        alloc, &mut both, compressed, count, remainders, rest, lefts, ps,
+    let answer = encode_reverse::<_, _, u16, _, 12>(
+        alloc, &mut both, compressed, count, remainders, rest, &items,
     );
     *heads = ChainHeadsU16::of(both);
     code_of(answer, needed)
@@ -129,7 +133,7 @@ pub extern "C" fn constriction_chain_decode_quantized_u16(
 {
     let models = Families::new(family, min, max, locations, scales);
     let mut both = heads.parts();
-    let answer = decode::<_, _, u16, Families<'_>, 12>(
+    let answer = decode::<_, _, u16, _, 12>(
         alloc, &mut both, compressed, count, remainders, rest, &models, symbols,
     );
     *heads = ChainHeadsU16::of(both);
@@ -160,9 +164,10 @@ pub extern "C" fn constriction_chain_encode_quantized_reverse_u16(
         (small_chain heads.new compressed.new count.new remainders.now rest.new) }
 {
     let models = Families::new(family, min, max, locations, scales);
+    let items = Symbols { models, symbols };
     let mut both = heads.parts();
-    let answer = encode_reverse::<_, _, u16, Families<'_>, 12>(
-        alloc, &mut both, compressed, count, remainders, rest, &models, symbols,
+    let answer = encode_reverse::<_, _, u16, _, 12>(
+        alloc, &mut both, compressed, count, remainders, rest, &items,
     );
     *heads = ChainHeadsU16::of(both);
     code_of(answer, needed)
@@ -195,10 +200,10 @@ pub extern "C" fn constriction_chain_decode_mixture_u16(
         (small_chain heads.new compressed.now count.new remainders.new rest.new) symbols.old symbols.new }
 {
     let components = Families::new(family, min, max, locations, scales);
-    let mixtures = Mixtures::new(components, component_weights, width);
+    let models = Mixtures::new(components, component_weights, width);
     let mut both = heads.parts();
-    let answer = decode::<_, _, u16, Mixtures<'_>, 12>(
-        alloc, &mut both, compressed, count, remainders, rest, &mixtures, symbols,
+    let answer = decode::<_, _, u16, _, 12>(
+        alloc, &mut both, compressed, count, remainders, rest, &models, symbols,
     );
     *heads = ChainHeadsU16::of(both);
     code_of(answer, needed)
@@ -231,10 +236,11 @@ pub extern "C" fn constriction_chain_encode_mixture_reverse_u16(
         (small_chain heads.new compressed.new count.new remainders.now rest.new) }
 {
     let components = Families::new(family, min, max, locations, scales);
-    let mixtures = Mixtures::new(components, component_weights, width);
+    let models = Mixtures::new(components, component_weights, width);
+    let items = Symbols { models, symbols };
     let mut both = heads.parts();
-    let answer = encode_reverse::<_, _, u16, Mixtures<'_>, 12>(
-        alloc, &mut both, compressed, count, remainders, rest, &mixtures, symbols,
+    let answer = encode_reverse::<_, _, u16, _, 12>(
+        alloc, &mut both, compressed, count, remainders, rest, &items,
     );
     *heads = ChainHeadsU16::of(both);
     code_of(answer, needed)
@@ -270,7 +276,7 @@ pub extern "C" fn constriction_chain_decode_bytes_u16(
 
 /// Encodes symbols of type `u8` from the last to the first, with one table of weights for all symbols.
 ///
-/// Calls [`encode_narrow_reverse`] and returns the code of its result ([`code_of`]).
+/// Calls [`encode_reverse`] and returns the code of its result ([`code_of`]).
 #[unsafe(no_mangle)]
 pub extern "C" fn constriction_chain_encode_bytes_reverse_u16(
     alloc: Global,
@@ -283,14 +289,15 @@ pub extern "C" fn constriction_chain_encode_bytes_reverse_u16(
     symbols: &[u8],
     needed: &mut usize,
 ) -> u32
-    ensures { ChainPutsU16 result needed.old needed.new
-        (by_weights (map (lowest 16) weights.now) (map (lowest 8) symbols.now))
+    ensures { ChainPutsU16 result needed.old needed.new (by_weights (map (lowest 16) weights.now) symbols.now)
         (small_chain heads.old compressed.old count.old remainders.now rest.old)
         (small_chain heads.new compressed.new count.new remainders.now rest.new) }
 {
+    let models = Weights { weights };
+    let items = Symbols { models, symbols };
     let mut both = heads.parts();
-    let answer = encode_narrow_reverse::<_, _, u16, u8, 12>(
-        alloc, &mut both, compressed, count, remainders, rest, weights, symbols,
+    let answer = encode_reverse::<_, _, u16, _, 12>(
+        alloc, &mut both, compressed, count, remainders, rest, &items,
     );
     *heads = ChainHeadsU16::of(both);
     code_of(answer, needed)
@@ -326,7 +333,7 @@ pub extern "C" fn constriction_chain_decode_shorts_u16(
 
 /// Encodes symbols of type `u16` from the last to the first, with one table of weights for all symbols.
 ///
-/// Calls [`encode_narrow_reverse`] and returns the code of its result ([`code_of`]).
+/// Calls [`encode_reverse`] and returns the code of its result ([`code_of`]).
 #[unsafe(no_mangle)]
 pub extern "C" fn constriction_chain_encode_shorts_reverse_u16(
     alloc: Global,
@@ -339,14 +346,15 @@ pub extern "C" fn constriction_chain_encode_shorts_reverse_u16(
     symbols: &[u16],
     needed: &mut usize,
 ) -> u32
-    ensures { ChainPutsU16 result needed.old needed.new
-        (by_weights (map (lowest 16) weights.now) (map (lowest 16) symbols.now))
+    ensures { ChainPutsU16 result needed.old needed.new (by_weights (map (lowest 16) weights.now) symbols.now)
         (small_chain heads.old compressed.old count.old remainders.now rest.old)
         (small_chain heads.new compressed.new count.new remainders.now rest.new) }
 {
+    let models = Weights { weights };
+    let items = Symbols { models, symbols };
     let mut both = heads.parts();
-    let answer = encode_narrow_reverse::<_, _, u16, u16, 12>(
-        alloc, &mut both, compressed, count, remainders, rest, weights, symbols,
+    let answer = encode_reverse::<_, _, u16, _, 12>(
+        alloc, &mut both, compressed, count, remainders, rest, &items,
     );
     *heads = ChainHeadsU16::of(both);
     code_of(answer, needed)

@@ -1,6 +1,6 @@
 //! The range coder with 32-bit words, 64-bit states and a precision of 24 bits.
 
-ghost use Rattle.std.specs.Prelude.{◌≡◌, map};
+ghost use Rattle.std.specs.Prelude.{◌≡◌, length, map};
 ghost use Rattle.constriction_c.specs.Codes.{answer_by_code};
 ghost use Rattle.constriction_c.specs.Large.{RangeEndsU32, RangePutsU32, RangeTakesU32, large_decoder, large_encoder};
 ghost use Rattle.constriction_c.specs.Words.{lowest};
@@ -13,6 +13,7 @@ use constriction_calls::range::encoding::encode;
 use constriction_calls::range::positions::{from_compressed, maybe_exhausted, seek};
 use constriction_calls::range::words::into_compressed;
 use constriction_inputs::models::Weights;
+use constriction_inputs::symbols::Symbols;
 use std::alloc::Global;
 
 /// A range encoder between two calls, with the fields of [`EncoderParts`].
@@ -65,12 +66,13 @@ pub extern "C" fn constriction_range_encode_u32(
     symbols: &[usize],
     needed: &mut usize,
 ) -> u32
-    ensures { RangePutsU32 result needed.old needed.new (by_weights (map (lowest 32) weights.now)) symbols.now
-        encoder.old words.old len.old encoder.new words.new len.new }
+    ensures { RangePutsU32 result needed.old needed.new (by_weights (map (lowest 32) weights.now) symbols.now)
+        (length symbols.now) encoder.old words.old len.old encoder.new words.new len.new }
 {
     let models = Weights { weights };
+    let items = Symbols { models, symbols };
     let mut parts = encoder.parts();
-    let answer = encode::<_, _, u32, _, 24>(alloc, &mut parts, words, len, &models, symbols);
+    let answer = encode::<_, _, u32, _, 24>(alloc, &mut parts, words, len, &items);
     *encoder = RangeEncoderU32::of(parts);
     code_of(answer, needed)
 }

@@ -1,7 +1,7 @@
 // Written by tools/sizes from large.rt.
 //! The range coder with 16-bit words, 32-bit states and a precision of 12 bits.
 
-ghost use Rattle.std.specs.Prelude.{◌≡◌, map};
+ghost use Rattle.std.specs.Prelude.{◌≡◌, length, map};
 ghost use Rattle.constriction_c.specs.Codes.{answer_by_code};
 ghost use Rattle.constriction_c.specs.Small.{RangeEndsU16, RangePutsU16, RangeTakesU16, small_decoder, small_encoder};
 ghost use Rattle.constriction_c.specs.Words.{lowest};
@@ -14,6 +14,7 @@ use constriction_calls::range::encoding::encode;
 use constriction_calls::range::positions::{from_compressed, maybe_exhausted, seek};
 use constriction_calls::range::words::into_compressed;
 use constriction_inputs::models::Weights;
+use constriction_inputs::symbols::Symbols;
 use std::alloc::Global;
 
 /// A range encoder between two calls, with the fields of [`EncoderParts`].
@@ -66,12 +67,13 @@ pub extern "C" fn constriction_range_encode_u16(
     symbols: &[usize],
     needed: &mut usize,
 ) -> u32
-    ensures { RangePutsU16 result needed.old needed.new (by_weights (map (lowest 16) weights.now)) symbols.now
-        encoder.old words.old len.old encoder.new words.new len.new }
+    ensures { RangePutsU16 result needed.old needed.new (by_weights (map (lowest 16) weights.now) symbols.now)
+        (length symbols.now) encoder.old words.old len.old encoder.new words.new len.new }
 {
     let models = Weights { weights };
+    let items = Symbols { models, symbols };
     let mut parts = encoder.parts();
-    let answer = encode::<_, _, u16, _, 12>(alloc, &mut parts, words, len, &models, symbols);
+    let answer = encode::<_, _, u16, _, 12>(alloc, &mut parts, words, len, &items);
     *encoder = RangeEncoderU16::of(parts);
     code_of(answer, needed)
 }

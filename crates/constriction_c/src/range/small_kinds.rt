@@ -8,14 +8,16 @@ ghost use Rattle.constriction_inputs.specs.Mixtures.{in_mixture};
 ghost use Rattle.constriction_inputs.specs.Quantized.{in_family};
 ghost use Rattle.constriction_inputs.specs.Rows.{by_rows};
 ghost use Rattle.constriction_inputs.specs.Weights.{by_weights};
-ghost use Rattle.std.specs.Prelude.{map};
+ghost use Rattle.std.specs.Prelude.{length, map};
 
 use crate::codes::{code_of, code_without_space};
 use crate::range::small::{RangeDecoderU16, RangeEncoderU16};
 use constriction_calls::range::decoding::{decode, decode_narrow};
-use constriction_calls::range::encoding::{encode, encode_intervals, encode_narrow};
+use constriction_calls::range::encoding::encode;
 use constriction_calls::range::words::into_self_delimited;
-use constriction_inputs::models::{Families, Mixtures, Rows};
+use constriction_inputs::intervals::Intervals;
+use constriction_inputs::models::{Families, Mixtures, Rows, Weights};
+use constriction_inputs::symbols::Symbols;
 use std::alloc::Global;
 
 /// Encodes symbols in order, with a row of `width` weights for each symbol.
@@ -32,12 +34,13 @@ pub extern "C" fn constriction_range_encode_each_u16(
     symbols: &[usize],
     needed: &mut usize,
 ) -> u32
-    ensures { RangePutsU16 result needed.old needed.new (by_rows width (map (lowest 16) weights.now)) symbols.now
-        encoder.old words.old len.old encoder.new words.new len.new }
+    ensures { RangePutsU16 result needed.old needed.new (by_rows width (map (lowest 16) weights.now) symbols.now)
+        (length symbols.now) encoder.old words.old len.old encoder.new words.new len.new }
 {
-    let rows = Rows { weights, width };
+    let models = Rows { weights, width };
+    let items = Symbols { models, symbols };
     let mut parts = encoder.parts();
-    let answer = encode::<_, _, u16, _, 12>(alloc, &mut parts, words, len, &rows, symbols);
+    let answer = encode::<_, _, u16, _, 12>(alloc, &mut parts, words, len, &items);
     *encoder = RangeEncoderU16::of(parts);
     code_of(answer, needed)
 }
@@ -57,16 +60,16 @@ pub extern "C" fn constriction_range_decode_each_u16(
     ensures { RangeTakesU16 result (by_rows width (map (lowest 16) weights.now)) words.now decoder.old decoder.new
         symbols.old symbols.new }
 {
-    let rows = Rows { weights, width };
+    let models = Rows { weights, width };
     let mut parts = decoder.parts();
-    let answer = decode::<_, _, u16, _, 12>(alloc, &mut parts, words, &rows, symbols);
+    let answer = decode::<_, _, u16, _, 12>(alloc, &mut parts, words, &models, symbols);
     *decoder = RangeDecoderU16::of(parts);
     code_without_space(answer)
 }
 
 /// Encodes intervals in order. Interval `i` begins at quantile `lefts[i]` and has length `ps[i]`.
 ///
-/// Calls [`encode_intervals`] and returns the code of its result ([`code_of`]).
+/// Calls [`encode`] and returns the code of its result ([`code_of`]).
 #[unsafe(no_mangle)]
 pub extern "C" fn constriction_range_encode_intervals_u16(
     alloc: Global,
@@ -77,11 +80,12 @@ pub extern "C" fn constriction_range_encode_intervals_u16(
     ps: &[u16],
     needed: &mut usize,
 ) -> u32
-    ensures { RangePutsU16 result needed.old needed.new (intervals_from_u16 lefts.now) (map (lowest 16) ps.now)
-        encoder.old words.old len.old encoder.new words.new len.new }
+    ensures { RangePutsU16 result needed.old needed.new (intervals_from_u16 lefts.now (map (lowest 16) ps.now))
+        (length ps.now) encoder.old words.old len.old encoder.new words.new len.new }
 {
+    let items = Intervals { lefts, ps };
     let mut parts = encoder.parts();
-    let answer = encode_intervals::<_, _, u16, 12>(alloc, &mut parts, words, len, lefts, ps);
+    let answer = encode::<_, _, u16, _, 12>(alloc, &mut parts, words, len, &items);
     *encoder = RangeEncoderU16::of(parts);
     code_of(answer, needed)
 }
@@ -103,12 +107,13 @@ pub extern "C" fn constriction_range_encode_quantized_u16(
     symbols: &[usize],
     needed: &mut usize,
 ) -> u32
-    ensures { RangePutsU16 result needed.old needed.new (in_family family min max locations.now scales.now) symbols.now
-        encoder.old words.old len.old encoder.new words.new len.new }
+    ensures { RangePutsU16 result needed.old needed.new (in_family family min max locations.now scales.now symbols.now)
+        (length symbols.now) encoder.old words.old len.old encoder.new words.new len.new }
 {
     let models = Families::new(family, min, max, locations, scales);
+    let items = Symbols { models, symbols };
     let mut parts = encoder.parts();
-    let answer = encode::<_, _, u16, _, 12>(alloc, &mut parts, words, len, &models, symbols);
+    let answer = encode::<_, _, u16, _, 12>(alloc, &mut parts, words, len, &items);
     *encoder = RangeEncoderU16::of(parts);
     code_of(answer, needed)
 }
@@ -158,13 +163,14 @@ pub extern "C" fn constriction_range_encode_mixture_u16(
     needed: &mut usize,
 ) -> u32
     ensures { RangePutsU16 result needed.old needed.new
-        (in_mixture family min max width component_weights.now locations.now scales.now) symbols.now encoder.old
-        words.old len.old encoder.new words.new len.new }
+        (in_mixture family min max width component_weights.now locations.now scales.now symbols.now)
+        (length symbols.now) encoder.old words.old len.old encoder.new words.new len.new }
 {
     let components = Families::new(family, min, max, locations, scales);
-    let mixtures = Mixtures::new(components, component_weights, width);
+    let models = Mixtures::new(components, component_weights, width);
+    let items = Symbols { models, symbols };
     let mut parts = encoder.parts();
-    let answer = encode::<_, _, u16, _, 12>(alloc, &mut parts, words, len, &mixtures, symbols);
+    let answer = encode::<_, _, u16, _, 12>(alloc, &mut parts, words, len, &items);
     *encoder = RangeEncoderU16::of(parts);
     code_of(answer, needed)
 }
@@ -190,16 +196,16 @@ pub extern "C" fn constriction_range_decode_mixture_u16(
         words.now decoder.old decoder.new symbols.old symbols.new }
 {
     let components = Families::new(family, min, max, locations, scales);
-    let mixtures = Mixtures::new(components, component_weights, width);
+    let models = Mixtures::new(components, component_weights, width);
     let mut parts = decoder.parts();
-    let answer = decode::<_, _, u16, _, 12>(alloc, &mut parts, words, &mixtures, symbols);
+    let answer = decode::<_, _, u16, _, 12>(alloc, &mut parts, words, &models, symbols);
     *decoder = RangeDecoderU16::of(parts);
     code_without_space(answer)
 }
 
 /// Encodes symbols of type `u8` in order, with one table of weights for all symbols.
 ///
-/// Calls [`encode_narrow`] and returns the code of its result ([`code_of`]).
+/// Calls [`encode`] and returns the code of its result ([`code_of`]).
 #[unsafe(no_mangle)]
 pub extern "C" fn constriction_range_encode_bytes_u16(
     alloc: Global,
@@ -210,13 +216,13 @@ pub extern "C" fn constriction_range_encode_bytes_u16(
     symbols: &[u8],
     needed: &mut usize,
 ) -> u32
-    ensures { RangePutsU16 result needed.old needed.new (by_weights (map (lowest 16) weights.now))
-        (map (lowest 8) symbols.now) encoder.old words.old len.old encoder.new words.new len.new }
+    ensures { RangePutsU16 result needed.old needed.new (by_weights (map (lowest 16) weights.now) symbols.now)
+        (length symbols.now) encoder.old words.old len.old encoder.new words.new len.new }
 {
+    let models = Weights { weights };
+    let items = Symbols { models, symbols };
     let mut parts = encoder.parts();
-    let answer = encode_narrow::<_, _, u16, u8, 12>(
-        alloc, &mut parts, words, len, weights, symbols,
-    );
+    let answer = encode::<_, _, u16, _, 12>(alloc, &mut parts, words, len, &items);
     *encoder = RangeEncoderU16::of(parts);
     code_of(answer, needed)
 }
@@ -243,7 +249,7 @@ pub extern "C" fn constriction_range_decode_bytes_u16(
 
 /// Encodes symbols of type `u16` in order, with one table of weights for all symbols.
 ///
-/// Calls [`encode_narrow`] and returns the code of its result ([`code_of`]).
+/// Calls [`encode`] and returns the code of its result ([`code_of`]).
 #[unsafe(no_mangle)]
 pub extern "C" fn constriction_range_encode_shorts_u16(
     alloc: Global,
@@ -254,13 +260,13 @@ pub extern "C" fn constriction_range_encode_shorts_u16(
     symbols: &[u16],
     needed: &mut usize,
 ) -> u32
-    ensures { RangePutsU16 result needed.old needed.new (by_weights (map (lowest 16) weights.now))
-        (map (lowest 16) symbols.now) encoder.old words.old len.old encoder.new words.new len.new }
+    ensures { RangePutsU16 result needed.old needed.new (by_weights (map (lowest 16) weights.now) symbols.now)
+        (length symbols.now) encoder.old words.old len.old encoder.new words.new len.new }
 {
+    let models = Weights { weights };
+    let items = Symbols { models, symbols };
     let mut parts = encoder.parts();
-    let answer = encode_narrow::<_, _, u16, u16, 12>(
-        alloc, &mut parts, words, len, weights, symbols,
-    );
+    let answer = encode::<_, _, u16, _, 12>(alloc, &mut parts, words, len, &items);
     *encoder = RangeEncoderU16::of(parts);
     code_of(answer, needed)
 }

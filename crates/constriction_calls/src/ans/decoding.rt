@@ -11,9 +11,10 @@ use crate::narrow::{has_numbers, narrow_into};
 use constriction_base::cursor::Cursor;
 use constriction_base::errors::CoderError;
 use constriction_base::model::{DecoderModel, EntropyModel};
-use constriction_inputs::models::{DecoderModels, ModelList, Models, Weights};
+use constriction_inputs::models::{DecoderModelList, DecoderModels, Models, Weights};
 use constriction_inputs::refusal::Refusal;
 use constriction_inputs::rows::Row;
+use constriction_inputs::rows::adding::is_total;
 use constriction_stack::coder::AnsCoder;
 use constriction_stream::decoding::Decode;
 use constriction_words::{BitArray, WordOf};
@@ -50,8 +51,8 @@ pub fn decode<
     if *len > words.len() {
         return Err(Refusal::WrongLength);
     }
-    models.check(symbols)?;
-    let Some(mut list) = models.decoder_list(alloc, symbols) else {
+    models.check(symbols.len())?;
+    let Some(mut list) = models.decoder_list(alloc, symbols.len()) else {
         return Err(Refusal::NoMemory);
     };
     let (new_head, new_len) = decode_by(*head, words, *len, &mut list, symbols);
@@ -125,7 +126,9 @@ pub fn decode_narrow<
     if *len > words.len() || !has_numbers::<S>(weights.len()) {
         return Err(Refusal::WrongLength);
     }
-    Models::<P, PRECISION>::check(&Weights { weights }, &[])?;
+    if !is_total::<P, PRECISION>(weights) {
+        return Err(Refusal::WrongWeights);
+    }
     let Ok(mut numbers) = vec![in alloc; 0usize; symbols.len()] else {
         return Err(Refusal::NoMemory);
     };
@@ -148,7 +151,7 @@ fn decode_by<
     Word: WordOf<State>,
     State: BitArray,
     P: WordOf<Word>,
-    L: ModelList<P, PRECISION>,
+    L: DecoderModelList<P, PRECISION>,
     const PRECISION: usize,
 >(head: State, words: &[Word], len: usize, models: &mut L, symbols: &mut [usize]) -> (State, usize)
     requires sizes { IsSizes Word.BITS State.BITS }

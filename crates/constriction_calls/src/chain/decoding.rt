@@ -1,6 +1,6 @@
 //! Decoding symbols from compressed words.
 
-ghost use Rattle.std.specs.Prelude.{◌≡◌, ◌⊎◌, ◌+◌, ◌<◌, ◌≤◌, ◌^◌, List, length, map, reverse, IfErr, IfOk, OnErr, OnOk};
+ghost use Rattle.std.specs.Prelude.{◌≡◌, ◌⊎◌, ◌+◌, ◌<◌, ◌≤◌, ◌^◌, ℕ, List, length, map, reverse, IfErr, IfOk, OnErr, OnOk};
 ghost use Rattle.constriction_base.specs.Models.{pairs_of};
 ghost use Rattle.constriction_chain.specs.Chain.{IsSized};
 ghost use Rattle.constriction_chain.specs.Symbols.{TakesOffAll};
@@ -19,7 +19,7 @@ use constriction_base::errors::CoderError;
 use constriction_base::model::{DecoderModel, EntropyModel};
 use constriction_chain::{ChainCoder, ChainCoderHeads};
 use constriction_inputs::buffers::append;
-use constriction_inputs::models::{DecoderModels, ModelList, Models, Weights};
+use constriction_inputs::models::{DecoderModelList, DecoderModels, Models, Weights};
 use constriction_inputs::refusal::Refusal;
 use constriction_inputs::rows::Row;
 use constriction_stream::decoding::Decode;
@@ -71,7 +71,7 @@ pub fn decode<
     if *compressed_len > compressed.len() || *remainders_len > remainders.len() {
         return Err(Refusal::WrongLength);
     }
-    match models.check(symbols) {
+    match models.check(symbols.len()) {
         Ok(()) => {}
         Err(wrong) => return Err(wrong),
     }
@@ -80,7 +80,7 @@ pub fn decode<
     };
     let lent = Cursor::new_at_write_end(&compressed[..*compressed_len]);
     let mut coder = ChainCoder::from_raw_parts(lent, Vec::new(alloc), both);
-    let again = match take_by(alloc, &mut coder, models, symbols) {
+    let again = match take_by(alloc, &mut coder, models, symbols.len()) {
         Ok(again) => again,
         Err(refusal) => return Err(refusal),
     };
@@ -187,7 +187,7 @@ pub fn decode_narrow<
     if !has_numbers::<S>(weights.len()) {
         return Err(Refusal::WrongLength);
     }
-    Models::<P, PRECISION>::check(&Weights { weights }, &[])?;
+    Models::<P, PRECISION>::check(&Weights { weights }, symbols.len())?;
     if ChainCoderHeads::<Word, State, PRECISION>::new(
         heads.compressed,
         heads.remainders,
@@ -217,10 +217,9 @@ pub fn decode_narrow<
     }
 }
 
-/// Decodes `places.len()` symbols, each with its own model.
+/// Decodes `count` symbols, each with its own model, and returns the symbols.
 ///
-/// The call returns the symbols. `places` is the list into which the caller then copies them. The caller proves that
-/// `models.check(places)` would succeed.
+/// The caller proves that `models.check(count)` would succeed.
 ///
 /// # Errors
 ///
@@ -236,19 +235,19 @@ fn take_by<
     alloc: Global,
     coder: &mut Taking<'a, Word, State, PRECISION>,
     models: &G,
-    places: &[usize],
+    count: usize,
 ) -> Result<Vec<usize>, Refusal>
     requires sizes { (1 ≤ PRECISION) × (PRECISION ≤ P.BITS) }
-    requires fit { AreFit PRECISION (G.coded models.now places.now) }
-    ensures count { IfOk result (λ symbols. length symbols.items ≡ length places.now) }
+    requires fit { (symbols : List ℕ) × (length symbols ≡ count) × AreFit PRECISION (G.coded models.now symbols) }
+    ensures count { IfOk result (λ symbols. length symbols.items ≡ count) }
     ensures ok { IfOk result (λ symbols. TakesOffAll Word.BITS State.BITS
         (items PRECISION (G.coded models.now symbols.items)) coder.old.state coder.new.state) }
     ensures err { IfErr result (λ e. (e ≡ refusals.NoMemory) ⊎ ((e ≡ refusals.OutOfData)
         × LacksCompressed Word.BITS State.BITS PRECISION
-        (λ symbols. items PRECISION (G.coded models.now symbols)) (length places.now) coder.old.state)) }
+        (λ symbols. items PRECISION (G.coded models.now symbols)) count coder.old.state)) }
 {
-    match models.decoder_list(alloc, places) {
-        Some(mut list) => take_symbols(alloc, coder, &mut list, places.len()),
+    match models.decoder_list(alloc, count) {
+        Some(mut list) => take_symbols(alloc, coder, &mut list, count),
         None => Err(Refusal::NoMemory),
     }
 }
@@ -266,7 +265,7 @@ fn take_symbols<
     Word: WordOf<State>,
     State: BitArray,
     P: WordOf<Word>,
-    L: ModelList<P, PRECISION>,
+    L: DecoderModelList<P, PRECISION>,
     const PRECISION: usize,
 >(
     alloc: Global,

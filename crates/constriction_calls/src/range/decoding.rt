@@ -12,9 +12,10 @@ ghost use Rattle.constriction_inputs.specs.Refusals.{Words};
 
 use crate::narrow::{has_numbers, narrow_into};
 use crate::range::parts::{DecoderParts, Reading, decoder_of, decoder_parts};
-use constriction_inputs::models::{DecoderModels, ModelList, Models, Weights};
+use constriction_inputs::models::{DecoderModelList, DecoderModels, Weights};
 use constriction_inputs::refusal::Refusal;
 use constriction_inputs::rows::Row;
+use constriction_inputs::rows::adding::is_total;
 use constriction_stream::decoding::Decode;
 use constriction_words::{BitArray, WordOf};
 use std::alloc::Global;
@@ -31,7 +32,7 @@ pub(crate) fn take_list<
     Word: WordOf<State>,
     State: BitArray,
     P: WordOf<Word>,
-    L: ModelList<P, PRECISION>,
+    L: DecoderModelList<P, PRECISION>,
     const PRECISION: usize,
 >(
     alloc: Global,
@@ -94,14 +95,11 @@ pub fn decode<
     if decoder.pos > words.len() {
         return Err(Refusal::WrongLength);
     }
-    match models.check(symbols) {
-        Ok(()) => {}
-        Err(refusal) => return Err(refusal),
-    }
+    models.check(symbols.len())?;
     let Some(reading) = decoder_of(words, *decoder) else {
         return Err(Refusal::InvalidData);
     };
-    let Some(mut list) = models.decoder_list(alloc, symbols) else {
+    let Some(mut list) = models.decoder_list(alloc, symbols.len()) else {
         return Err(Refusal::NoMemory);
     };
     match take_list::<Word, State, P, G::DecoderList, PRECISION>(
@@ -182,7 +180,9 @@ pub fn decode_narrow<
     if decoder.pos > words.len() || !has_numbers::<S>(weights.len()) {
         return Err(Refusal::WrongLength);
     }
-    Models::<P, PRECISION>::check(&Weights { weights }, &[])?;
+    if !is_total::<P, PRECISION>(weights) {
+        return Err(Refusal::WrongWeights);
+    }
     if decoder_of(words, *decoder).is_none() {
         return Err(Refusal::InvalidData);
     }

@@ -23,7 +23,8 @@ use std::num::NonZeroUsize;
 ///
 /// ```
 /// let mut encoder = EncoderParts { lower: 0u64, range: u64::MAX, held: 0, first: 0u32 }; // no symbols yet
-/// encode::<_, _, u32, _, 24>(alloc, &mut encoder, &mut words, &mut len, &models, &[1, 0])?;
+/// let items = Symbols { models, symbols: &[1usize, 0] };
+/// encode::<_, _, u32, _, 24>(alloc, &mut encoder, &mut words, &mut len, &items)?;
 /// into_compressed(alloc, &encoder, &mut words, &mut len)?;
 /// ```
 #[derive(Debug, Drop, Clone, Copy)]
@@ -109,17 +110,6 @@ pub(crate) fn encoder_over<
         return None;
     }
     Some(RangeEncoder::from_raw_parts(bulk, state, situation))
-}
-
-/// Splits an encoder into the words that it wrote and its [`EncoderParts`].
-pub fn parts_of<Word: WordOf<State>, State: BitArray>(
-    encoder: RangeEncoder<Word, State, Vec<Word>>,
-) -> (Vec<Word>, EncoderParts<Word, State>)
-    ensures run { run_by Word.BITS State.BITS encoder
-        ≡ run_kept Word.number State.number Word.BITS State.BITS result.1 result.0.items }
-    ensures coder { IsEncoderKept Word.number State.number Word.BITS State.BITS result.1 }
-{
-    parts_over(encoder)
 }
 
 /// Splits an encoder into its backend and its [`EncoderParts`].

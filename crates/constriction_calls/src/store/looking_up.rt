@@ -1,52 +1,24 @@
 //! Decoding one chunk of a store.
 
-ghost use Rattle.std.specs.Prelude.{◌≤◌, length, map};
+ghost use Rattle.std.specs.Prelude.{◌≤◌, map};
 ghost use Rattle.constriction_base.specs.Steps.{IsSizes};
-ghost use Rattle.constriction_queue.specs.Decoder.{StandsAt};
-ghost use Rattle.constriction_queue.specs.States.{lower_of, range_of};
-ghost use Rattle.constriction_store.specs.Stores.{run_from};
 ghost use Rattle.constriction_calls.specs.StoreCalls.{StoreGives};
 
 use crate::range::decoding::take_list;
-use constriction_base::backends::Seek;
-use constriction_base::cursor::Cursor;
 use constriction_inputs::models::{DecoderModels, Weights};
 use constriction_inputs::refusal::Refusal;
 use constriction_inputs::rows::adding::is_total;
-use constriction_queue::{RangeCoderState, RangeDecoder};
+use constriction_queue::RangeCoderState;
+use constriction_store::decoder_at;
 use constriction_words::{BitArray, WordOf};
 use std::alloc::Global;
-
-/// Creates a decoder of `words` at the position `place`, with the interval of `state`.
-///
-/// The caller proves that the position isn't past the end of `words`.
-fn decoder_at<'a, Word: WordOf<State>, State: BitArray>(
-    words: &'a [Word],
-    place: usize,
-    state: RangeCoderState<Word, State>,
-) -> RangeDecoder<Word, State, Cursor<Word, &'a [Word]>>
-    requires sizes { IsSizes Word.BITS State.BITS }
-    requires inside { place ≤ length words.now }
-    ensures { StandsAt Word.BITS State.BITS (map Word.number words.now)
-        (run_from place (lower_of state) (range_of state)) result }
-{
-    let mut decoder = match RangeDecoder::<Word, State, Cursor<Word, &'a [Word]>>::from_compressed(
-        words,
-    ) {
-        Ok(decoder) => decoder,
-        Err(never) => match never {},
-    };
-    match decoder.seek((place, state)) {
-        Ok(()) => decoder,
-        Err(()) => unreachable!(),
-    }
-}
 
 /// Decodes one chunk of a store into `symbols`.
 ///
 /// `pos`, `lower` and `range` are the chunk's numbers in the lists `positions`, `lowers` and `ranges` of the index. The
-/// length of `symbols` is the number of symbols to decode. The call reads only the words of the chunk, and the
-/// `State::BITS / Word::BITS` words after them. The arguments may have any values: they need not come from a store.
+/// length of `symbols` is the number of symbols to decode. The symbols depend on no words except the words of the chunk
+/// and the `State::BITS / Word::BITS` words after them. The arguments may have any values: they need not come from a
+/// store.
 ///
 /// # Errors
 ///
@@ -82,7 +54,8 @@ pub fn chunk<Word: WordOf<State>, State: BitArray, P: WordOf<Word>, const PRECIS
         return Err(Refusal::InvalidData);
     };
     let given = Weights { weights };
-    let Some(mut list) = DecoderModels::<P, PRECISION>::decoder_list(&given, alloc, symbols) else {
+    let Some(mut list) = DecoderModels::<P, PRECISION>::decoder_list(&given, alloc, symbols.len())
+    else {
         return Err(Refusal::NoMemory);
     };
     let decoder = decoder_at::<Word, State>(words, pos, state);

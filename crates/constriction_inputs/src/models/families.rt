@@ -1,19 +1,23 @@
 //! `Families`: a family of distributions, with a location and a scale for each symbol.
 
-ghost use Rattle.std.specs.Prelude.{◌≡◌, ◌↔◌, ℕ, ◌<◌, ◌≤◌, ◌<ℤ◌, Some, get_or, length, pos, IfOk, IsTrue};
+ghost use Rattle.std.specs.Prelude.{◌≡◌, ◌↔◌, ℕ, ◌<◌, ◌≤◌, ◌<ℤ◌, Some, get_or, length, pos};
+ghost use Rattle.std.specs.Prelude.{IfOk, IsSome, IsTrue};
 ghost use Rattle.std.specs.List.{AllByRecursion};
 ghost use Rattle.constriction_models.specs.Quantized.{indexed};
 ghost use Rattle.constriction_models.specs.Quantizers.{symbol_count, first_symbol};
-ghost use Rattle.constriction_inputs.specs.Quantized.{ArePlacesInRange, below_by, by_family, family_arguments, family_of};
-ghost use Rattle.constriction_inputs.specs.Quantized.{symbols_in, tables_by};
+ghost use Rattle.constriction_inputs.specs.Quantized.{ArePlacesInRange, IsRange, below_by, by_family};
+ghost use Rattle.constriction_inputs.specs.Quantized.{family_arguments, family_of, symbols_in, tables_by};
 ghost use Rattle.constriction_inputs.specs.QuantizedCalls.{AsksFamily};
+ghost use Rattle.constriction_inputs.specs.Refusals.{Asks, Else, Never};
+ghost use Rattle.constriction_inputs.specs.declared.refusal.Refusal.TheVariants as refusals;
 
-use crate::models::{DecoderModels, ModelList, Models};
+use crate::models::{DecoderModelList, DecoderModels, ModelList, Models, entry_of};
 use crate::refusal::Refusal;
+use crate::symbol::Symbol;
 use constriction_base::model::EntropyModel;
 use constriction_models::families::{Family, FamilyDistribution};
 use constriction_models::quantizer::{IndexedDistribution, LeakyQuantizer};
-use constriction_words::{BitArray, WordOf};
+use constriction_words::{BitArray, Reciprocal, WordOf};
 use std::alloc::Global;
 
 /// The model of a Gaussian, Laplace or logistic distribution. Its symbols are indices into a range of integers.
@@ -45,12 +49,12 @@ pub struct Families<'a> {
 }
 
 impl<'a, P: WordOf<u32>, const PRECISION: usize> Models<P, PRECISION> for Families<'a> {
-    type List = FamilyList<'a, P, FamilyModel<P, PRECISION>, PRECISION>;
+    type List = FamilyIntervals<'a, P, PRECISION>;
 
     ghost coded = { λ given. by_family (family_arguments given) };
 
-    fn check(&self, symbols: &[usize]) -> Result<(), Refusal> {
-        if self.locations.len() != symbols.len() {
+    fn check(&self, count: usize) -> Result<(), Refusal> {
+        if self.locations.len() != count {
             return Err(Refusal::WrongLength);
         }
         match self.quantizer::<P, PRECISION>() {
@@ -59,27 +63,24 @@ impl<'a, P: WordOf<u32>, const PRECISION: usize> Models<P, PRECISION> for Famili
         }
     }
 
-    fn know(&self, symbols: &[usize]) -> bool {
-        self.are_places(symbols)
+    fn know<S: Symbol>(&self, symbols: &[S]) -> bool {
+        are_places::<S>(self, symbols)
     }
 
     fn list(
         &self,
         _alloc: Global,
-        symbols: &[usize],
+        _count: usize,
         _divides: bool,
-    ) -> Option<FamilyList<'a, P, FamilyModel<P, PRECISION>, PRECISION>> {
-        let Ok((family, quantizer)) = self.quantizer::<P, PRECISION>() else {
+    ) -> Option<FamilyIntervals<'a, P, PRECISION>> {
+        let Ok((family, quantizer)) = self.family_and_range::<P, PRECISION>() else {
             return None;
         };
-        let model = model_of(family, &quantizer, 0, 1);
-        Some(FamilyList {
+        Some(FamilyIntervals {
             family,
             quantizer,
             locations: self.locations,
             scales: self.scales,
-            place: symbols.len(),
-            model,
         })
     }
 }
@@ -89,14 +90,72 @@ impl<'a, P: WordOf<u32>, const PRECISION: usize> DecoderModels<P, PRECISION> for
 
     fn decoder_list(
         &self,
-        alloc: Global,
-        symbols: &[usize],
+        _alloc: Global,
+        count: usize,
     ) -> Option<FamilyList<'a, P, FamilyModel<P, PRECISION>, PRECISION>> {
-        Models::<P, PRECISION>::list(self, alloc, symbols, false)
+        let Ok((family, quantizer)) = self.family_and_range::<P, PRECISION>() else {
+            return None;
+        };
+        let (locations, scales) = (self.locations, self.scales);
+        let model = model_of(family, &quantizer, 0, 1);
+        Some(FamilyList {
+            family,
+            quantizer,
+            locations,
+            scales,
+            place: count,
+            model,
+        })
     }
 }
 
-/// The list of the models of a family, one for each symbol. It holds the model of one symbol only.
+/// The models of a family, one for each symbol to encode. A look-up makes the model that it needs.
+///
+/// # Examples
+///
+/// ```
+/// if let Some(mut list) = Models::<u32, 24>::list(&families, alloc, 2, false) {
+///     ModelList::<u32, 24>::interval(&mut list, 1, 130)
+/// }
+/// ```
+#[derive(Drop)]
+pub struct FamilyIntervals<'a, P: WordOf<u32>, const PRECISION: usize> {
+    family: Family,
+    quantizer: LeakyQuantizer<P, PRECISION>,
+    locations: &'a [i64],
+    scales: &'a [u32],
+    ghost counted: { length locations.now ≡ length scales.now },
+    ghost scaled: { (k : ℕ) → k < length scales.now → 0 < get_or scales.now k 0 },
+}
+
+impl<'a, P: WordOf<u32>, const PRECISION: usize> ModelList<P, PRECISION>
+    for FamilyIntervals<'a, P, PRECISION> {
+    const LOOKS_AHEAD: bool = true;
+
+    ghost tables = { λ list. tables_by PRECISION (Some list.family) (first_symbol list.quantizer)
+        (symbol_count list.quantizer) list.locations.now list.scales.now };
+
+    #[inline(always)]
+    fn interval(
+        &mut self,
+        place: usize,
+        symbol: usize,
+    ) -> Option<(P, <P as BitArray>::NonZero, Option<Reciprocal>)> {
+        let model = model_at::<P, PRECISION>(
+            self.family,
+            &self.quantizer,
+            self.locations,
+            self.scales,
+            place,
+        );
+        match entry_of::<P, FamilyModel<P, PRECISION>, PRECISION>(&model, symbol) {
+            Some(found) => Some(found),
+            None => None,
+        }
+    }
+}
+
+/// The list of the models of a family, one for each symbol to decode. It holds the model of one symbol only.
 ///
 /// `turn_to` replaces this model by the model of the selected symbol. To create this model, `turn_to` computes the
 /// inverse of the symbol's scale.
@@ -104,9 +163,9 @@ impl<'a, P: WordOf<u32>, const PRECISION: usize> DecoderModels<P, PRECISION> for
 /// # Examples
 ///
 /// ```
-/// if let Some(mut list) = Models::<u32, 24>::list(&families, alloc, &[127, 130], false) {
-///     ModelList::<u32, 24>::turn_to(&mut list, 1);
-///     ModelList::<u32, 24>::model(&list).quantile_function(8388608)
+/// if let Some(mut list) = DecoderModels::<u32, 24>::decoder_list(&families, alloc, 2) {
+///     DecoderModelList::<u32, 24>::turn_to(&mut list, 1);
+///     DecoderModelList::<u32, 24>::model(&list).quantile_function(8388608)
 /// }
 /// ```
 #[derive(Drop)]
@@ -129,7 +188,7 @@ pub struct FamilyList<
         (first_symbol quantizer) (symbol_count quantizer) },
 }
 
-impl<'a, P: WordOf<u32>, const PRECISION: usize> ModelList<P, PRECISION>
+impl<'a, P: WordOf<u32>, const PRECISION: usize> DecoderModelList<P, PRECISION>
     for FamilyList<'a, P, FamilyModel<P, PRECISION>, PRECISION> {
     type Model = FamilyModel<P, PRECISION>;
 
@@ -193,31 +252,68 @@ impl<'a> Families<'a> {
         if self.locations.len() != self.scales.len() {
             return Err(Refusal::WrongLength);
         }
+        let made = self.family_and_range::<P, PRECISION>()?;
+        if !are_above_zero(self.scales) {
+            return Err(Refusal::WrongWeights);
+        }
+        Ok(made)
+    }
+
+    /// Returns the family, and the quantizer of the range from `min` to `max`. The call looks at no location or scale.
+    ///
+    /// # Errors
+    ///
+    /// The call returns the first of these errors whose condition holds, and no other error.
+    ///
+    /// - `WrongInterval`: the range has fewer than two or more than `2 ^ PRECISION` symbols.
+    /// - `WrongWeights`: `family` is above 2, so it stands for no family.
+    pub(crate) fn family_and_range<P: WordOf<u32>, const PRECISION: usize>(
+        &self,
+    ) -> Result<(Family, LeakyQuantizer<P, PRECISION>), Refusal>
+        requires { (1 ≤ PRECISION) × (PRECISION ≤ P.BITS) }
+        ensures family { IfOk result (λ made. family_of self.now.family ≡ Some made.0) }
+        ensures first { IfOk result (λ made. first_symbol made.1 ≡ self.now.min) }
+        ensures count { IfOk result (λ made. symbol_count made.1 ≡ symbols_in self.now.min self.now.max) }
+        ensures asks { Asks refusals.WrongInterval (IsRange PRECISION self.now.min self.now.max)
+            (Asks refusals.WrongWeights (IsSome (family_of self.now.family)) (Else Never)) result }
+    {
         let Ok(quantizer) = LeakyQuantizer::<P, PRECISION>::new(self.min, self.max) else {
             return Err(Refusal::WrongInterval);
         };
         let Some(family) = family_at(self.family) else {
             return Err(Refusal::WrongWeights);
         };
-        if !are_above_zero(self.scales) {
-            return Err(Refusal::WrongWeights);
-        }
         Ok((family, quantizer))
     }
+}
 
-    /// Returns whether each number in `symbols` is an index into the range from `min` to `max`.
-    pub(crate) fn are_places(&self, symbols: &[usize]) -> bool
-        requires { self.now.min <ℤ self.now.max }
-        ensures { IsTrue result ↔ ArePlacesInRange self.now.min self.now.max symbols.now }
-    {
-        let count = (self.max as i64 - self.min as i64) as usize + 1;
-        for symbol in symbols {
-            if *symbol >= count {
-                return false;
-            }
+/// Returns whether the number of each symbol is an index into the range from `min` to `max`.
+pub(crate) fn are_places<'a, S: Symbol>(given: &Families<'a>, symbols: &[S]) -> bool
+    requires { given.now.min <ℤ given.now.max }
+    ensures { IsTrue result ↔ ArePlacesInRange given.now.min given.now.max (S.numbers symbols.now) }
+{
+    let count = count_of(given);
+    are_below::<S>(symbols, count)
+}
+
+/// Returns the number of symbols in the range from `min` to `max`.
+fn count_of<'a>(given: &Families<'a>) -> usize
+    requires { given.now.min <ℤ given.now.max }
+    ensures { result ≡ symbols_in given.now.min given.now.max }
+{
+    (given.max as i64 - given.min as i64) as usize + 1
+}
+
+/// Returns whether the number of each symbol is below `count`.
+fn are_below<S: Symbol>(symbols: &[S], count: usize) -> bool
+    ensures { IsTrue result ↔ AllByRecursion (λ symbol. symbol < count) (S.numbers symbols.now) }
+{
+    for i in 0..symbols.len() {
+        if S::number_at(symbols, i) >= count {
+            return false;
         }
-        true
     }
+    true
 }
 
 /// Returns the family that `code` stands for: 0 is `Gaussian`, 1 is `Laplace`, and 2 is `Logistic`.

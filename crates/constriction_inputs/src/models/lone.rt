@@ -8,6 +8,7 @@ ghost use Rattle.constriction_inputs.specs.Weights.{by_weights};
 use crate::models::{DecoderModels, Models, One, Weights};
 use crate::refusal::Refusal;
 use crate::rows::Row;
+use crate::symbol::Symbol;
 use constriction_words::BitArray;
 use std::alloc::Global;
 
@@ -17,27 +18,27 @@ impl<'a, P: BitArray, const PRECISION: usize> Models<P, PRECISION> for Row<'a, P
     ghost coded = { λ row. by_weights (map P.number row.weights.now) };
 
     #[inline]
-    fn check(&self, _symbols: &[usize]) -> Result<(), Refusal> {
+    fn check(&self, _count: usize) -> Result<(), Refusal> {
         Ok(())
     }
 
-    fn know(&self, symbols: &[usize]) -> bool {
+    fn know<S: Symbol>(&self, symbols: &[S]) -> bool {
         let given = Weights {
             weights: self.weights,
         };
-        Models::<P, PRECISION>::know(&given, symbols)
+        Models::<P, PRECISION>::know::<S>(&given, symbols)
     }
 
     #[inline]
     fn list(
         &self,
         _alloc: Global,
-        symbols: &[usize],
+        count: usize,
         _divides: bool,
     ) -> Option<One<Row<'a, P, PRECISION>>> {
         Some(One {
             model: Row::of_total(self.weights),
-            count: symbols.len(),
+            count,
             place: 0,
         })
     }
@@ -48,7 +49,7 @@ impl<'a, P: BitArray, const PRECISION: usize> DecoderModels<P, PRECISION>
     type DecoderList = One<Row<'a, P, PRECISION>>;
 
     #[inline]
-    fn decoder_list(&self, alloc: Global, symbols: &[usize]) -> Option<One<Row<'a, P, PRECISION>>> {
-        Models::<P, PRECISION>::list(self, alloc, symbols, false)
+    fn decoder_list(&self, alloc: Global, count: usize) -> Option<One<Row<'a, P, PRECISION>>> {
+        Models::<P, PRECISION>::list(self, alloc, count, false)
     }
 }

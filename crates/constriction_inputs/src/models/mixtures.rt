@@ -9,14 +9,16 @@ ghost use Rattle.constriction_models.specs.Quantizers.{symbol_count, first_symbo
 ghost use Rattle.constriction_inputs.specs.Mixtures.{AreMixable, by_mixture, components_of, mixture_tables, row_of_place};
 ghost use Rattle.constriction_inputs.specs.Quantized.{family_of, symbols_in};
 
-use crate::models::{DecoderModels, Families, ModelList, Models};
+use crate::models::families::are_places;
+use crate::models::{DecoderModelList, DecoderModels, Families, ModelList, Models, entry_of};
 use crate::refusal::Refusal;
 use crate::rows::adding::is_product;
+use crate::symbol::Symbol;
 use constriction_models::distribution::CumulativeDistribution;
 use constriction_models::families::{Family, FamilyDistribution};
 use constriction_models::mixture::Component;
 use constriction_models::quantizer::LeakyQuantizer;
-use constriction_words::{BitArray, WordOf};
+use constriction_words::{BitArray, Reciprocal, WordOf};
 pub use mixed::MixedDistribution;
 use mixed::{fill_from_row, first_component};
 use std::alloc::Global;
@@ -85,8 +87,8 @@ impl<'a, P: WordOf<u32>, const PRECISION: usize> Models<P, PRECISION> for Mixtur
           width = given.width;
         }) };
 
-    fn check(&self, symbols: &[usize]) -> Result<(), Refusal> {
-        if !is_product(self.weights.len(), self.width, symbols.len()) {
+    fn check(&self, count: usize) -> Result<(), Refusal> {
+        if !is_product(self.weights.len(), self.width, count) {
             return Err(Refusal::WrongLength);
         }
         if self.components.locations.len() != self.weights.len() {
@@ -96,23 +98,23 @@ impl<'a, P: WordOf<u32>, const PRECISION: usize> Models<P, PRECISION> for Mixtur
             Ok(_) => {}
             Err(refusal) => return Err(refusal),
         }
-        if self.width == 0 || !are_mixable(self.weights, self.width, symbols.len()) {
+        if self.width == 0 || !are_mixable(self.weights, self.width, count) {
             return Err(Refusal::WrongWeights);
         }
         Ok(())
     }
 
-    fn know(&self, symbols: &[usize]) -> bool {
-        self.components.are_places(symbols)
+    fn know<S: Symbol>(&self, symbols: &[S]) -> bool {
+        are_places::<S>(&self.components, symbols)
     }
 
     fn list(
         &self,
         alloc: Global,
-        symbols: &[usize],
+        count: usize,
         _divides: bool,
     ) -> Option<MixtureList<'a, P, PRECISION>> {
-        let Ok((family, quantizer)) = self.components.quantizer::<P, PRECISION>() else {
+        let Ok((family, quantizer)) = self.components.family_and_range::<P, PRECISION>() else {
             return None;
         };
         let Ok(mut components) = Vec::with_capacity(alloc, self.width) else {
@@ -122,8 +124,8 @@ impl<'a, P: WordOf<u32>, const PRECISION: usize> Models<P, PRECISION> for Mixtur
         Some(MixtureList {
             mixtures: *self,
             family,
-            count: symbols.len(),
-            place: symbols.len(),
+            count,
+            place: count,
             mixed: MixedDistribution::new(components, quantizer),
         })
     }
@@ -132,25 +134,20 @@ impl<'a, P: WordOf<u32>, const PRECISION: usize> Models<P, PRECISION> for Mixtur
 impl<'a, P: WordOf<u32>, const PRECISION: usize> DecoderModels<P, PRECISION> for Mixtures<'a> {
     type DecoderList = MixtureList<'a, P, PRECISION>;
 
-    fn decoder_list(
-        &self,
-        alloc: Global,
-        symbols: &[usize],
-    ) -> Option<MixtureList<'a, P, PRECISION>> {
-        Models::<P, PRECISION>::list(self, alloc, symbols, false)
+    fn decoder_list(&self, alloc: Global, count: usize) -> Option<MixtureList<'a, P, PRECISION>> {
+        Models::<P, PRECISION>::list(self, alloc, count, false)
     }
 }
 
 /// A list of models of mixtures. The list keeps only one mixture's components in memory.
 ///
-/// Each call of `turn_to` replaces these components with the components of the selected mixture.
+/// Each call of `interval` or `turn_to` replaces these components with the components of the mixture at the index.
 ///
 /// # Examples
 ///
 /// ```
-/// if let Some(mut list) = Models::<u32, 24>::list(&mixtures, alloc, &[100, 200], false) {
-///     ModelList::<u32, 24>::turn_to(&mut list, 1);
-///     ModelList::<u32, 24>::model(&list).quantile_function(8388608)
+/// if let Some(mut list) = Models::<u32, 24>::list(&mixtures, alloc, 2, false) {
+///     ModelList::<u32, 24>::interval(&mut list, 1, 100)
 /// }
 /// ```
 #[derive(Drop)]
@@ -177,6 +174,40 @@ pub struct MixtureList<'a, P: WordOf<u32>, const PRECISION: usize> {
 }
 
 impl<'a, P: WordOf<u32>, const PRECISION: usize> ModelList<P, PRECISION>
+    for MixtureList<'a, P, PRECISION> {
+    const LOOKS_AHEAD: bool = true;
+
+    ghost tables = { λ list. mixture_tables PRECISION
+        (record {
+          components = record {
+            family = list.mixtures.components.family;
+            min = list.mixtures.components.min;
+            max = list.mixtures.components.max;
+            locations = list.mixtures.components.locations.now;
+            scales = list.mixtures.components.scales.now;
+          };
+          weights = list.mixtures.weights.now;
+          width = list.mixtures.width;
+        }) list.count };
+
+    #[inline]
+    fn interval(
+        &mut self,
+        place: usize,
+        symbol: usize,
+    ) -> Option<(P, <P as BitArray>::NonZero, Option<Reciprocal>)> {
+        DecoderModelList::<P, PRECISION>::turn_to(self, place);
+        let model = DecoderModelList::<P, PRECISION>::model(self);
+        match entry_of::<P, MixedDistribution<FamilyDistribution, P, PRECISION>, PRECISION>(
+            model, symbol,
+        ) {
+            Some(found) => Some(found),
+            None => None,
+        }
+    }
+}
+
+impl<'a, P: WordOf<u32>, const PRECISION: usize> DecoderModelList<P, PRECISION>
     for MixtureList<'a, P, PRECISION> {
     type Model = MixedDistribution<FamilyDistribution, P, PRECISION>;
 

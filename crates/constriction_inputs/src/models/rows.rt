@@ -1,14 +1,17 @@
 //! `Rows`: a row of weights for each symbol.
 
-ghost use Rattle.std.specs.Prelude.{map};
-ghost use Rattle.constriction_inputs.specs.Rows.{by_rows};
+ghost use Rattle.std.specs.Prelude.{◌≡◌, ◌+◌, ◌*◌, ◌<◌, ◌≤◌, ℕ, length, map};
+ghost use Rattle.constriction_inputs.specs.Mixtures.{row_of_place};
+ghost use Rattle.constriction_inputs.specs.Rows.{by_rows, row_tables};
+ghost use Rattle.constriction_inputs.specs.Weights.{IsTotal};
 
 use crate::known::all_known_in_rows;
-use crate::models::{DecoderModels, Each, Models};
+use crate::models::{DecoderModels, Each, ModelList, Models, entry_of};
 use crate::refusal::Refusal;
 use crate::rows::adding::{are_totals, is_product};
 use crate::rows::{Row, total_rows};
-use constriction_words::BitArray;
+use crate::symbol::Symbol;
+use constriction_words::{BitArray, Reciprocal};
 use std::alloc::Global;
 
 /// Rows of `width` weights, one after another in `weights`, with one row for each symbol to encode or decode.
@@ -27,46 +30,106 @@ pub struct Rows<'a, P> {
 }
 
 impl<'a, P: BitArray, const PRECISION: usize> Models<P, PRECISION> for Rows<'a, P> {
-    type List = Each<Row<'a, P, PRECISION>>;
+    type List = RowList<'a, P, PRECISION>;
 
     ghost coded = { λ given. by_rows given.width (map P.number given.weights.now) };
 
-    fn check(&self, symbols: &[usize]) -> Result<(), Refusal> {
-        if !is_product(self.weights.len(), self.width, symbols.len()) {
+    fn check(&self, count: usize) -> Result<(), Refusal> {
+        if !is_product(self.weights.len(), self.width, count) {
             return Err(Refusal::WrongLength);
         }
-        if are_totals::<P, PRECISION>(self.weights, self.width, symbols.len()) {
+        if are_totals::<P, PRECISION>(self.weights, self.width, count) {
             Ok(())
         } else {
             Err(Refusal::WrongWeights)
         }
     }
 
-    fn know(&self, symbols: &[usize]) -> bool {
-        all_known_in_rows::<P, PRECISION>(self.weights, self.width, symbols)
+    fn know<S: Symbol>(&self, symbols: &[S]) -> bool {
+        all_known_in_rows::<P, S, PRECISION>(self.weights, self.width, symbols)
     }
 
     fn list(
         &self,
-        alloc: Global,
-        symbols: &[usize],
+        _alloc: Global,
+        count: usize,
         _divides: bool,
-    ) -> Option<Each<Row<'a, P, PRECISION>>> {
-        match total_rows(alloc, self.weights, self.width, symbols.len()) {
-            Ok(models) => Some(Each { models, place: 0 }),
-            Err(_) => None,
-        }
+    ) -> Option<RowList<'a, P, PRECISION>> {
+        Some(RowList {
+            weights: self.weights,
+            width: self.width,
+            count,
+        })
     }
 }
 
 impl<'a, P: BitArray, const PRECISION: usize> DecoderModels<P, PRECISION> for Rows<'a, P> {
     type DecoderList = Each<Row<'a, P, PRECISION>>;
 
-    fn decoder_list(
-        &self,
-        alloc: Global,
-        symbols: &[usize],
-    ) -> Option<Each<Row<'a, P, PRECISION>>> {
-        Models::<P, PRECISION>::list(self, alloc, symbols, false)
+    fn decoder_list(&self, alloc: Global, count: usize) -> Option<Each<Row<'a, P, PRECISION>>> {
+        match total_rows(alloc, self.weights, self.width, count) {
+            Ok(models) => Some(Each { models, place: 0 }),
+            Err(_) => None,
+        }
     }
+}
+
+/// Rows of weights whose totals are checked. A look-up adds up the weights before the symbol in its row.
+///
+/// # Examples
+///
+/// ```
+/// let rows = Rows { weights: &[255u8, 1, 128, 128], width: 2 };
+/// if let Some(mut list) = Models::<u8, 8>::list(&rows, alloc, 2, false) {
+///     ModelList::<u8, 8>::interval(&mut list, 1, 1) // Some((128, 128, None))
+/// }
+/// ```
+#[derive(Drop)]
+pub struct RowList<'a, P: BitArray, const PRECISION: usize> {
+    weights: &'a [P],
+    width: usize,
+    count: usize,
+    ghost positive: { 1 ≤ PRECISION },
+    ghost fits: { PRECISION ≤ P.BITS },
+    ghost counted: { length weights.now ≡ width * count },
+    ghost totals: { (k : ℕ) → k < count → IsTotal PRECISION (row_of_place width k (map P.number weights.now)) },
+}
+
+impl<'a, P: BitArray, const PRECISION: usize> ModelList<P, PRECISION>
+    for RowList<'a, P, PRECISION> {
+    const LOOKS_AHEAD: bool = true;
+
+    ghost tables = { λ list. row_tables list.width list.count (map P.number list.weights.now) };
+
+    #[inline]
+    fn interval(
+        &mut self,
+        place: usize,
+        symbol: usize,
+    ) -> Option<(P, <P as BitArray>::NonZero, Option<Reciprocal>)> {
+        let row = row_at::<P, PRECISION>(self.weights, self.width, place);
+        match entry_of::<P, Row<'_, P, PRECISION>, PRECISION>(&row, symbol) {
+            Some(found) => Some(found),
+            None => None,
+        }
+    }
+}
+
+/// Returns row `place` of `weights`, which has rows of `width` weights, one after another.
+///
+/// The caller proves that there is such a row, and that it adds up to `2 ^ PRECISION`.
+#[inline]
+fn row_at<'a, P: BitArray, const PRECISION: usize>(
+    weights: &'a [P],
+    width: usize,
+    place: usize,
+) -> Row<'a, P, PRECISION>
+    requires sizes { (1 ≤ PRECISION) × (PRECISION ≤ P.BITS) }
+    requires within { width * place + width ≤ length weights.now }
+    requires total { IsTotal PRECISION (row_of_place width place (map P.number weights.now)) }
+    ensures { map P.number result.weights.now ≡ row_of_place width place (map P.number weights.now) }
+{
+    let start = width * place;
+    let end = start + width;
+    Row::of_total(&weights[start..end])
 }

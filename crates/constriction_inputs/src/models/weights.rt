@@ -9,7 +9,9 @@ use crate::known::is_known;
 use crate::models::weights_model::WeightsModel;
 use crate::models::{DecoderModels, Models, One};
 use crate::refusal::Refusal;
+use crate::rows::Row;
 use crate::rows::adding::is_total;
+use crate::symbol::Symbol;
 use constriction_base::model::EntropyModel;
 use constriction_base::weights::WeightTable;
 use constriction_models::lookup::ContiguousLookupDecoderModel;
@@ -22,10 +24,18 @@ pub type TableOrRows<P, const PRECISION: usize> = WeightsModel<
     ContiguousLookupDecoderModel<WeightTable<P, PRECISION>, PRECISION>,
 >;
 
+/// The model of a list of weights: a [`WeightTable`], or a [`Row`] whose look-up adds up weights.
+pub type TableOrRow<'a, P, const PRECISION: usize> = WeightsModel<
+    WeightTable<P, PRECISION>,
+    Row<'a, P, PRECISION>,
+>;
+
 /// One table of weights for all symbols to encode or decode.
 ///
 /// `weights[i]` is the weight of symbol `i`. The weights have to add up to `2 ^ PRECISION`. A symbol of weight 0 is
 /// impossible, and so is a symbol past the end of the list of weights.
+///
+/// To encode a single symbol, `list` makes no table: the look-up adds up the weights before the symbol.
 ///
 /// To decode at least `2 ^ PRECISION` symbols at a precision of at most 14 bits, `decoder_list` makes a lookup model,
 /// which decodes a symbol in less time than a table of weights. While the list exists, the lookup model takes 6 bytes
@@ -43,11 +53,11 @@ pub struct Weights<'a, P> {
 }
 
 impl<'a, P: BitArray, const PRECISION: usize> Models<P, PRECISION> for Weights<'a, P> {
-    type List = One<WeightTable<P, PRECISION>>;
+    type List = One<TableOrRow<'a, P, PRECISION>>;
 
     ghost coded = { λ given. by_weights (map P.number given.weights.now) };
 
-    fn check(&self, _symbols: &[usize]) -> Result<(), Refusal> {
+    fn check(&self, _count: usize) -> Result<(), Refusal> {
         if is_total::<P, PRECISION>(self.weights) {
             Ok(())
         } else {
@@ -55,9 +65,9 @@ impl<'a, P: BitArray, const PRECISION: usize> Models<P, PRECISION> for Weights<'
         }
     }
 
-    fn know(&self, symbols: &[usize]) -> bool {
-        for symbol in symbols {
-            if !is_known::<P, PRECISION>(self.weights, *symbol) {
+    fn know<S: Symbol>(&self, symbols: &[S]) -> bool {
+        for i in 0..symbols.len() {
+            if !is_known::<P, PRECISION>(self.weights, S::number_at(symbols, i)) {
                 return false;
             }
         }
@@ -67,13 +77,21 @@ impl<'a, P: BitArray, const PRECISION: usize> Models<P, PRECISION> for Weights<'
     fn list(
         &self,
         alloc: Global,
-        symbols: &[usize],
+        count: usize,
         divides: bool,
-    ) -> Option<One<WeightTable<P, PRECISION>>> {
+    ) -> Option<One<TableOrRow<'a, P, PRECISION>>> {
+        if count <= 1 {
+            let row = Row::of_total(self.weights);
+            return Some(One {
+                model: WeightsModel::Rows(row),
+                count,
+                place: 0,
+            });
+        }
         match table_by(alloc, self.weights, divides) {
-            Some(model) => Some(One {
-                model,
-                count: symbols.len(),
+            Some(table) => Some(One {
+                model: WeightsModel::Table(table),
+                count,
                 place: 0,
             }),
             None => None,
@@ -84,12 +102,7 @@ impl<'a, P: BitArray, const PRECISION: usize> Models<P, PRECISION> for Weights<'
 impl<'a, P: BitArray, const PRECISION: usize> DecoderModels<P, PRECISION> for Weights<'a, P> {
     type DecoderList = One<TableOrRows<P, PRECISION>>;
 
-    fn decoder_list(
-        &self,
-        alloc: Global,
-        symbols: &[usize],
-    ) -> Option<One<TableOrRows<P, PRECISION>>> {
-        let count = symbols.len();
+    fn decoder_list(&self, alloc: Global, count: usize) -> Option<One<TableOrRows<P, PRECISION>>> {
         match decoder_by(alloc, self.weights, count) {
             Some(model) => Some(One {
                 model,

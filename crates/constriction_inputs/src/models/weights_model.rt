@@ -8,8 +8,9 @@ use constriction_words::{BitArray, Reciprocal};
 
 /// A model in one of two forms, which a program chooses at run time.
 ///
-/// [`Weights`](crate::models::Weights) chooses between a table of weights and a lookup model. A lookup model decodes a
-/// symbol in less time, but takes more time and memory to make.
+/// [`Weights`](crate::models::Weights) chooses a table of weights, or a lookup model for long lists to decode, or the
+/// caller's weights themselves for a single symbol to encode. A lookup model decodes a symbol in less time than a table,
+/// but takes more time and memory to make.
 ///
 /// # Examples
 ///
@@ -23,7 +24,7 @@ use constriction_words::{BitArray, Reciprocal};
 pub enum WeightsModel<T, R> {
     /// A table of weights.
     Table(T),
-    /// A model with a row for each quantile.
+    /// A model that isn't a table of weights: a lookup model with a row for each quantile, or a row of weights.
     Rows(R),
 }
 

@@ -52,7 +52,7 @@ pub fn intervals_of_quantized<P: WordOf<u32>, const PRECISION: usize>(
         Ok(made) => made,
         Err(refusal) => return Err(refusal),
     };
-    if !Models::<P, PRECISION>::know(families, symbols) {
+    if !Models::<P, PRECISION>::know::<usize>(families, symbols) {
         return Err(Refusal::ImpossibleSymbol);
     }
     put_intervals(

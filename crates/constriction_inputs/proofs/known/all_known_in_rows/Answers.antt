@@ -9,22 +9,24 @@ pub returns-then-not-is_known : goal.returns-then-not-is_known
 returns-then-not-is_known g c =
     let number = g.P.BitArray.number in
     let l = c.loop-i in
-    let within : l.i < length c.args.symbols.now = omega (arith, c.loop-i-test.true) in
+    let xs = g.S.Symbol.numbers c.args.symbols.now in
+    let within : l.i < length xs = omega (arith, c.loop-i-test.true, g.S.Symbol.count_law c.args.symbols.now) in
     not_all c.is_known.result _ _ c.is_known.ensures (search rules)
-    (λ every. rw (row_numbers number c.args.weights.now l.start c.args.width)
-    (known_split g.row.PRECISION c.args.width l.start (map number c.args.weights.now) c.args.symbols.now l.i within (l.invariant.behind every)).0)
+    (λ every. rw (row_numbers number c.args.weights.now l.start c.args.width, c.number_at.ensures)
+    (known_split g.row.PRECISION c.args.width l.start (map number c.args.weights.now) xs l.i within (l.invariant.behind every)).0)
 
 pub loop-i-preserved : goal.loop-i-preserved
 loop-i-preserved g c =
     let number = g.P.BitArray.number in
     let l = c.loop-i in
     let all = map number c.args.weights.now in
-    let symbols = c.args.symbols.now in
-    let next = length symbols - (l.i + 1) in
-    let within : l.i < length c.args.symbols.now = omega (arith, c.loop-i-test.true) in
-    let more : length symbols - l.i ≡ suc next = omega (arith, c.loop-i-test.true) in
+    let given = c.args.symbols.now in
+    let symbols = g.S.Symbol.numbers given in
+    let next = length given - (l.i + 1) in
+    let within : l.i < length symbols = omega (arith, c.loop-i-test.true, g.S.Symbol.count_law given) in
+    let more : length given - l.i ≡ suc next = omega (arith, c.loop-i-test.true) in
     let yes : c.is_known.result ≡ true = search rules in
-    let known : Knows (weights_model g.row.PRECISION (take c.args.width (drop l.start all))) (get_or symbols l.i 0) = rw (← row_numbers number c.args.weights.now l.start c.args.width) (c.is_known.ensures.0 yes) in
+    let known : Knows (weights_model g.row.PRECISION (take c.args.width (drop l.start all))) (get_or symbols l.i 0) = rw (← row_numbers number c.args.weights.now l.start c.args.width, ← c.number_at.ensures) (c.is_known.ensures.0 yes) in
     record {
       rest = rest_behind l.start c.args.width _ next _ l.invariant.rest more;
       before = λ others. l.invariant.before (known_joined g.row.PRECISION c.args.width l.start all symbols l.i within known others);

@@ -7,8 +7,9 @@ abbrev pub invariant-loop-i : goal.invariant-loop-i
 invariant-loop-i g l =
     let items = row_items g.row.PRECISION l.width in
     let all = map g.P.BitArray.number l.weights in
+    let xs = g.S.Symbol.numbers l.symbols in
     record {
       rest : l.start + l.width * (length l.symbols - l.i) ≡ length l.weights;
-      before : AreKnown (items (drop l.start all) (drop l.i l.symbols)) → AreKnown (items all l.symbols);
-      behind : AreKnown (items all l.symbols) → AreKnown (items (drop l.start all) (drop l.i l.symbols));
+      before : AreKnown (items (drop l.start all) (drop l.i xs)) → AreKnown (items all xs);
+      behind : AreKnown (items all xs) → AreKnown (items (drop l.start all) (drop l.i xs));
     }

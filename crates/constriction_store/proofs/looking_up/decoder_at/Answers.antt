@@ -11,9 +11,8 @@ use Rattle.constriction_store.proofs.looking_up.decoder_at.Goals as goal
 pub unreachable-requires : goal.unreachable-requires
 unreachable-requires g c =
     let number = g.Word.BitArray.number in
-    let place = c.in-Ok.ensures.place in
-    let kept = cursor_keeps Infallible number (λ v. v.now) _ _ _ place.0 c.in-Ok.decoder.bulk place.2.2 in
-    let same = ap (λ b. length b.now) kept ∙ ap (λ ws. length ws) place.1.0 in
+    let kept = cursor_keeps Infallible number (λ v. v.now) _ _ _ c.new_at_write_end.result c.in-Ok.decoder.bulk c.in-Ok.ensures.reads.2 in
+    let same = ap (λ b. length b.now) (kept ∙ ap (λ cursor. cursor.buf) c.new_at_write_end.ensures) in
     elim c.in-Err-seek.ensures.err [
       | inl past ↦ omega (arith, past, same, c.requires.inside)
       | inr read ↦ elim read.2 [ ]
@@ -28,12 +27,11 @@ returns g c =
     let there : Run = run_from c.args.place (lower_of c.args.state) (range_of c.args.state) in
     let position : IsPosition s there c.args.place (lower_of c.args.state) (range_of c.args.state) =
     record { place_is = refl; lower_is = sym (mod-eq_of_lt (g.met.State.BitArray.number_law _)); range_is = refl } in
-    let place = c.in-Ok.ensures.place in
-    let kept = cursor_keeps Infallible number (λ v. v.now) _ _ _ place.0 c.in-Ok.decoder.bulk place.2.2 in
+    let kept = cursor_keeps Infallible number (λ v. v.now) _ _ _ c.new_at_write_end.result c.in-Ok.decoder.bulk c.in-Ok.ensures.reads.2 in
     let sought = c.in-Ok-seek.ensures.ok in
     let moved = sought.2.0 in
     let point = sought.2.2 tt in
     let part : drop moved.pos moved.buf.now ≡ drop c.args.place items =
-    ap (λ b. drop b.pos b.buf.now) sought.2.1 ∙ ap (λ v. drop c.args.place v.now) kept ∙ ap (λ ws. drop c.args.place ws) place.1.0 in
+    ap (λ b. drop b.pos b.buf.now) sought.2.1 ∙ ap (λ v. drop c.args.place v.now) (kept ∙ ap (λ cursor. cursor.buf) c.new_at_write_end.ensures) in
     sought_there number w s items (drop moved.pos moved.buf.now) (map number items) there _ _ _ c.seek.new.self c.requires.sizes (words_of_numbers number w g.met.Word.BitArray.number_law items) refl position part
     sought.0 sought.1 point.0 (sought.3.words_are ∙ point.1)

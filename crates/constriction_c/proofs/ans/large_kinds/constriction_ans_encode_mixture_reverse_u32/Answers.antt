@@ -7,5 +7,5 @@ use Rattle.constriction_c.proofs.ans.large_kinds.constriction_ans_encode_mixture
 pub returns : goal.returns
 returns c =
     ans_puts c.code_of.result c.args.needed.now c.code_of.new.needed
-    (ap (λ (coded : List ℕ → Coded). coded c.args.symbols.now) (mixture_is c.new-components.ensures.numbers c.new-components.ensures.lists c.new-mixtures.ensures (to_z-of_z w32 c.args.min c.ranges.min) (to_z-of_z w32 c.args.max c.ranges.max)))
+    (ap (λ (coded : List ℕ → Coded). coded c.args.symbols.now) (mixture_is c.new-components.ensures.numbers c.new-components.ensures.lists c.new-models.ensures (to_z-of_z w32 c.args.min c.ranges.min) (to_z-of_z w32 c.args.max c.ranges.max)))
     c.code_of.ensures.code c.code_of.ensures.needed c.encode_reverse-answer.ensures.call

@@ -5,5 +5,5 @@ use Rattle.constriction_c.proofs.chain.large_kinds.constriction_chain_decode_mix
 
 pub returns : goal.returns
 returns c =
-    chain_takes c.code_of.result c.args.needed.now c.code_of.new.needed (mixture_is c.new-components.ensures.numbers c.new-components.ensures.lists c.new-mixtures.ensures (to_z-of_z w32 c.args.min c.ranges.min) (to_z-of_z w32 c.args.max c.ranges.max))
+    chain_takes c.code_of.result c.args.needed.now c.code_of.new.needed (mixture_is c.new-components.ensures.numbers c.new-components.ensures.lists c.new-models.ensures (to_z-of_z w32 c.args.min c.ranges.min) (to_z-of_z w32 c.args.max c.ranges.max))
     c.parts-both.ensures c.of.ensures c.code_of.ensures.code c.code_of.ensures.needed c.decode-answer.ensures.call

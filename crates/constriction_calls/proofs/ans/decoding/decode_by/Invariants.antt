@@ -5,9 +5,9 @@ use Rattle.constriction_calls.proofs.ans.decoding.decode_by.Given as goal
 
 abbrev pub invariant-loop-place : goal.invariant-loop-place
 invariant-loop-place g l = record {
-  decoded : DecodesAll g.Word.BitArray.BITS g.State.BitArray.BITS (pairs_of g.row.PRECISION (λ table. table) (take l.place l.symbols) (g.L.ModelList.tables l.fn.models))
+  decoded : DecodesAll g.Word.BitArray.BITS g.State.BitArray.BITS (pairs_of g.row.PRECISION (λ table. table) (take l.place l.symbols) (g.L.DecoderModelList.tables l.fn.models))
       l.initial.coder.state l.coder.state;
   buffer : l.coder.backend.buf.now ≡ l.initial.coder.backend.buf.now;
   count : length l.symbols ≡ length l.fn.symbols;
-  tables : g.L.ModelList.tables l.models ≡ g.L.ModelList.tables l.fn.models;
+  tables : g.L.DecoderModelList.tables l.models ≡ g.L.DecoderModelList.tables l.fn.models;
 }

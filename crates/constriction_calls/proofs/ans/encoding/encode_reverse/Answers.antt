@@ -1,4 +1,4 @@
-use Rattle.std.proofs.Common.{◌≤◌, arith, length, refl}
+use Rattle.std.proofs.Common.{◌≤◌, arith, length, sym}
 use Rattle.constriction_calls.proofs.AnsAnswers.{puts_done, puts_short}
 use Rattle.constriction_inputs.proofs.Asking.{fit_ok}
 use Rattle.constriction_calls.proofs.ans.encoding.encode_reverse.Goals.{in-Ok, in-Err}
@@ -6,10 +6,10 @@ use Rattle.constriction_calls.proofs.ans.encoding.encode_reverse.Goals as goal
 
 pub returns : goal.returns
 returns g c =
-    let coded = g.G.Models.coded c.args.models.now c.args.symbols.now in
+    let coded = g.I.Items.coded c.args.items.now in
     let within : c.args.len.now ≤ length c.args.words.now = omega (arith, c.if-len-words.false) in
     let fit = fit_ok g.row.PRECISION coded c.in_ok-check.ensures in
-    let items = c.in-Some.ensures.items c.args.symbols.now refl in
+    let items = sym c.in-Some.ensures.items in
     let made = c.in-Some-coded.ensures in
     elim c.match-append.branch [
       | in-Ok w ↦ rw (w.head-is, w.result-is) (record {

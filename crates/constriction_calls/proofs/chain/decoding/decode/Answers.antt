@@ -13,7 +13,7 @@ returns-in-Err-take_by g c =
     let number = g.Word.BitArray.number in
     let old = keeps c.args.heads.now c.args.compressed.now c.args.compressed_len.now c.args.remainders.now c.args.remainders_len.now in
     let within : AreInUse old = (omega (arith, c.if-compressed_len-compressed.false), omega (arith, c.if-remainders_len-remainders.false)) in
-    let fit = fit_ok g.row.PRECISION (g.G.Models.coded c.args.models.now c.args.symbols.now) c.in-Ok.ensures in
+    let fit = fit_ok g.row.PRECISION (g.G.Models.coded c.args.models.now c.args.symbols.now) (c.in-Ok.ensures c.args.symbols.now refl) in
     let right = c.in-Some.ensures.variant.0 refl in
     let is : c.from_raw_parts-coder.result.state ≡ state (number c.args.heads.now.compressed) (g.State.BitArray.number c.args.heads.now.remainders) (stack_in number c.args.compressed.now c.args.compressed_len.now) []
     = ap (λ coder. coder.state) c.from_raw_parts-coder.ensures.value ∙ rw (c.in-Some.ensures.value, c.new_at_write_end-lent.ensures, c.new-2.ensures.items, take-length (take c.args.compressed_len.now c.args.compressed.now)) refl in
@@ -28,7 +28,7 @@ returns-in-Err-end_taking g c =
     let number = g.Word.BitArray.number in
     let old = keeps c.args.heads.now c.args.compressed.now c.args.compressed_len.now c.args.remainders.now c.args.remainders_len.now in
     let within : AreInUse old = (omega (arith, c.if-compressed_len-compressed.false), omega (arith, c.if-remainders_len-remainders.false)) in
-    let fit = fit_ok g.row.PRECISION (g.G.Models.coded c.args.models.now c.args.symbols.now) c.in-Ok.ensures in
+    let fit = fit_ok g.row.PRECISION (g.G.Models.coded c.args.models.now c.args.symbols.now) (c.in-Ok.ensures c.args.symbols.now refl) in
     let right = c.in-Some.ensures.variant.0 refl in
     let is : c.from_raw_parts-coder.result.state ≡ state (number c.args.heads.now.compressed) (g.State.BitArray.number c.args.heads.now.remainders) (stack_in number c.args.compressed.now c.args.compressed_len.now) []
     = ap (λ coder. coder.state) c.from_raw_parts-coder.ensures.value ∙ rw (c.in-Some.ensures.value, c.new_at_write_end-lent.ensures, c.new-2.ensures.items, take-length (take c.args.compressed_len.now c.args.compressed.now)) refl in
@@ -47,7 +47,7 @@ returns g c =
     let number = g.Word.BitArray.number in
     let old = keeps c.args.heads.now c.args.compressed.now c.args.compressed_len.now c.args.remainders.now c.args.remainders_len.now in
     let within : AreInUse old = (omega (arith, c.if-compressed_len-compressed.false), omega (arith, c.if-remainders_len-remainders.false)) in
-    let fit = fit_ok g.row.PRECISION (g.G.Models.coded c.args.models.now c.args.symbols.now) c.in-Ok.ensures in
+    let fit = fit_ok g.row.PRECISION (g.G.Models.coded c.args.models.now c.args.symbols.now) (c.in-Ok.ensures c.args.symbols.now refl) in
     let right = c.in-Some.ensures.variant.0 refl in
     let is : c.from_raw_parts-coder.result.state ≡ state (number c.args.heads.now.compressed) (g.State.BitArray.number c.args.heads.now.remainders) (stack_in number c.args.compressed.now c.args.compressed_len.now) []
     = ap (λ coder. coder.state) c.from_raw_parts-coder.ensures.value ∙ rw (c.in-Some.ensures.value, c.new_at_write_end-lent.ensures, c.new-2.ensures.items, take-length (take c.args.compressed_len.now c.args.compressed.now)) refl in

@@ -12,7 +12,7 @@ loop-place-preserved g c =
     let kept = c.loop-place.invariant in
     let step = c.in-Ok-decode_symbol.ensures.step in
     let xs = c.loop-place.symbols.items in
-    let ms = g.L.ModelList.tables c.args.models.now in
+    let ms = g.L.DecoderModelList.tables c.args.models.now in
     let at = rw (c.turn_to.ensures.place, c.turn_to.ensures.tables, kept.tables) at c.model.ensures in
     let next = pairs_next g.row.PRECISION own xs ms c.in-Ok-decode_symbol.symbol (g.L.Model.EntropyModel.table c.model.result.now) (omega (arith, kept.count, c.loop-place-test.true, c.requires)) (rw kept.count at) in
     record {
@@ -33,6 +33,6 @@ returns-in-Err-Frontend-clause-err g c =
     (rw (c.in-Err-Frontend.is ∙ ap Err c.in-Err-Frontend.field-0-is) at c.decode_symbol.ensures.step) in
     inr (
       refl,
-      ends_pairs w s g.row.PRECISION (λ (table : List (ℕ × ℕ × ℕ)). table) c.loop-place.symbols.items (g.L.ModelList.tables c.args.models.now) c.args.count c.loop-place.place
+      ends_pairs w s g.row.PRECISION (λ (table : List (ℕ × ℕ × ℕ)). table) c.loop-place.symbols.items (g.L.DecoderModelList.tables c.args.models.now) c.args.count c.loop-place.place
           c.args.coder.now.state c.loop-place.coder.state kept.count c.loop-place-test.true c.requires kept.taken stop,
     )

@@ -1,4 +1,4 @@
-use Rattle.std.proofs.Common.{◌≡◌, ◌∙◌, ◌-◌, ◌≤◌, ℕ, List, ap, arith, length, map, rules, sym}
+use Rattle.std.proofs.Common.{◌≡◌, ◌∙◌, ◌-◌, ◌≤◌, ℕ, List, ap, arith, length, map, refl, rules, sym}
 use Rattle.std.proofs.lemmas.List.{length-map}
 use Rattle.constriction_inputs.specs.Coded.{items}
 use Rattle.constriction_calls.specs.RangeCalls.{IsDecoderKept}
@@ -7,8 +7,8 @@ use Rattle.constriction_calls.proofs.RangeAnswers.{takes_after, takes_fault, wor
 use Rattle.constriction_calls.proofs.RangeTaking.{finds_same, stands_on, stands_read}
 use Rattle.constriction_calls.proofs.range.decoding.decode.Goals as goal
 
-pub returns-in-Ok-take_list : goal.returns-in-Ok-take_list
-returns-in-Ok-take_list g c =
+pub returns-in-Ok : goal.returns-in-Ok
+returns-in-Ok g c =
     let number = g.Word.BitArray.number in
     let state = g.State.BitArray.number in
     let w = g.Word.BitArray.BITS in
@@ -19,19 +19,19 @@ returns-in-Ok-take_list g c =
     let symbols = c.args.symbols.now in
     let old = c.args.decoder.now in
     let new = c.decoder_parts.result in
-    let d = c.in-Ok-take_list.last in
-    let again = c.in-Ok-take_list.again.items in
+    let d = c.in-Ok.last in
+    let again = c.in-Ok.again.items in
     let size = length-map c.args.words.now number in
     let within : old.pos ≤ length buffer = omega (arith, c.if-decoder-words.false, size) in
-    let fit = fit_ok P (coded symbols) c.in-Ok.ensures in
+    let fit = fit_ok P (coded symbols) (c.in_ok-check.ensures symbols refl) in
     let is : IsDecoderKept state w s old = search rules in
     let same : c.copy_from_slice.new.self ≡ again = c.copy_from_slice.ensures.after ∙ c.deref.ensures.value in
-    let count : length c.copy_from_slice.new.self ≡ length symbols = ap length same ∙ c.in-Ok-take_list.ensures.count in
-    let are = sym (c.in-Some-decoder_list.ensures.items again c.in-Ok-take_list.ensures.count) in
+    let count : length c.copy_from_slice.new.self ≡ length symbols = ap length same ∙ c.in-Ok.ensures.count in
+    let are = sym (c.in-Some-decoder_list.ensures.items again c.in-Ok.ensures.count) in
     record {
       call = takes_after state w s P coded buffer old symbols within fit is new c.copy_from_slice.new.self
           (λ words run at.
-          let got = c.in-Ok-take_list.ensures.decoded words run (stands_read state w s buffer words run old c.in-Some.reading at c.in-Some.ensures.read) in
+          let got = c.in-Ok.ensures.decoded words run (stands_read state w s buffer words run old c.in-Some.reading at c.in-Some.ensures.read) in
           let found = finds_same w s words _ (items P (coded again)) run got.0 are got.1 in (
             got.0,
             finds_same w s words (items P (coded again)) (items P (coded c.copy_from_slice.new.self)) run got.0 (ap (λ (xs : List ℕ). items P (coded xs)) (sym same)) found,
@@ -53,13 +53,13 @@ returns g c =
     let symbols = c.args.symbols.now in
     let old = c.args.decoder.now in
     let within : old.pos ≤ length buffer = omega (arith, c.if-decoder-words.false, length-map c.args.words.now number) in
-    let fit = fit_ok P (coded symbols) c.in-Ok.ensures in
+    let fit = fit_ok P (coded symbols) (c.in_ok-check.ensures symbols refl) in
     let is : IsDecoderKept state w s old = search rules in
     record {
-      call = takes_fault state w s P coded buffer old symbols within fit is c.in-Err-take_list.refusal
-          (words_moved c.in-Err-take_list.refusal
+      call = takes_fault state w s P coded buffer old symbols within fit is c.in-Err.refusal
+          (words_moved c.in-Err.refusal
           (λ none words others run last at all count.
           none words others run last (stands_read state w s buffer words run old c.in-Some.reading at c.in-Some.ensures.read)
           (finds_same w s words (items P (coded others)) _ run last (c.in-Some-decoder_list.ensures.items others count) all) count)
-          c.in-Err-take_list.ensures.err);
+          c.in-Err.ensures.err);
     }

@@ -8,7 +8,7 @@ pub returns-in-Err-clause-err : goal.returns-in-Err-clause-err
 returns-in-Err-clause-err g c = λ words symbols old last at all count.
     let P = g.row.PRECISION in
     let own = λ (t : List (ℕ × ℕ × ℕ)). t in
-    let tables = g.L.ModelList.tables c.args.list.now in
+    let tables = g.L.DecoderModelList.tables c.args.list.now in
     let m = c.model.result.now in
     let placed = rw (c.turn_to.ensures.place, c.turn_to.ensures.tables, c.loop-i.invariant.tables) at c.model.ensures in
     let i = c.loop-i.i in
@@ -26,7 +26,7 @@ loop-i-preserved g c =
     let w = g.Word.BitArray.BITS in
     let s = g.State.BitArray.BITS in
     let P = g.row.PRECISION in
-    let tables = g.L.ModelList.tables c.args.list.now in
+    let tables = g.L.DecoderModelList.tables c.args.list.now in
     let own = λ (t : List (ℕ × ℕ × ℕ)). t in
     let m = c.model.result.now in
     let placed = rw (c.turn_to.ensures.place, c.turn_to.ensures.tables, c.loop-i.invariant.tables) at c.model.ensures in

@@ -16,7 +16,7 @@ returns g c =
       width = c.args.self.now.width;
     } in
     let below = λ (place : ℕ). mixed (components_at by place) in
-    let symbols = c.args.symbols.now in
+    let symbols = g.S.Symbol.numbers c.args.symbols.now in
     let places = range_with_len 0 (length symbols) in (
       λ yes. places_known g.row.PRECISION below parts.min (symbols_in parts.min parts.max) places symbols (c.are_places.ensures.0 yes),
       λ known. c.are_places.ensures.1 (known_places g.row.PRECISION below parts.min (symbols_in parts.min parts.max) places symbols (sym (length-range_with_len 0 (length symbols))) known),

@@ -1,0 +1,25 @@
+use Rattle.std.proofs.Common.{◌+◌, ◌≤◌, length, rules}
+use Rattle.constriction_queue.specs.Encoder.{run_by}
+use Rattle.constriction_calls.specs.RangeCalls.{CanEncode, RangeKept}
+use Rattle.constriction_calls.proofs.RangeAnswers.{puts_ended}
+use Rattle.constriction_calls.proofs.range.encoding.encode_list.Goals as goal
+
+pub returns : goal.returns
+returns g c =
+    let number = g.Word.BitArray.number in
+    let state = g.State.BitArray.number in
+    let w = g.Word.BitArray.BITS in
+    let s = g.State.BitArray.BITS in
+    let old : RangeKept g.row.Word.Denot g.row.State.Denot = record { encoder = c.args.encoder.now; words = c.args.buffer.now; len = c.args.len.now } in
+    let coded = g.I.Items.coded c.args.items.now in
+    let count = g.I.Items.item_count c.args.items.now in
+    let can : CanEncode number state w s c.args.encoder.now count = search rules in
+    let room : c.args.len.now + c.args.encoder.now.held ≤ length c.args.buffer.now = search rules in
+    let made = c.in-Some-put_list in
+    let put = rw c.in-Some-list.ensures.items at made.ensures in
+    let e = c.end_putting.ensures in
+    let new = c.end_putting.new in
+    record {
+      call = puts_ended number state w s g.row.PRECISION coded count old c.requires.within c.requires.fit can room (run_by w s c.in-Some.made) c.in-Some.ensures.run made.now put.is
+          made.words.items c.deref.result.now c.deref.ensures.value put.narrowed c.end_putting.result new.encoder new.buffer new.len e.ok e.err e.full e.kept;
+    }
