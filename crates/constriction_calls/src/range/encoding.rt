@@ -55,6 +55,7 @@ pub fn encode<
         return Err(Refusal::WrongLength);
     }
     items.check()?;
+    // The proof that two words fit in memory takes a bound on the size of one.
     let word = Word::nothing();
     if size_of_val(&word) <= 64 && encoder.held <= buffer.len() - *len {
         let mut room = [word, word];
