@@ -176,7 +176,7 @@ fn put_one<
     requires fit { AreFit PRECISION (I.coded items.now) }
     ensures can { IfSome result
         (λ _. CanEncode Word.number State.number Word.BITS State.BITS parts (I.item_count items.now)) }
-    ensures put { IfSome result (λ made. Narrowed Word.number State.number Word.BITS State.BITS
+    ensures narrowed { IfSome result (λ made. Narrowed Word.number State.number Word.BITS State.BITS
         (arguments.items PRECISION (I.coded items.now)) (run_kept Word.number State.number Word.BITS State.BITS parts [])
         made.0.now made.1) }
 {

@@ -20,5 +20,5 @@ returns-in-Some g c =
     let new = c.end_putting.new in
     record {
       call = puts_ended number state w s g.row.PRECISION coded count old within (fit_ok g.row.PRECISION coded c.in_ok-check.ensures) made.ensures.can room (run_kept number state w s c.args.encoder.now []) refl made.now
-          made.ensures.put.is made.words.now made.words.now refl made.ensures.put.narrowed c.end_putting.result new.encoder new.buffer new.len e.ok e.err e.full e.kept;
+          made.ensures.narrowed.is made.words.now made.words.now refl made.ensures.narrowed.narrowed c.end_putting.result new.encoder new.buffer new.len e.ok e.err e.full e.kept;
     }

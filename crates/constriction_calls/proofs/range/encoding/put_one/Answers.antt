@@ -8,8 +8,8 @@ pub encode_interval-requires-clause-step : goal.encode_interval-requires-clause-
 encode_interval-requires-clause-step g c =
     is_step_at g.Word.BitArray.BITS g.State.BitArray.BITS g.row.PRECISION g.P.BitArray.BITS (g.I.List.ItemList.list_items c.in_ok-list.list) 0 _ _ c.in_ok-found.ensures.found g.met.P.WordOf.width_law
 
-pub returns-in-Ok-clause-put : goal.returns-in-Ok-clause-put
-returns-in-Ok-clause-put g c =
+pub returns-in-Ok-clause-narrowed : goal.returns-in-Ok-clause-narrowed
+returns-in-Ok-clause-narrowed g c =
     let w = g.Word.BitArray.BITS in
     let s = g.State.BitArray.BITS in
     let list = g.I.List.ItemList.list_items c.in_ok-list.list in
