@@ -2,6 +2,7 @@
 
 from __future__ import annotations
 
+import ast
 import re
 from math import ceil, log2
 
@@ -60,6 +61,18 @@ def gate():
     others = re.search(r"have an estimated share of (\d+)\.", times.replace("\n", " "))
     judge(said and others and int(said[1]) == sum(sums) + int(others[1]), "docs/GATE.md: the gate's multiple")
     judge(said and f"about {said[1]} times" in read("README.md"), "README.md: the gate's multiple")
+    shares(rows)
+
+
+def shares(rows):
+    """The shares by which the first call reckons how far it is are those of docs/GATE.md, of which one row may have two crates."""
+    tree = ast.parse(read("tools/first_call.py"))
+    weights = next(ast.literal_eval(it.value) for it in tree.body if isinstance(it, ast.Assign) and getattr(it.targets[0], "id", "") == "WEIGHTS")
+    told = {tuple(re.findall(r"`(\w+)`", row[0])): float(row[1]) for row in rows if row[1].strip()}
+    for crates, share in told.items():
+        known = [weights[it] for it in crates if it in weights]
+        judge(not known or abs(sum(known) - share) < 0.05, f"tools/first_call.py: the share of {', '.join(crates)} is {share} in docs/GATE.md")
+    judge(weights.keys() <= {it for crates in told for it in crates}, "docs/GATE.md: a share for each crate of the first call")
 
 
 def crates_below(name):
