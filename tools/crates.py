@@ -41,7 +41,8 @@ class Crate:
         return sorted(f"{at}/{name}" for at, _, names in walked for name in names)
 
     def stamp(self, version):
-        """Returns a sum over all that a proof of the crate rests on: the toolchain's version, HANDLES, the crate's line of crates.txt, and its files and those below."""
+        """Returns a sum over all that a proof of the crate rests on: the toolchain's version, HANDLES, the lines of crates.txt for the crate and those
+        below, and their files."""
         handles = f"{self.top}/HANDLES"
         found = [version, content(handles) if os.path.isfile(handles) else b""]
         for it in [*self.below(), self]:

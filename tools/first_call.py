@@ -170,7 +170,7 @@ class Run:
         seconds, left, at_work = self.progress.seconds(), self.left(), ", ".join(self.running)
         if left is None:
             return f"at work on {at_work} for {seconds:.0f} s"
-        return f"{100 * seconds / (seconds + left):.1f} % after {seconds:.0f} s, {about(left)} left; at work on {at_work}"
+        return f"{min(99.9, 100 * seconds / (seconds + left)):.1f} % after {seconds:.0f} s, {about(left)} left; at work on {at_work}"
 
     def say_answer(self, answer):
         """Says the answer of a trial run."""
