@@ -523,8 +523,8 @@ uint32_t constriction_exp_golomb_encode_stack_u32(const uint32_t *symbols, size_
                                                   uint32_t *words, size_t capacity, size_t *len, size_t *needed);
 
 /* Decodes symbol_count numbers.
-   Errors: INVALID_DATA (the next bits can't begin a codeword, or the last word of a stack is 0), OUT_OF_DATA,
-   NO_MEMORY. */
+   Errors: INVALID_DATA (the next bits begin with more zeros than a symbol has bits, or with the codeword of a number
+   that doesn't fit a symbol; or the last word of a stack is 0), OUT_OF_DATA, NO_MEMORY. */
 uint32_t constriction_exp_golomb_decode_queue_u32(const uint32_t *words, size_t word_count,
                                                   uint32_t *symbols, size_t symbol_count);
 uint32_t constriction_exp_golomb_decode_stack_u32(const uint32_t *words, size_t word_count,
@@ -929,8 +929,8 @@ uint32_t constriction_exp_golomb_encode_stack_u16(const uint16_t *symbols, size_
                                                   uint16_t *words, size_t capacity, size_t *len, size_t *needed);
 
 /* Decodes symbol_count numbers.
-   Errors: INVALID_DATA (the next bits can't begin a codeword, or the last word of a stack is 0), OUT_OF_DATA,
-   NO_MEMORY. */
+   Errors: INVALID_DATA (the next bits begin with more zeros than a symbol has bits, or with the codeword of a number
+   that doesn't fit a symbol; or the last word of a stack is 0), OUT_OF_DATA, NO_MEMORY. */
 uint32_t constriction_exp_golomb_decode_queue_u16(const uint16_t *words, size_t word_count,
                                                   uint16_t *symbols, size_t symbol_count);
 uint32_t constriction_exp_golomb_decode_stack_u16(const uint16_t *words, size_t word_count,

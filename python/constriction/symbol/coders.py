@@ -124,7 +124,8 @@ class QueueDecoder(Coder):
         """Decodes the next symbol, or a list of the next ``amt`` symbols.
 
         Raises :class:`OutOfDataError` if the words end before all symbols are decoded, and :class:`InvalidDataError` if
-        the next bits can't begin a codeword. After an error the decoder is unchanged.
+        the next bits begin with 33 zeros, or with the Exp-Golomb codeword of 2^32 or more. After an error the decoder is
+        unchanged.
         """
         codebook_wanted(codebook)
         if amt is None:
@@ -258,7 +259,7 @@ class StackCoder(Coder):
         """Decodes the symbol on top of the stack, or a list of the ``amt`` symbols on top.
 
         Raises :class:`OutOfDataError` if the stack has too few bits, and :class:`InvalidDataError` if the bits on top
-        can't begin a codeword. After an error the stack is unchanged.
+        begin with 33 zeros, or with the Exp-Golomb codeword of 2^32 or more. After an error the stack is unchanged.
         """
         codebook_wanted(codebook)
         if amt is None:
