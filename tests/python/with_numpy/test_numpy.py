@@ -4,6 +4,7 @@ from __future__ import annotations
 
 import copy
 import math
+import os
 import pickle
 import random
 import subprocess
@@ -260,6 +261,29 @@ print(*kinds, type(coder.decode(Uniform(3), 2)).__name__)
             ours = _units.counts_of(array("d", chances))
             with mock.patch.object(_units, "numpy_module", return_value=None):
                 self.assertEqual(ours, _units.counts_of(array("d", chances)))
+
+    def test_lists_of_whole_numbers(self) -> None:
+        """Lists of numpy's whole numbers, and of arrays without dimensions, are counts, under both rules of promotion."""
+        program = """
+import numpy as np
+from constriction.stream.model import Categorical
+from constriction.stream.stack import AnsCoder
+for given, counts in (
+    ([100, np.int32(3)], [100, 3]), ([np.int64(1), np.int64(2)], [1, 2]), (list(np.bincount([0, 1, 1, 2])), [1, 2, 1]),
+    ([np.array(3), np.array(1)], [3, 1]), ((np.uint8(200), 1 << 63), [200, 1 << 63]), ([np.array(0.75), np.array(0.25)], [0.75, 0.25]),
+    ([np.int8(1), 0.5], [1.0, 0.5]), ([np.bool_(True), 3], [1.0, 3.0]),
+):
+    table = list(Categorical(counts).table())
+    assert list(Categorical(given).table()) == table, (given, list(Categorical(given).table()), table)
+    coder = AnsCoder()
+    coder.encode_reverse([0, 1], Categorical(), [given, given])
+    assert coder.decode(Categorical(), [counts, counts]).tolist() == [0, 1]
+print("done")
+"""
+        for state in ("legacy", "weak"):
+            environment = {**os.environ, "NPY_PROMOTION_STATE": state}
+            ran = subprocess.run([sys.executable, "-c", program], env=environment, capture_output=True, text=True)
+            self.assertEqual((ran.stdout, ran.stderr), ("done\n", ""))
 
     def test_rows_that_are_rounded_together(self) -> None:
         """As each alone, in several parts, and with the errors of each alone."""
