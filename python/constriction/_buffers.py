@@ -14,8 +14,8 @@ from importlib import import_module
 from typing import TYPE_CHECKING, Any, SupportsFloat, SupportsIndex, Union, overload
 
 __all__ = [
-    "NUMBER", "SYMBOL", "WORD", "Amount", "Answer", "Array", "List", "Numbers", "Parameter", "Real", "Reals", "Symbols", "addressed", "answered", "lent", "listed",
-    "room",
+    "NUMBER", "SYMBOL", "WORD", "Amount", "Answer", "Array", "List", "Numbers", "Parameter", "Real", "Reals", "Symbols", "addressed",
+    "answered", "lent", "listed", "numpy_for_answers", "numpy_module", "room",
 ]  # fmt: skip
 
 #: A list of whole numbers, as words or symbols: a list, a tuple, an ``array.array``, a numpy array.

@@ -234,9 +234,26 @@ def _under_parameters(
     return _under_located(state, located, decode)
 
 
-def _is_count(number: Any, complete: bool) -> bool:
-    """Returns whether this is a number of symbols. For a model that takes no parameters, it may also be a shape."""
-    return is_one(number) and hasattr(number, "__index__") or complete and isinstance(number, tuple)
+def _counted(model: Model, rest: tuple[Any, ...], amt: Any) -> tuple[tuple[Any, ...], bool]:
+    """Returns what a decode gets after the model, and whether this is a number of symbols or a shape.
+
+    A model of a function may have parameters or none. A single whole number is then a number of symbols. For a model
+    that takes no parameters, a tuple is a shape.
+    """
+    if amt is not None:
+        if rest:
+            raise TypeError("expected parameters or a number of symbols, got both")
+        if model.missing:
+            raise TypeError(f"expected {lists_named(model.missing)}, got a number of symbols")
+        return (amt,), True
+    if len(rest) != 1 or model.missing:
+        return rest, False
+    number = rest[0]
+    if is_one(number) and hasattr(number, "__index__") or model.complete and isinstance(number, tuple):
+        return rest, True
+    if model.complete:
+        raise TypeError(f"expected a number of symbols as a whole number, got {number!r}")
+    return rest, False
 
 
 def shape_counted(amt: Any) -> Shape:
@@ -264,16 +281,7 @@ def decoded(
     """
     if not isinstance(model, Model):
         model_wanted(model)
-    if amt is not None:
-        if rest:
-            raise TypeError("expected parameters or a number of symbols, got both")
-        rest = (amt,)
-        if model.missing:
-            raise TypeError(f"expected {lists_named(model.missing)}, got a number of symbols")
-    # A model of a function may have parameters or none. A single whole number is then a number of symbols.
-    counted = amt is not None or len(rest) == 1 and not model.missing and _is_count(rest[0], model.complete)
-    if len(rest) == 1 and model.complete and not counted:
-        raise TypeError(f"expected a number of symbols as a whole number, got {rest[0]!r}")
+    rest, counted = _counted(model, rest, amt)
     given = rest
     shape: Shape = shape_counted(rest[0]) if counted else ()
     try:

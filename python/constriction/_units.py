@@ -12,8 +12,8 @@ from ._numbers import real
 from .errors import WrongWeightsError, shown
 
 __all__ = [
-    "FARTHEST", "MOST_WEIGHT", "NARROWEST", "SHARES", "UNITS_OF_ONE", "WIDEST", "component_weights_of", "counts_of", "counts_of_row", "counts_of_rows", "counts_of_wholes", "locations_of", "moved", "parts_of", "scales_of",
-    "unit_of", "units_of", "wrong_row",
+    "FARTHEST", "MOST_WEIGHT", "NARROWEST", "SHARES", "UNITS_OF_ONE", "WIDEST", "component_weights_of", "counts_of", "counts_of_row",
+    "counts_of_rows", "counts_of_wholes", "locations_of", "moved", "parts_of", "scales_of", "unit_of", "units_of", "wrong_row",
 ]  # fmt: skip
 
 #: The number of units in a location or a scale of 1.

@@ -87,7 +87,7 @@ class QuickWays(unittest.TestCase):
         slow = mock.patch("constriction._coder.Coder._changed", side_effect=AssertionError("the way of lists"))
         dice, mixture, family = random.Random(5), QuantizedMixture(QuantizedGaussian(-9, 9)), QuantizedGaussian(-9, 9)
         far = QuantizedMixture(QuantizedGaussian(1 << 40, (1 << 40) + 6))
-        for _ in range(200):
+        for _ in range(60):
             shares = [dice.choice((0.0, 1e-9, 0.5, dice.random() * 10 ** dice.randint(-30, 30))) for _ in range(dice.choice((2, 5, 16)))] + [0.25]
             weights = by.random_weights(dice, 3)
             components = [dice.random() / 2 for _ in range(3)], [dice.uniform(-12, 12) for _ in range(3)], [dice.uniform(0.01, 70) for _ in range(3)]
