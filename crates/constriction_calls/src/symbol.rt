@@ -18,8 +18,8 @@
 //!   - There are more than `2^62 - 1` weights for encoding, or more than `2^63 - 1` for decoding.
 //! - `ImpossibleSymbol`: a symbol has no codeword.
 //! - `NoSpace(needed)`: the buffer is too short. `needed` is the number of words that the buffer has to hold.
-//! - `InvalidData`: the next bits can't begin the Exp-Golomb codeword of a number that fits its type, or a stack's last
-//!   word is 0.
+//! - `InvalidData`: the next bits begin with more zeros than a number has bits, or with the Exp-Golomb codeword of a
+//!   number that doesn't fit its type; or a stack's last word is 0.
 //! - `OutOfData`: the words end before all symbols are decoded.
 //!
 //! If there is no memory, the call returns `NoMemory`, unless `WrongLength`, `WrongWeights` or `ImpossibleSymbol`
@@ -60,7 +60,7 @@ pub trait Codes {
 
     /// The codebook for decoding.
     type Decoder: DecoderCodebook<Symbol = Self::Symbol, InvalidCodeword = Self::Wrong>;
-    /// The error that `Decoder` returns for bits that don't begin with a codeword.
+    /// The error that `Decoder` returns for bits that aren't a symbol's codeword.
     type Wrong: Drop;
 
     /// Defines the codewords of numbers: Exp-Golomb codewords, or the codewords of a Huffman tree.
