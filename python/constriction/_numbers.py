@@ -16,7 +16,7 @@ from ._buffers import NUMBER, SYMBOL, WORD, List, numpy_module, room
 from .errors import IMPOSSIBLE_SYMBOL, ImpossibleSymbolError, InvalidDataError, Refusal, WrongLengthError, shown
 
 __all__ = [
-    "as_numpy", "count_of", "floats_of", "grid_of", "is_one", "is_row", "listed_of", "places_of", "plain_of", "real", "reals_of", "rows_of",
+    "as_numpy", "count_of", "doubles", "floats_of", "grid_of", "is_one", "is_row", "listed_of", "places_of", "plain_of", "real", "reals_of", "rows_of",
     "sequence_of", "table_of", "whole", "wholes_of", "words_of",
 ]  # fmt: skip
 
@@ -254,6 +254,14 @@ def places_of(symbols: Any, first: int) -> array[Any]:
         raise ImpossibleSymbolError(IMPOSSIBLE_SYMBOL) from None
 
 
+def doubles(table: Any) -> Any:
+    """Returns a numpy array of real numbers as 64-bit floats. Numbers past these become infinite."""
+    if table.dtype.itemsize <= 8:
+        return table.astype("float64", copy=False)
+    with numpy_module().errstate(over="ignore"):
+        return table.astype("float64")
+
+
 def _real_table(numbers: Any) -> Any:
     """Returns a list of real numbers if it is a numpy array. Otherwise returns None."""
     table = as_numpy(numbers)
@@ -270,7 +278,7 @@ def floats_of(numbers: Any) -> array[float]:
         return array(NUMBER, (real(numbers),))
     table = _real_table(numbers)
     if table is not None:
-        return _filled(NUMBER, table)
+        return _filled(NUMBER, doubles(table))
     if type(numbers) is list and _FLOAT.issuperset(map(type, numbers)):
         return array(NUMBER, numbers)
     memory = _copied(NUMBER, numbers)
@@ -283,7 +291,7 @@ def reals_of(numbers: Any) -> Any:
     A numpy array becomes an array of 64-bit floats. If it is one already, it is returned without a copy.
     """
     table = _real_table(numbers)
-    return floats_of(numbers) if table is None else table.astype("float64", copy=False)
+    return floats_of(numbers) if table is None else doubles(table)
 
 
 def table_of(numbers: Any) -> Any:
@@ -303,7 +311,7 @@ def grid_of(numbers: Any) -> tuple[Any, int]:
             raise TypeError(f"expected a row for each symbol, got an array of {table.ndim} dimensions")
         if table.dtype.kind not in "iubf":
             raise TypeError(f"expected floats, got {table.dtype}")
-        floats = table.astype("float64", copy=False).ravel() if table.size else array(NUMBER)
+        floats = doubles(table).ravel() if table.size else array(NUMBER)
         return floats, table.shape[-1]
     given = listed_of(numbers)
     if given and is_one(given[0]):

@@ -8,7 +8,7 @@ from math import frexp, inf, isfinite, isnan, ldexp, nan
 from typing import Any
 
 from ._buffers import NUMBER, SYMBOL, WORD, numpy_module, room
-from ._numbers import real
+from ._numbers import doubles, real
 from .errors import WrongWeightsError, shown
 
 __all__ = [
@@ -264,7 +264,7 @@ def counts_of_rows(table: Any) -> array[int] | None:
     Returns None if a row has no such counts.
     """
     numpy = numpy_module()
-    rows = table.astype("float64")
+    rows = doubles(table)
     greatest = rows.max(axis=1)
     if not (numpy.isfinite(rows).all() and rows.min() >= 0 and greatest.min() > 0):
         return None

@@ -170,6 +170,21 @@ print(*kinds, type(coder.decode(Uniform(3), 2)).__name__)
         self.assertRaises(errors.ImpossibleSymbolError, AnsCoder().encode_reverse, numpy.array([1, 10, 2]), family, good, good)
         self.assertRaises(TypeError, AnsCoder().decode, family, good.astype("complex128"), good)
 
+    def test_floats_of_more_bits(self) -> None:
+        """They are rounded to 64 bits, and refused past these, without a warning."""
+        long, family = numpy.longdouble, QuantizedGaussian(-9, 9)
+        coder, wanted = AnsCoder(), AnsCoder()
+        coder.encode_reverse([1, 2], family, numpy.array([0.1, 0.2], dtype=long), numpy.array([1.5, 2.5], dtype=long))
+        wanted.encode_reverse([1, 2], family, [float(long(0.1)), 0.2], [1.5, 2.5])
+        self.assertEqual(coder, wanted)
+        self.assertEqual(Categorical(numpy.array([0.1, 0.9], dtype=long)).table(), Categorical([0.1, 0.9]).table())
+        huge = numpy.array([1.0, 2.0], dtype=long) * long(10) ** 400 if numpy.finfo(long).max > 1e308 else numpy.array([numpy.inf] * 2)
+        for call in (
+            lambda: coder.decode(family, huge, [1.0, 1.0]), lambda: coder.decode(family, [0.0, 0.0], huge), lambda: Categorical(huge),
+            lambda: coder.decode(Bernoulli(), huge), lambda: coder.decode(Categorical(), huge.reshape(1, 2)), lambda: coder.decode(family, huge[0], 1.0),
+        ):  # fmt: skip
+            self.assertRaises(ValueError, call)
+
     def test_probabilities(self) -> None:
         chances = numpy.array([0.1, 0.0, 0.2, 0.7])
         for kind in ("float64", "float32", "float16", ">f8"):
