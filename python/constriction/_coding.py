@@ -265,19 +265,35 @@ def shape_counted(amt: Any) -> Shape:
     return tuple(map(count_of, amt))
 
 
+def typed(symbols: Numbers, dtype: Any) -> Any:
+    """Returns symbols as a numpy array of an integer type. Raises ValueError if a symbol doesn't fit the type."""
+    numpy = numpy_for_answers()
+    if numpy is None:
+        raise TypeError("expected no dtype, because numpy can't be imported, got one")
+    kind = numpy.dtype(dtype)
+    if kind.kind not in "iu":
+        raise TypeError(f"expected an integer type, got {kind}")
+    found, limits = answered(symbols), numpy.iinfo(kind)
+    for symbol in (found.min(), found.max()) if found.size else ():
+        if not limits.min <= int(symbol) <= limits.max:
+            raise ValueError(f"expected symbols that fit {kind}, got {symbol}")
+    return found.astype(kind)
+
+
 def decoded(
     state: Any,
     model: Model,
     rest: tuple[Any, ...],
     amt: Any,
+    dtype: Any,
     decode: Call,
     quantile: Callable[[Any], int],
     most: Callable[[Any], int] | None = None,
 ) -> tuple[Any, Any]:
     """Returns the state after the next symbols, and the symbols: one, ``amt``, or one for each set of parameters.
 
-    ``quantile`` returns the quantile that selects the next symbol, a number in 0 .. 2^24 - 1. ``most`` returns a number
-    of symbols. A decode of more symbols is refused.
+    ``dtype`` is numpy's type of an array of symbols, or None. ``quantile`` returns the quantile that selects the next
+    symbol, a number in 0 .. 2^24 - 1. ``most`` returns a number of symbols. A decode of more symbols is refused.
     """
     if not isinstance(model, Model):
         model_wanted(model)
@@ -301,4 +317,5 @@ def decoded(
     symbols = shifted(places, model.first)
     if not shape:
         return state, symbols[0]
-    return state, answered(symbols) if len(shape) == 1 else answered(symbols).reshape(shape)
+    found = answered(symbols) if dtype is None else typed(symbols, dtype)
+    return state, found if len(shape) == 1 else found.reshape(shape)

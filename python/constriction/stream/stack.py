@@ -177,11 +177,11 @@ class AnsCoder(Coder):
         ...
 
     @overload
-    def decode(self, model: Model, amt: SupportsIndex) -> Answer:
+    def decode(self, model: Model, amt: SupportsIndex, *, dtype: Any = None) -> Answer:
         ...
 
     @overload
-    def decode(self, model: Model, *, amt: Amount) -> Answer:
+    def decode(self, model: Model, *, amt: Amount, dtype: Any = None) -> Answer:
         ...
 
     @overload
@@ -193,18 +193,18 @@ class AnsCoder(Coder):
         ...
 
     @overload
-    def decode(self, model: Model, parameter: Parameter, /, *parameters: Parameter) -> Answer:
+    def decode(self, model: Model, parameter: Parameter, /, *parameters: Parameter, dtype: Any = None) -> Answer:
         ...
 
-    def decode(self, model: Model, *amt_or_parameters: Any, amt: Any = None) -> Any:
+    def decode(self, model: Model, *amt_or_parameters: Any, amt: Any = None, dtype: Any = None) -> Any:
         """Decodes one symbol, ``amt`` symbols, or one symbol for each set of parameters.
 
         ``amt`` is a number of symbols, or the shape of an array of them. Parameters may have any shape, and the answer
-        has the shape to which they broadcast by numpy's rules.
+        has the shape to which they broadcast by numpy's rules. ``dtype`` is numpy's integer type of an array of symbols.
 
         An empty coder decodes to symbols too, so the caller has to know the number of encoded symbols.
         """
-        if amt is None:
+        if amt is None and dtype is None:
             lane = self._lane
             if lane is not None and not amt_or_parameters and isinstance(model, Model):
                 symbol = lane.decode(self, model, ())
@@ -212,7 +212,7 @@ class AnsCoder(Coder):
                 symbol = self._decoded_alone(model, amt_or_parameters)
             if symbol is not None:
                 return symbol
-        return self._changed(lambda it: decoded(it, model, amt_or_parameters, amt, _decode, _quantile))
+        return self._changed(lambda it: decoded(it, model, amt_or_parameters, amt, dtype, _decode, _quantile))
 
     def _made_lane(self) -> Lane:
         self._lane = _Lane()

@@ -145,6 +145,28 @@ class Shapes(unittest.TestCase):
         coder.encode_reverse(view, Uniform(5))
         self.assertEqual(coder.decode(Uniform(5), amt=(2, 2)).tolist(), [[1, 2], [3, 4]])
 
+    def test_types_of_answers(self) -> None:
+        """A symbol that doesn't fit is refused, and the coder is as before."""
+        family, symbols = QuantizedGaussian(-200, 300), np.array([[-3, 7], [100, 0]])
+        for kind in ("int8", "int16", ">i4", np.int64, np.dtype("int32")):
+            for coder in (AnsCoder(), RangeEncoder()):
+                encoder: Any = coder
+                (encoder.encode if isinstance(coder, RangeEncoder) else encoder.encode_reverse)(symbols, family, symbols * 1.0, 2.0)
+                decoder: Any = coder.get_decoder() if isinstance(coder, RangeEncoder) else coder
+                found = decoder.decode(family, symbols * 1.0, 2.0, dtype=kind)
+                np.testing.assert_array_equal(found, symbols)
+                self.assertEqual(found.dtype, np.dtype(kind))
+        for kind, wrong in (("uint8", -3), ("int8", 200), ("uint16", -1)):
+            coder = AnsCoder([5, 6])
+            coder.encode_reverse([1, wrong, 2], Uniform(300) if wrong > 0 else family, *(() if wrong > 0 else ([0.0] * 3, 9.0)))
+            before = coder.clone()
+            given = (3,) if wrong > 0 else ([0.0] * 3, 9.0)
+            self.assertRaisesRegex(ValueError, f"^expected symbols that fit {kind}, got {wrong}$", lambda: coder.decode(Uniform(300) if wrong > 0 else family, *given, dtype=kind))  # type: ignore[call-overload]
+            self.assertEqual(coder, before)
+        self.assertEqual(AnsCoder([5]).decode(Uniform(9), amt=(0, 2), dtype="uint8").shape, (0, 2))  # type: ignore[attr-defined]
+        self.assertIs(type(ChainCoder([5, 6, 7, 8]).decode(Uniform(9), dtype="uint8")), int)  # type: ignore[call-overload]
+        self.assertRaisesRegex(TypeError, "^expected an integer type, got float64$", AnsCoder([5]).decode, Uniform(9), 3, dtype="float64")
+
     def test_refusals(self) -> None:
         family, zeros, ones = QuantizedGaussian(-9, 9), np.zeros((2, 3)), np.ones((2, 3))
         words = "operands could not be broadcast together with shapes"
