@@ -8,7 +8,6 @@ mod ChainNarrow
 mod ChainPlaces
 mod ChainSteps
 mod ChainWords
-mod Intervals
 mod Known
 mod NarrowLists
 mod RangeAnswers
