@@ -426,6 +426,44 @@ class Whole(unittest.TestCase):
         for kind in ("refuse", "interrupt", "want_memory", "inside", "handle"):
             self.assertGreaterEqual(self.counts.get(kind, 0), self.calls // 20, self.counts)
 
+    def test_each_event(self) -> None:
+        """Calls that write words over words ahead, interrupted at each of their events, one after another."""
+        rare, often, family = WeightTable([1, (1 << 24) - 1]), Uniform(1 << 12), QuantizedGaussian(-9, 9)
+        often.table(), rare.table()
+        calls: list[Change] = [
+            lambda it: it.encode_reverse(0, rare), lambda it: it.encode_reverse(0, WeightTable(), [1, (1 << 24) - 1]),
+            lambda it: it.encode_reverse(9, family, -9.0, 0.5), lambda it: it.encode_reverse(9, QuantizedMixture(family), [1.0], [-9.0], [0.5]),
+            lambda it: it.encode_reverse([0] * 5, rare), lambda it: it.encode_reverse([9] * 5, family, [-9.0] * 5, [0.5] * 5),
+            lambda it: it.encode_reverse([0, 0, 0], WeightTable(), [[1, (1 << 24) - 1], [1, 0, (1 << 24) - 1], [1, (1 << 24) - 1]]),
+        ]  # fmt: skip
+        stopped = 0
+        for change in calls:
+            for skipped in range(2):
+                place = 0
+                while place >= 0:
+                    place += 1
+                    case, coder = Ans(random.Random(place)), AnsCoder(range(1 << 20, (1 << 20) + 60))
+                    for _ in range(4):
+                        coder.encode_reverse(coder.decode(often), often), coder.encode_reverse(1, rare)
+                    case.positions = []
+                    case.recorded(coder, 0)
+                    for _ in range(2 + skipped):
+                        coder.decode(often, 2), coder.decode(often)
+                        case.recorded(coder, coder.pos()[0])
+                    twin = twin_of(coder)
+                    after, before = twin_of(twin), coder.pos()[0]
+                    change(after)
+                    try:
+                        interrupted(lambda: change(coder), place)
+                        place = -1
+                    except Interrupt:
+                        stopped += after.pos()[0] > before
+                    if self.alike(coder, twin, after) is after:
+                        case.recorded(coder, before)
+                    self.assertTrue(case.found(coder))
+                    self.alike(coder, twin if coder.pos() == twin.pos() else after)
+        self.assertGreater(stopped, 100)
+
     def step(self, case: Case, coder: Any, twin: Any) -> int:
         """Makes a valid call, then one of the others. Returns the number of others."""
         dice = case.dice
