@@ -450,6 +450,11 @@ class Whole(unittest.TestCase):
                     for _ in range(2 + skipped):
                         coder.decode(often, 2), coder.decode(often)
                         case.recorded(coder, coder.pos()[0])
+                    coder.encode_reverse(1, rare)
+                    kept = coder.pos()[0]
+                    while coder.pos()[0] == kept:  # A decode takes a word off, just before an encode writes one.
+                        coder.decode(often)
+                    case.recorded(coder, kept)
                     twin = twin_of(coder)
                     after, before = twin_of(twin), coder.pos()[0]
                     change(after)
