@@ -51,8 +51,8 @@
    with a stack or a chain coder takes 45 nanoseconds for each weight, because it computes the weights' reciprocals.
    So a call with two symbols and 256 weights takes 3.4 microseconds, or 12 microseconds for such an encode. In
    addition, each symbol takes 3 to 6 nanoseconds to encode, 6 to decode with a stack coder, and 19 to decode with a
-   range coder. A decode of one symbol builds no table, and takes 1 to 3 nanoseconds for each weight. The functions
-   .._each take 4 nanoseconds for each weight of each row.
+   range coder. A call with one symbol builds no table: a decode of it takes 1 to 3 nanoseconds for each weight. The
+   functions .._each take 4 nanoseconds for each weight of each row.
 
    ONE SYMBOL AT A TIME. To encode one symbol, pass its interval. This takes 22 nanoseconds with a stack coder, 17
    with a range coder and 24 with a chain coder. You can decode one symbol without a call over all weights, if you can
