@@ -910,12 +910,47 @@ static void long_lists(void) {
           && w.heads.remainders == start.heads.remainders && w.heads.compressed == start.heads.compressed);
 }
 
+/* Encodes by intervals or by rows of weights that write no words ask for no memory; the chain coder asks for a buffer. */
+static void intervals_ask_no_memory(void) {
+    struct world w = fresh();
+    draw(2);
+    for (size_t i = 0; i < 2; i++) in.lefts[i] = (word)(i * (WHOLE / 2)), in.ps[i] = (word)(WHOLE / 2);
+    for (size_t i = 0; i < 2; i++) {
+        for (size_t kind = 0; kind < KINDS; kind++) in.rows[i * KINDS + kind] = kind < 2 ? (word)(WHOLE / 2) : 0;
+        in.symbols[i] = i;
+    }
+    requests = 0;
+    CHECK("ANS: intervals, no memory", !ans_encode_pairs(&w) && !ans_encode_each(&w) && !w.len && !requests);
+    CHECK("range: intervals, no memory", !range_encode_pairs(&w) && !range_encode_each(&w) && !w.len && !requests);
+}
+
+/* The chain coder encodes intervals of length 1, one alone and two in a list, and decodes their symbols. */
+static void chain_intervals_of_length_one(void) {
+    struct world start = fresh();
+    draw(2);
+    for (size_t i = 0; i < 2; i++) in.lefts[i] = (word)(WHOLE - 1), in.ps[i] = 1;
+    for (size_t kind = 0; kind < KINDS; kind++) in.weights[kind] = (word)(kind == 0 ? WHOLE - 1 : kind == 1);
+    start.other_len = ROOM;
+    for (size_t count = 1; count < 3; count++) {
+        struct world w = start, back;
+        in.count = in.p_count = count;
+        done("chain: intervals of length 1", chain_encode_pairs, &w);
+        back = w;
+        memcpy(back.words, w.other, sizeof back.words), memcpy(back.other, w.words, sizeof back.other);
+        back.len = w.other_len, back.other_len = w.len;
+        done("chain: their symbols", chain_decode, &back);
+        for (size_t i = 0; i < count; i++) CHECK("chain: their symbols", back.symbols[i] == 1);
+        CHECK("chain: there and back", back.len == start.other_len && !memcmp(&back.heads, &start.heads, sizeof back.heads));
+    }
+}
+
 int main(void) {
     for (int round = 0; round < 20; round++) {
         size_t count = round < 3 ? (size_t)round : 1 + random_below(COUNT);
         ans(count), range(count), store(count), chain(count), codewords(count), codewords_at(count), narrow(count);
     }
     great_held(), most_symbols(), long_lists(), nulls(), texts();
+    intervals_ask_no_memory(), chain_intervals_of_length_one();
     for (size_t i = 1; i < RESULTS; i++) CHECK("each result was seen", seen[i] > 0);
     return finish();
 }

@@ -22,6 +22,7 @@ use constriction_inputs::buffers::append;
 use constriction_inputs::models::{DecoderModelList, DecoderModels, Models, Weights};
 use constriction_inputs::refusal::Refusal;
 use constriction_inputs::rows::Row;
+use constriction_inputs::rows::adding::is_total;
 use constriction_stream::decoding::Decode;
 use constriction_words::{BitArray, WordOf};
 use std::alloc::Global;
@@ -187,7 +188,9 @@ pub fn decode_narrow<
     if !has_numbers::<S>(weights.len()) {
         return Err(Refusal::WrongLength);
     }
-    Models::<P, PRECISION>::check(&Weights { weights }, symbols.len())?;
+    if !is_total::<P, PRECISION>(weights) {
+        return Err(Refusal::WrongWeights);
+    }
     if ChainCoderHeads::<Word, State, PRECISION>::new(
         heads.compressed,
         heads.remainders,
