@@ -142,7 +142,8 @@ static void range(size_t count) {
     struct world start = fresh(), w;
     draw(count);
     every_length("range: encode", range_encode, &start, 1);
-    refused_memory("range: encode, memory", range_encode, &start);
+    /* A single symbol is first encoded without memory for words. If its model finds no memory, the call asks again. */
+    (count == 1 ? asks_again : refused_memory)("range: encode, memory", range_encode, &start);
     w = start;
     done("range: encode", range_encode, &w);
     CHECK("range: export", !C(range_into_compressed)(&w.encoder, w.words, w.capacity, &w.len, &w.needed));

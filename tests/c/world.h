@@ -155,6 +155,22 @@ static inline void refused_memory(const char *about, call *run, const struct wor
     CHECK(about, 0);
 }
 
+/* With each request for memory refused in turn: want of memory, and nothing changed; or, since the call takes another way
+   that asks again, what it does without a refusal. */
+static inline void asks_again(const char *about, call *run, const struct world *start) {
+    struct world whole = *start;
+    CHECK(about, run(&whole) == CONSTRICTION_DONE);
+    for (unsigned long n = 1; n < 1000; n++) {
+        struct world w = *start;
+        requests = 0, refused_request = n;
+        uint32_t result = run(&w);
+        refused_request = 0;
+        CHECK(about, result == CONSTRICTION_DONE ? equal(&w, &whole) : result == CONSTRICTION_NO_MEMORY && equal(&w, start));
+        if (requests < n) return;
+    }
+    CHECK(about, 0);
+}
+
 /* With each request for memory refused in turn: this refusal all the same, and nothing changed. */
 static inline void refuses_without_memory(const char *about, call *run, const struct world *start, uint32_t wanted) {
     for (unsigned long n = 1; n < 1000; n++) {
