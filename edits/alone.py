@@ -1,0 +1,83 @@
+"""Trials of edits by checks of the edited functions alone, over the libraries that a run of the gate left in out/."""
+
+import os
+import shutil
+import sys
+import tempfile
+
+from checker import Ran, blames
+from edit import apply
+from names import name_of
+from repository import ROOT
+
+sys.path.append(f"{ROOT}/tools")
+from toolchain import words_of_check
+
+
+def places():
+    """Returns how many checks the processors and the memory have room for; a check takes up to 3 GB."""
+    memory = os.sysconf("SC_PAGE_SIZE") * os.sysconf("SC_PHYS_PAGES")
+    return max(1, min(os.cpu_count() or 1, memory // 3_000_000_000))
+
+
+def ask(edit):
+    """Sets the ends of the names that the checker has for the function of an edit's heading."""
+    edit.asked = name_of(edit.folder, edit.path, edit.function)
+
+
+def is_apart(one, other):
+    """Returns whether one check can judge both: they change other functions, in places that do not meet."""
+    return not set(one.asked) & set(other.asked) and not one.meets(other)
+
+
+def bring_up_to_date(kit, crates):
+    """Has `rt lib` see that the libraries below some crates are of the files that stand there, where it built them. Those of the gate have no stamp of it."""
+    for crate in dict.fromkeys(it for crate in crates for it in crate.below()):
+        if os.path.exists(f"{crate.folder}/out/rlib/stamp"):
+            ran = Ran([f"{kit.kit}/bin/rt", "lib"], crate.folder)
+            if ran.verdict != "proved":
+                raise ValueError(f"rt lib fails in crates/{crate.name}: {ran.first_error()}")
+
+
+class AloneTrial:
+    """The trial of a crate's edits, whose functions `ask` has named: each check starts from nothing, and proves the edited functions alone."""
+
+    def __init__(self, kit, crate, edits, logs):
+        self.crate, self.folder, self.edits, self.logs = crate.name, crate.folder, edits, logs
+        self.checks, self.seconds = 0, 0.0
+        self.words = [*words_of_check(kit.kit, crate), "--jobs", "1"]
+
+    def run(self, batch):
+        """Tries edits in one check, and returns the processor seconds that it took."""
+        with tempfile.TemporaryDirectory(prefix="edits-alone-") as room:
+            for part in ("src", "specs", "proofs"):
+                if os.path.isdir(f"{self.folder}/{part}"):
+                    shutil.copytree(f"{self.folder}/{part}", f"{room}/{part}")
+            apply(batch, room)
+            asked = sorted({name for it in batch for name in it.asked})
+            ran = Ran([*self.words, *(word for it in asked for word in ("--only", it))], room)
+        self.checks += 1
+        self.note(batch, ran)
+        found = blames(ran.lines) if ran.verdict == "refused" else []
+        for edit in batch:
+            judge(edit, found, ran)
+        if not ran.verdict and len(batch) > 1:  # one of them may keep the others from being judged
+            half = len(batch) // 2
+            return ran.seconds + self.run(batch[:half]) + self.run(batch[half:])
+        return ran.seconds
+
+    def note(self, batch, ran):
+        """Keeps what a check printed, where a folder for logs is given."""
+        if self.logs:
+            os.makedirs(self.logs, exist_ok=True)
+            with open(f"{self.logs}/{self.crate}-{batch[0].function}-{len(batch)}-{id(batch)}.log", "w", encoding="utf-8") as out:
+                out.write("\n".join([f"seconds: {ran.seconds:.1f}", *("edit: " + it.name for it in batch), *ran.lines, ""]))
+
+
+def judge(edit, found, ran):
+    """Sets whether a check refused an edit's own function, and what it says of it."""
+    ends = tuple(f"::{name}" for name in edit.asked)
+    of_edit = sorted((it for it in found if f"::{'::'.join(it.path)}".endswith(ends)), key=lambda it: not it.is_own)
+    edit.is_refused = bool(of_edit) and of_edit[0].is_own
+    nothing = "no fault is found with the edited function" if ran.verdict else f"it was not tried: {ran.first_error()}"
+    edit.said = str(of_edit[0]) if of_edit else nothing
