@@ -6,14 +6,15 @@ import re
 
 from judging import judge, read
 from links import pages
+from reference import PAGES
 
 # The most words that README.md has, and that all pages have together, as `wc -w` counts them. The pages have about 5 %
 # of room below their limit.
 README = 1300
 ALL = 33000
 
-# Pages whose length follows from something else. Scripts write the first two, and each program of the last has a row.
-UNLIMITED = ("docs/DEFINITIONS.md", "docs/python.md", "examples/c/README.md")
+# Pages whose length follows from something else: those that scripts write, and the one that has a row for each program.
+UNLIMITED = (*PAGES, "examples/c/README.md")
 
 MONTHS = "January|February|March|April|May|June|July|August|September|October|November|December"
 DATE = re.compile(rf"\b(?:19|20)\d\d-\d\d\b|\b(?:{MONTHS}) (?:\d\d?, )?(?:19|20)\d\d\b")
