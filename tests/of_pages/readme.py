@@ -10,16 +10,17 @@ import definitions as by
 from judging import Page, judge, read
 
 HALVES = [[8388608, 8388608]]
+PAGE = "docs/MEASUREMENTS.md"
 
 
 def times():
-    """Returns each case of docs/TIMES.md with its time and its ratio, which is that of its two times."""
+    """Returns each case of docs/MEASUREMENTS.md with its time and its ratio, which is that of its two times."""
     row = r"^\| (\w+) \| ([\d.]+) \| ([\d.]+) \| \**([\d.]+)\** \|$"
-    rows = re.findall(row, read("docs/TIMES.md"), flags=re.M)
-    judge(len(rows) >= 40 and len({case for case, *_ in rows}) == len(rows), "docs/TIMES.md: each case once")
+    rows = re.findall(row, read(PAGE), flags=re.M)
+    judge(len(rows) >= 40 and len({case for case, *_ in rows}) == len(rows), f"{PAGE}: each case once")
     for case, ours, theirs, ratio in rows:
         exact = float(ours) / float(theirs)
-        judge(abs(exact - float(ratio)) < 0.0101, f"docs/TIMES.md: {case}: {exact:.3f} is not {ratio}")
+        judge(abs(exact - float(ratio)) < 0.0101, f"{PAGE}: {case}: {exact:.3f} is not {ratio}")
     return {case: (float(ours), ratio) for case, ours, _, ratio in rows}
 
 
@@ -34,7 +35,7 @@ def cell(found):
 
 
 def speed(page):
-    """README's tables have the times and the ratios of docs/TIMES.md."""
+    """README's tables have the times and the ratios of docs/MEASUREMENTS.md."""
     found = times()
 
     def of(pattern):
@@ -52,27 +53,27 @@ def speed(page):
 
 
 def gate():
-    """README has the multiple of docs/GATE.md: the sum of the table's columns and of the number below the table."""
-    times = read("docs/GATE.md").partition("\n## Cost of each crate\n")[2]
+    """README has the gate's multiple: the sum of the columns of the table of costs and of the number below the table."""
+    times = read(PAGE).partition("\n## Cost of the gate\n")[2]
     *rows, whole = [line.split("|")[1:-1] for line in times.splitlines() if line.startswith("|")][2:]
     sums = [round(sum(float(row[column]) for row in rows if row[column].strip())) for column in (1, 3)]
-    judge(sums == [int(whole[1]), int(whole[3])], "docs/GATE.md: the sums of the gate's parts")
+    judge(sums == [int(whole[1]), int(whole[3])], f"{PAGE}: the sums of the gate's parts")
     said = re.search(r"take about (\d+) times the proof of `constriction_words`", times.replace("\n", " "))
     others = re.search(r"have an estimated share of (\d+)\.", times.replace("\n", " "))
-    judge(said and others and int(said[1]) == sum(sums) + int(others[1]), "docs/GATE.md: the gate's multiple")
+    judge(said and others and int(said[1]) == sum(sums) + int(others[1]), f"{PAGE}: the gate's multiple")
     judge(said and f"about {said[1]} times" in read("README.md"), "README.md: the gate's multiple")
     shares(rows)
 
 
 def shares(rows):
-    """The shares by which the first call reckons how far it is are those of docs/GATE.md, of which one row may have two crates."""
+    """The first call has the shares of the table of costs, whose rows may have two crates each."""
     tree = ast.parse(read("tools/first_call.py"))
     weights = next(ast.literal_eval(it.value) for it in tree.body if isinstance(it, ast.Assign) and getattr(it.targets[0], "id", "") == "WEIGHTS")
     told = {tuple(re.findall(r"`(\w+)`", row[0])): float(row[1]) for row in rows if row[1].strip()}
     for crates, share in told.items():
         known = [weights[it] for it in crates if it in weights]
-        judge(not known or abs(sum(known) - share) < 0.05, f"tools/first_call.py: the share of {', '.join(crates)} is {share} in docs/GATE.md")
-    judge(weights.keys() <= {it for crates in told for it in crates}, "docs/GATE.md: a share for each crate of the first call")
+        judge(not known or abs(sum(known) - share) < 0.05, f"tools/first_call.py: the share of {', '.join(crates)} is {share} in {PAGE}")
+    judge(weights.keys() <= {it for crates in told for it in crates}, f"{PAGE}: a share for each crate of the first call")
 
 
 def crates_below(name):

@@ -1,4 +1,4 @@
-"""docs/HEADLINE.md: each law, each clause of a call and each other name exists."""
+"""The main theorems of docs/PROVED.md: each law, each clause of a call and each other name exists."""
 
 from __future__ import annotations
 
@@ -8,7 +8,7 @@ import re
 from judging import TOP, judge, read
 from proved import parts_of, sources
 
-PAGE = "docs/HEADLINE.md"
+PAGE, SECTION = "docs/PROVED.md", "\n## Main theorems and their premises\n"
 
 
 def judge_law(path):
@@ -21,7 +21,8 @@ def judge_law(path):
 
 
 def test():
-    text = read(PAGE)
+    """Judges the names of the section."""
+    text = read(PAGE).partition(SECTION)[2].partition("\n## ")[0]
     crates = sorted(it for it in os.listdir(f"{TOP}/crates") if it.startswith("constriction"))
     parts = parts_of(crates)
     words = set(re.findall(r"\w+", " ".join(sources(crates, ["src", "specs"]))))

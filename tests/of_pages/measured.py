@@ -1,0 +1,67 @@
+"""The tables of docs/MEASUREMENTS.md are what `bench/table` writes from a run with their numbers."""
+
+from __future__ import annotations
+
+import re
+import subprocess
+
+from judging import TOP, judge, read
+
+PAGE = "docs/MEASUREMENTS.md"
+
+
+def tables():
+    """Returns the text of each table by its name, and its rows of bare cells."""
+    found = {}
+    for name, text in re.findall(r"<!-- table: (.*?) -->\n(.*?)\n<!-- end of table -->", read(PAGE), flags=re.S):
+        rows = [[cell.strip(" *") for cell in line.split("|")[1:-1]] for line in text.splitlines() if line.startswith("|")]
+        found[name] = text, rows[2:]
+    return found
+
+
+def head(text):
+    """Yields the first line of a run, if the table's caption has its date, processor and load."""
+    said = re.match(r"`bench/\w+` ran on (\S+) \((.*), load (\S+)\):", text)
+    if said:
+        yield f"{said[1]}, {said[2]}, load {said[3]}"
+
+
+def speed(rows):
+    """Yields the lines of bench/compare."""
+    return (" ".join(row) for row in rows)
+
+
+def gaussians(rows):
+    """Yields the lines of bench/models from C."""
+    for symbols, encode, inlined, _, called, _, decode, other, _ in rows:
+        most = symbols.split()[-1]
+        times = ("encode", "gaussian", encode), ("encode", "erfc", inlined), ("encode", "erfc_intervals", called)
+        for call, model, time in (*times, ("decode", "gaussian", decode), ("decode", "erfc", other)):
+            yield f"c_ans_{call}_u32u64p24_{model}_{most} {time}"
+
+
+def gaussians_from_python(rows):
+    """Yields the lines of bench/models from Python."""
+    calls = [(call, kind) for kind in ("numpy", "array") for call in ("encode", "decode")]
+    for row, coder in zip(rows, ("ans", "range")):
+        for (call, kind), time in zip(calls, row[1:]):
+            yield f"python_{coder}_{call}_u32u64p24_gaussian_{kind} {1000 * float(time)}"
+
+
+def program(rows):
+    """Yields the lines of two runs of bench/program, with the least and the greatest number of each cell."""
+    for command, *cells in rows:
+        ends = [cell.split(" to ") for cell in cells]
+        for end in (0, -1):
+            yield " ".join([command.split("`")[1], *(it[end] for it in ends)])
+
+
+def test():
+    """Judges each table."""
+    lines = {"speed": speed, "Gaussians": gaussians, "Gaussians from Python": gaussians_from_python, "program": program}
+    found = tables()
+    judge(found.keys() == lines.keys(), f"{PAGE} has the tables {', '.join(found)}")
+    for name, (text, rows) in found.items():
+        run = "\n".join([*head(text), *lines[name](rows)])
+        done = subprocess.run([f"{TOP}/bench/table"], input=run, capture_output=True, text=True)
+        judge(done.stdout == f"{text}\n", f"{PAGE}: the table '{name}' isn't what bench/table writes\n{done.stdout}{done.stderr}")
