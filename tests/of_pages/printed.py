@@ -2,12 +2,14 @@
 
 from __future__ import annotations
 
+import glob
+import os
 import re
 
 import definitions as by
-from judging import Page, judge, listed, read
+from judging import TOP, Page, judge, listed, read
 
-EXAMPLES, FLAT = "crates/constriction_examples", "crates/constriction_bench/src/flat.rt"
+EXAMPLES, MODEL = "crates/constriction_examples", "docs/ADDING_A_MODEL.md"
 
 
 def blocks(name):
@@ -64,9 +66,40 @@ def prints():
     page.has(f"The codewords {', '.join(codewords[:-1])} and {codewords[-1]}")
 
 
+def paths(text):
+    """Yields the paths of a table's cell: `FOLDER/{A,B}.END` stands for two files."""
+    for path in re.findall(r"`([^`]+)`", text):
+        before, _, rest = path.partition("{") if "{" in path else (path, "", "}")
+        inner, _, after = rest.partition("}")
+        yield from (f"{before}{it}{after}" for it in inner.split(","))
+
+
+def family():
+    """Checks that the files of the steps for a family of distributions exist for `Laplace`, name it, and are as many as the page says."""
+    text = read(MODEL).partition("\n## A family of distributions\n")[2]
+    files = [path for cells in re.findall(r"^\|.*\|(.*)\|$", text, flags=re.M)[2:] for path in paths(cells)]
+    for path in files:
+        found = glob.glob(f"{TOP}/{path.replace('NAME', '[Ll]aplace')}")
+        judge(len(found) == 1, f"{MODEL}: there is no {path}")
+        judge(all("laplace" in f"{it}{read(os.path.relpath(it, TOP))}".lower() for it in found), f"{MODEL}: {path} doesn't name Laplace")
+    judge(f"change or add {len(files)} files" in text, f"{MODEL}: the steps name {len(files)} files")
+
+
+def model():
+    """Checks that code of the guide is in the file that is named above it, and commands of `rt` name functions that exist."""
+    for above, language, text in blocks(MODEL):
+        named = re.findall(r"`(crates/[\w/]+\.rt)`", above)
+        if language == "rust":
+            in_file(MODEL, named[-1], text, "impl")
+    for path in set(re.findall(r"^rt check --(?:only|start) (\S+)", read(MODEL), flags=re.M)):
+        folder = f"crates/constriction_bench/proofs/{path.replace('::', '/')}"
+        judge(os.path.isdir(f"{TOP}/{folder}"), f"{MODEL}: there is no {folder}")
+
+
 def test():
+    """Judges the code, commands and files of the pages."""
     calling()
     programs()
     prints()
-    for _, _, text in blocks("docs/ADDING_A_MODEL.md"):
-        in_file("docs/ADDING_A_MODEL.md", FLAT, text, "impl")
+    model()
+    family()
