@@ -1,4 +1,4 @@
-"""The crates that a repository's crates.txt lists, and sums over the files that each is made from."""
+"""The crates of a repository's crates.txt, and checksums over the files of each."""
 
 import hashlib
 import os
@@ -7,26 +7,26 @@ PARTS = ("src", "specs", "proofs")
 
 
 class Crate:
-    """A crate: what it uses, what it is built as, and where its files lie."""
+    """A crate: the crates and libraries that it uses, its kinds, and the paths of its files."""
 
     def __init__(self, top, name, kinds, uses, libraries):
-        self.top, self.name, self.uses, self.libraries = top, name, uses, libraries  # libraries are the toolchain's
+        self.top, self.name, self.uses, self.libraries = top, name, uses, libraries  # the libraries belong to the toolchain
         self.folder, self.kinds = f"{top}/crates/{name}", kinds
         self.is_static = "staticlib" in kinds
         self.is_program = os.path.isfile(f"{self.folder}/src/main.rt")
         self.rlib = f"{self.folder}/out/rlib/{name}.rlib"
-        self.machine = ""  # the machine that a static library is built for; "" is x86-64
+        self.machine = ""  # the target machine of a static library, or "" for x86-64
 
     def below(self):
-        """Returns the crates of the repository below this one, each behind those that it uses."""
+        """Returns the crates below this one, each after the crates that it uses."""
         return list(dict.fromkeys(it for used in self.uses for it in [*used.below(), used]))
 
     def out(self):
-        """Returns the folder of what is built of the crate."""
+        """Returns the folder of the crate's build."""
         return f"{self.folder}/out/{self.machine}" if self.machine else f"{self.folder}/out"
 
     def target(self):
-        """Returns the prover's words for the machine."""
+        """Returns the prover's arguments for the machine."""
         return ["--target", f"{self.machine}-unknown-linux-gnu"] if self.machine else []
 
     def built(self):
@@ -36,13 +36,15 @@ class Crate:
         return f"{self.out()}/lib{self.name}.a" if self.is_static else self.rlib
 
     def files(self):
-        """Returns the paths of the files that the crate is made from."""
+        """Returns the paths of the crate's files."""
         walked = [it for part in PARTS for it in os.walk(f"{self.folder}/{part}")]
         return sorted(f"{at}/{name}" for at, _, names in walked for name in names)
 
     def stamp(self, version):
-        """Returns a sum over all that a proof of the crate rests on: the toolchain's version, HANDLES, the lines of crates.txt for the crate and those
-        below, and their files."""
+        """Returns a checksum of everything that a proof of the crate depends on.
+
+        That is the toolchain's version, HANDLES, the lines of crates.txt for the crate and the crates below, and their files.
+        """
         handles = f"{self.top}/HANDLES"
         found = [version, content(handles) if os.path.isfile(handles) else b""]
         for it in [*self.below(), self]:
@@ -52,12 +54,13 @@ class Crate:
 
 
 def content(path):
+    """Returns the bytes of a file."""
     with open(path, "rb") as file:
         return file.read()
 
 
 def listed(top):
-    """Returns by name what each line of crates.txt lists: the kinds of the crate, and the names that it uses."""
+    """Returns the kinds of each crate and the names that it uses, by its name in crates.txt."""
     found = {}
     for line in content(f"{top}/crates.txt").decode().split("\n"):
         head, colon, used = line.partition("#")[0].partition(":")
@@ -68,10 +71,11 @@ def listed(top):
 
 
 def crates_of(top):
-    """Returns by name the crates of a repository, each behind those that it uses."""
+    """Returns the crates of a repository by name, each after the crates that it uses."""
     lines, found = listed(top), {}
 
     def add(name, above=()):
+        """Adds a crate after the crates that it uses. `above` has the names that lead to it."""
         if name in above:
             raise ValueError(f"crates.txt: {name} uses itself")
         kinds, used = lines[name]

@@ -1,7 +1,9 @@
-"""Distribution functions by their formulas, in decimals of 100 digits, and the tables of whole numbers that are made from them.
+"""Distribution functions by their formulas, in decimals of 100 digits, and their tables of whole numbers.
 
-A family's standard distribution has its table from REACH scales below 0 to as many above, in 2048 steps: entry k is 2^32 times the
-distribution function at -REACH + k / STEPS, rounded to the nearest, where STEPS is how many steps a scale has."""
+The table of a family's standard distribution reaches from REACH scales below 0 to REACH scales above 0, in 2048 steps. Entry
+k is 2^32 times the distribution function at -REACH + k / STEPS, rounded to the nearest integer. STEPS is the number of steps
+in a scale.
+"""
 
 import bisect
 from decimal import ROUND_FLOOR, Decimal, getcontext
@@ -10,12 +12,12 @@ getcontext().prec = 100
 ALL = 2**32
 REACH = {"gaussian": 8, "laplace": 32, "logistic": 32}
 STEPS = {name: 1024 // reach for name, reach in REACH.items()}
-# An entry lies at least so far from where its rounding would turn, so that 100 digits leave no doubt of it.
+# The least distance between an exact value and the place at which its rounding changes. So 100 digits suffice.
 MARGIN = Decimal(10) ** -20
 
 
 def arctan_of_inverse(n):
-    """The arcus tangent of 1 / n."""
+    """Returns the arc tangent of 1 / n."""
     total, term, k = Decimal(0), Decimal(1) / n, 1
     while abs(term) > Decimal(10) ** -110:
         total += term / k
@@ -30,7 +32,7 @@ ROOT_OF_2_PI = (2 * PI).sqrt()
 
 
 def gaussian(x):
-    """The normal distribution function: a half, and the density times the sum of x^n / (1 * 3 * .. * n) over odd n."""
+    """Returns the normal distribution function: 1/2 plus the density times the sum of x^n / (1 * 3 * .. * n) over odd n."""
     if x < 0:
         return 1 - gaussian(-x)
     total, term, n = Decimal(0), x, 1
@@ -42,12 +44,12 @@ def gaussian(x):
 
 
 def laplace(x):
-    """Laplace's distribution function."""
+    """Returns the Laplace distribution function."""
     return x.exp() / 2 if x < 0 else 1 - (-x).exp() / 2
 
 
 def logistic(x):
-    """The logistic distribution function."""
+    """Returns the logistic distribution function."""
     return 1 / (1 + (-x).exp())
 
 
@@ -55,18 +57,21 @@ FORMULAS = {"gaussian": gaussian, "laplace": laplace, "logistic": logistic}
 
 
 def entries(name):
-    """The table of a family, by its formula."""
+    """Returns the table of a family, by its formula."""
     table = []
     for k in range(2049):
         exact = FORMULAS[name](Decimal(k) / STEPS[name] - REACH[name]) * ALL
         rounded = int((exact + Decimal("0.5")).to_integral_value(ROUND_FLOOR))
-        assert abs(abs(exact - rounded) - Decimal("0.5")) > MARGIN, (name, k, "is rounded by less than the digits show")
+        assert abs(abs(exact - rounded) - Decimal("0.5")) > MARGIN, (name, k, "is too close to a half to round")
         table.append(rounded)
     return table
 
 
 def guesses(table):
-    """About where the table reaches each 1024th of all, in 65536ths of a step. No answer depends on these: a search begins there."""
+    """Returns estimates of the places where the table reaches each 1024th of all, in 65536ths of a step.
+
+    A search begins at such an estimate. No result depends on it.
+    """
     found = []
     for part in range(1025):
         value = min(max(part << 22, 1 << 16), ALL - (1 << 16))

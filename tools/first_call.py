@@ -1,10 +1,11 @@
-"""Proves a program or a static library and the crates below it, in parallel where none waits for another, and builds it.
+"""Proves a program or a static library and the crates below it, in parallel where possible, and builds it.
 
-Libraries that an earlier run of this file proved are kept where neither they nor anything below has changed, also from a run that was ended early.
-With --over-gate the libraries that `rt ci` has just left are taken as they are. Progress goes to standard error: on a terminal as one line
-that is drawn again each second, elsewhere as a line for each crate and each half minute (PROGRESS_SECONDS: each so many seconds). With --answer a
-trial run answers a command of the program meanwhile, on the input that the launcher puts into a folder. With --target MACHINE the static library is
-built for Linux on that machine; only this library is proved again for the machine.
+The script keeps each library that an earlier run proved, even if that run was ended early, as long as the library and the
+crates below it are unchanged. With --over-gate, it uses the libraries that `rt ci` has just built. It reports progress on
+standard error: on a terminal, it redraws one line each second; elsewhere, it writes a line for each crate and each half
+minute (or each PROGRESS_SECONDS seconds). With --answer, a trial run answers a command of the program meanwhile; the
+launcher puts the command's input into a folder. With --target MACHINE, it builds the static library for Linux on that
+machine, and proves only this library again for the machine.
 
 usage: first_call.py KIT REPOSITORY CRATE [--over-gate] [--target MACHINE]
        first_call.py KIT REPOSITORY CRATE --answer FOLDER COMMAND.."""
@@ -22,7 +23,7 @@ from schedule import SPEEDS, Part, Schedule, share_done
 from toolchain import toolchain_of
 from unproved_answer import UnprovedAnswer
 
-# The processor time of each proof from nothing with one job, in multiples of that of constriction_words.
+# The processor time of each proof from nothing with one job, as a multiple of the proof of constriction_words.
 WEIGHTS = {
     "constriction_words": 1.0,
     "constriction_base": 4.0,
@@ -42,7 +43,7 @@ WEIGHTS = {
 
 
 class Progress:
-    """What is said on standard error, each line under the name of the command that was called."""
+    """Writes lines on standard error. Each begins with the name of the called command."""
 
     def __init__(self, name):
         self.name, self.stream, self.began = name, sys.stderr, time.time()
@@ -51,19 +52,20 @@ class Progress:
         self.is_drawn = False
 
     def seconds(self):
+        """Returns the seconds since the run began."""
         return time.time() - self.began
 
     def say(self, text):
-        """Says a line that stays."""
+        """Writes a line that isn't redrawn."""
         print(f"{self.wiped()}{self.name}: {text}", file=self.stream, flush=True)
 
     def wiped(self):
-        """Returns what takes away the line that is drawn, if there is one."""
+        """Returns the control characters that erase the drawn line, if there is one."""
         was_drawn, self.is_drawn = self.is_drawn, False
         return "\r\x1b[K" if was_drawn else ""
 
     def draw(self, text):
-        """Draws a line over the one before, or says it where there is no terminal."""
+        """Redraws the line on a terminal, and writes a new one elsewhere."""
         if not self.is_terminal:
             return self.say(text)
         columns = shutil.get_terminal_size().columns - 1
@@ -72,18 +74,18 @@ class Progress:
 
 
 class Record:
-    """What a run of this file has proved and built of a crate: by a sum over its files and those below, and when these builds were made."""
+    """The record of a proved crate: a checksum of its files and of the files below, and the times of these builds."""
 
     def __init__(self, toolchain, crate):
         self.toolchain, self.crate, self.path = toolchain, crate, f"{crate.out()}/proved"
         self.stamp = toolchain.stamp(crate)
 
     def made(self):
-        """Returns when each library below, and the crate itself, was built."""
+        """Returns the time at which each library below, and the crate itself, was built."""
         return {it.name: os.stat(it.built()).st_mtime_ns for it in [*self.crate.below(), self.crate]}
 
     def kept(self):
-        """Returns what was written, if it still holds."""
+        """Returns the written record, if it is still true."""
         try:
             with open(self.path, encoding="utf-8") as file:
                 said = json.load(file)
@@ -92,26 +94,26 @@ class Record:
             return None
 
     def write(self, unit):
-        """Writes it, if no file has changed since the proof began, with the seconds that a unit of work takes here."""
+        """Writes the record with the seconds of a unit of work, if no file has changed since the proof began."""
         if self.stamp == self.toolchain.stamp(self.crate):
             with open(self.path, "w", encoding="utf-8") as file:
                 json.dump({"stamp": self.stamp, "made": self.made(), "unit": unit}, file)
 
 
 class Run:
-    """The proofs of some crates, of which those by the names of `done` need none, and an unproved answer that is shown meanwhile, or None."""
+    """A run that proves some crates, except those named in `done`. It shows the unproved answer meanwhile, if one is given."""
 
     def __init__(self, toolchain, crates, done, unit, progress, answer=None):
         self.toolchain, self.crates, self.done, self.progress = toolchain, {it.name: it for it in crates}, set(done), progress
-        self.unit = unit  # the seconds of a proof of weight 1 with one job, once they are known
+        self.unit = unit  # the seconds of a proof of weight 1 with one job, or None until the first proof has ended
         self.answer = [answer.said] if answer else []
         self.ended = []  # the seconds and the weight of each proof that ended here
-        self.running = {}  # a name leads to its jobs, and to when it began
+        self.running = {}  # by name: the number of jobs, and the time at which the proof began
         parts = {it.name: Part({below.name for below in it.below()}, weight(it), toolchain.memory(it)) for it in crates}
         self.schedule = Schedule(parts, toolchain.processors(), toolchain.free())
 
     def all(self):
-        """Proves all crates, and tells whether that succeeded. The first that isn't proved ends the run."""
+        """Proves all crates, and returns whether that succeeded. The first failure ends the run."""
         tasks, pool = {}, ThreadPoolExecutor(max(1, self.schedule.processors))
         while len(self.done) < len(self.crates):
             for name, jobs in self.schedule.starts(self.done, self.jobs()).items():
@@ -127,16 +129,17 @@ class Run:
         return True
 
     def jobs(self):
+        """Returns the number of jobs of each running proof, by name."""
         return {name: jobs for name, (jobs, _) in self.running.items()}
 
     def prove(self, crate, jobs):
-        """Proves and builds a crate, and returns what is to be noted of it, or None where that failed."""
+        """Proves and builds a crate. Returns its record, or None if the proof failed."""
         os.makedirs(crate.out(), exist_ok=True)
         record = Record(self.toolchain, crate)
         return record if self.toolchain.prove(crate, jobs, log_of(crate)) else None
 
     def end(self, name, record):
-        """Notes that a proof ended, and tells whether it succeeded."""
+        """Records the end of a proof, and returns whether it succeeded."""
         jobs, began = self.running.pop(name)
         if record is None:
             self.progress.say(f"{name} is not proved, as the toolchain says:")
@@ -150,7 +153,7 @@ class Run:
         return True
 
     def rest(self, name):
-        """Returns the work that is left of a crate, by how long it has run."""
+        """Returns an estimate of the work left on a crate."""
         whole = weight(self.crates[name])
         if name in self.done:
             return 0.0
@@ -160,39 +163,42 @@ class Run:
         return whole
 
     def left(self):
-        """Returns how many seconds the run is likely to take from now, or None before the first proof has ended."""
+        """Returns an estimate of the seconds left, or None before the first proof has ended."""
         if not self.unit:
             return None
         return self.unit * self.schedule.left(self.done, self.jobs(), {name: self.rest(name) for name in self.crates})
 
     def line(self):
-        """Returns how far the run is, as the share of the time that has passed of all that it is likely to take."""
+        """Returns a line with the progress of the run, in percent of its estimated time."""
         seconds, left, at_work = self.progress.seconds(), self.left(), ", ".join(self.running)
         if left is None:
             return f"at work on {at_work} for {seconds:.0f} s"
         return f"{min(99.9, 100 * seconds / (seconds + left)):.1f} % after {seconds:.0f} s, {about(left)} left; at work on {at_work}"
 
     def say_answer(self, answer):
-        """Says the answer of a trial run."""
+        """Writes the answer of a trial run."""
         left = self.left()
         self.progress.say(f"unproved, of a trial run:{answer}; the proof goes on" + (f", {about(left)} left" if left is not None else ""))
 
 
 def weight(crate):
+    """Returns the estimated work of a crate's proof."""
     return WEIGHTS.get(crate.name, 1.0)
 
 
 def log_of(crate):
+    """Returns the path of the prover's log for a crate."""
     return f"{crate.out()}/first_call.log"
 
 
 def about(seconds):
+    """Returns a duration in words."""
     minutes = round(seconds / 60)
     return f"about {minutes} minute{'s' * (minutes > 1)}" if minutes else "less than a minute"
 
 
 def kept_of(toolchain, crates):
-    """Returns the crates that need no proof, since an earlier run of this file proved them and all below, and the seconds of a unit of work then."""
+    """Returns the crates that an earlier run proved with all crates below, and the seconds of a unit of work in that run."""
     kept, unit = set(), None
     for crate in crates:
         said = Record(toolchain, crate).kept() if kept.issuperset(it.name for it in crate.below()) else None
@@ -203,7 +209,7 @@ def kept_of(toolchain, crates):
 
 
 def begin(progress, toolchain, crate, count, kept):
-    """Says what is to be done, and what can be had meanwhile."""
+    """Writes which crates the run proves, and how to get an unproved answer."""
     first = "; the first one tells how long that takes here" if count > 1 and not kept else ""
     of = f"the {count}" if not kept else f"{count} of the {count + kept}"
     if crate.is_program:
@@ -215,7 +221,8 @@ def begin(progress, toolchain, crate, count, kept):
 
 
 def main(kit, top, name, *how):
-    signal.signal(signal.SIGINT, signal.SIG_DFL)  # the proofs end with this process
+    """Proves and builds the crate `name`, and returns the exit status."""
+    signal.signal(signal.SIGINT, signal.SIG_DFL)  # an interrupt also ends the proofs
     toolchain = toolchain_of(kit, top)
     crates = toolchain.and_below(name)
     toolchain.lock(crates)
@@ -235,7 +242,7 @@ def main(kit, top, name, *how):
         answer.end()
     if not is_proved:
         sys.stderr.flush()
-        os._exit(1)  # what still runs is not waited for
+        os._exit(1)  # exits without waiting for other proofs
     progress.say(f"all is proved (after {progress.seconds():.0f} s)")
     return 0
 

@@ -1,7 +1,7 @@
-"""What tools/sizes writes beside a file large.rt of constriction_c: functions that differ from the file's in a few texts
+"""Writes two files from a file large.rt of constriction_c: functions that differ from the file's functions in a few texts
 (large_kinds.rt), and the impls of its structs (large_parts.rt).
 
-A change says how one function becomes another: regexes, in order, each with the text that replaces what it finds.
+A change turns one function into another: regexes, in order, each with the text that replaces its matches.
 """
 
 import re
@@ -9,7 +9,7 @@ import textwrap
 
 
 def of_models(name, says, parameters, models, lets):
-    """The change from a call with one table of weights to the call with another kind of models."""
+    """Returns the change from a call with one table of weights to a call with another kind of models."""
     return {
         r"_(encode|decode)_": rf"_\1_{name}_",
         r"(,?) with one table of weights for all symbols": says,
@@ -24,7 +24,7 @@ def of_models(name, says, parameters, models, lets):
 
 
 def of_symbols(name, bits):
-    """The change from a call with symbols of the type `usize` to the call with symbols of so many bits."""
+    """Returns the change from a call with symbols of type `usize` to a call with symbols of `bits` bits."""
     return {
         r"_(encode|decode)_": rf"_\1_{name}_",
         r"(Encodes|Decodes) symbols": rf"\1 symbols of type `u{bits}`",
@@ -88,8 +88,8 @@ HUFFMAN = {
     r"ExpGolomb::<u32>::new\(\)": "Tree { weights }",
 }
 
-# What is written for each module: the change of each function whose name has this end. The function is one of large.rt,
-# or written by a change before.
+# The changes of each module, with the ending of the names that they apply to. A function is from large.rt, or an earlier
+# change has written it.
 CODED = [("(encode|decode)(_reverse)?_u32", EACH), ("encode(_reverse)?_u32", INTERVALS),
          ("(encode|decode)(_reverse)?_u32", QUANTIZED), ("(encode|decode)(_reverse)?_u32", MIXTURE),
          ("(encode|decode)(_reverse)?_u32", BYTES), ("(encode|decode)(_reverse)?_u32", SHORTS)]
@@ -99,7 +99,7 @@ KINDS = {
     "range": [*CODED, ("into_compressed_u32", SELF_DELIMITED)],
     "symbol": [("queue_u32", STACK), ("exp_golomb.*", HUFFMAN)],
 }
-# What the written files may need beyond the imports of large.rt.
+# Imports that the written files may need besides the imports of large.rt.
 IMPORTS = """
 ghost use Rattle.constriction_c.specs.Large.{intervals_from_u32, large_decoder, large_encoder, large_heads, narrow_from_u32};
 ghost use Rattle.constriction_calls.specs.AnsCalls.{AreBinary, HasBinary};
@@ -122,7 +122,7 @@ use constriction_inputs::intervals::Intervals;
 use constriction_inputs::models::{Families, Mixtures, Rows};
 """
 
-# The structs: the type of constriction_calls with the same fields, and the definition that makes it of the struct.
+# For each struct: the type of constriction_calls with the same fields, and the definition that converts the struct to it.
 STRUCTS = {
     "ChainHeadsU32": ("ChainHeads<u32, u64>", "large_heads"),
     "RangeEncoderU32": ("EncoderParts<u32, u64>", "large_encoder"),
@@ -152,7 +152,7 @@ PARTS = """impl {name} {{
 
 
 def changed(function, change):
-    """A function after a change, with its clause in lines of at most 120 characters that break no brackets."""
+    """Returns a function after a change. Lines of its clause have at most 120 characters and break outside of brackets."""
     for regex, text in change.items():
         function = re.sub(regex, text, function)
     head, clause, body = re.split(r"\n    ensures |(?<=\})\n(?=\{)", function)
@@ -164,19 +164,19 @@ def changed(function, change):
 
 
 def wrapped(call):
-    """A call as `rt fmt` writes it: with its arguments in a line of their own where it has more than 100 characters."""
+    """Returns a call in the layout of `rt fmt`: if it is longer than 100 characters, its arguments have their own line."""
     return call[0] if len(call[0]) <= 100 else f"    {call[1]}\n        {call[2]},\n    );"
 
 
 def parts(name, fields):
-    """The impl of a struct with these fields."""
+    """Returns the impl of a struct with these fields."""
     kind, value = STRUCTS[name]
     taken, put = ("\n".join(f"            {it}: {of}.{it}," for it in re.findall(r"pub (\w+):", fields)) for of in ("self", "parts"))
     return PARTS.format(name=name, type=kind, made=kind.split("<")[0], value=value, taken=taken, put=put)
 
 
 def imports(text, body):
-    """Those of some imports whose names a source has."""
+    """Returns the imports whose names a source uses."""
     found = {}
     for path, names in re.findall(r"^((?:ghost )?use [\w:.]+(?:::|\.))\{?([^:{};]+)\}?;$", text, re.M):
         used = {it for it in re.findall(r"[^\s,]+", names) if re.search(rf"(?<![\w`]){it.strip('◌')}(?![\w`])", body)}
@@ -187,14 +187,14 @@ def imports(text, body):
 
 
 def listed(names, is_ghost):
-    """Names of one module as `rt fmt` writes them: one by itself, and many in lines of at most 100 characters."""
+    """Returns the names of a module in the layout of `rt fmt`: one alone, or several in lines of at most 100 characters."""
     text = ", ".join(names)
     if is_ghost or len(names) > 1 and len(text) < 60:
         return f"{{{text}}}"
     return text if len(names) == 1 else "{\n" + textwrap.indent(textwrap.fill(f"{text},", 96), " " * 4) + "\n}"
 
 
-# By module, what the functions of large_kinds.rt are.
+# The description of large_kinds.rt for each module.
 MORE = {
     "ans": "of the stack coder: other models, symbols of 8 and 16 bits, and words in binary form",
     "range": "of the range coder: other models, symbols of 8 and 16 bits, and self-delimiting words",
@@ -203,8 +203,8 @@ MORE = {
 }
 
 
-def beside(module, text):
-    """The names of the files that are written beside a module's source with this text, each with its text."""
+def derived_files(module, text):
+    """Yields the name and the text of each file that is written from a module's large.rt with this text."""
     functions = [it for it in text.rstrip("\n").split("\n\n") if 'extern "C"' in it]
     count = len(functions)
     for end, change in KINDS.get(module, ()):

@@ -1,4 +1,4 @@
-"""Names that are others now, as a file of renames tells."""
+"""Renamed names, by a file of renames."""
 
 import collections
 import os
@@ -13,44 +13,45 @@ NAME = r"[\w'-]+"
 
 
 def module_of(file):
-    """Returns the name that a file of specs/ has where it is used."""
+    """Returns the name by which other files use a file of specs/."""
     return "Rattle." + os.path.splitext(file)[0].replace("/", ".")
 
 
 def lines_of(path):
-    """Returns the words of each line of a file that may be absent; `#` starts a comment."""
+    """Returns the words of each line of a file, or nothing if the file is absent. `#` starts a comment."""
     lines = read(path).split("\n") if os.path.exists(path) else []
     return list(filter(None, (line.partition("#")[0].split() for line in lines)))
 
 
 class Renames:
-    """Lines `OLD NEW`, or `OLD NEW MODULE..` where OLD is meant in these files of specs/ alone, and where it is used from them."""
+    """Lines `OLD NEW`, or `OLD NEW MODULE..` for a name that only these files of specs/ and their users rename."""
 
     def __init__(self, path):
         self.new, self.within = {}, collections.defaultdict(dict)
         for old, new, *modules in map(self.checked, lines_of(path)):
             for names in [self.within[it] for it in modules] or [self.new]:
                 if old in names or new in names.values():
-                    raise ValueError(f"renamed: '{old} {new}' names what another line names")
+                    raise ValueError(f"renamed: '{old} {new}' repeats a name of another line")
                 names[old] = new
 
     def checked(self, words):
+        """Returns the words of a line, if they are a name, its new name and modules."""
         if len(words) < 2 or words[0] == words[1] or not all(re.fullmatch(NAME, it) for it in words[:2]) or not all("." in it for it in words[2:]):
             raise ValueError(f"renamed: '{' '.join(words)}' is not a name and its new name")
         return words
 
     def refuse_taken(self, texts, defined, revision):
-        """Fails where a new name was defined at that commit already, or where a text, by its file's name, had both names."""
+        """Fails if that commit already defines a new name, or if a text has both names. Texts are given by their files."""
         taken = [(*pair, f"{revision} has a definition {pair[1]} already") for pair in self.new.items() if pair[1] in defined]
         for file in sorted(texts):
             words, meant = words_of(texts[file]), {**self.new, **self.meant_in(file, texts[file])}
             taken += [(*pair, f"{file} has both names at {revision}") for pair in meant.items() if words.issuperset(pair)]
         if taken:
             old, new, why = taken[0]
-            raise ValueError(f"renamed: '{old} {new}', but {why}: what was said of the two can't be told apart")
+            raise ValueError(f"renamed: '{old} {new}', but {why}: the comparison can't tell the two apart")
 
     def meant_in(self, file, text):
-        """Returns the names that a text means by the modules that it uses, or is, with their new names."""
+        """Returns the names that a text uses from modules, or defines as one, with their new names."""
         used = collections.defaultdict(set)
         for path, names in USE.findall(text) if self.within else []:
             used[path.strip(" .")] |= words_of(names)

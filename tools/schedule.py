@@ -1,25 +1,27 @@
-"""Which proofs run side by side, with how many jobs each, and how long the rest takes."""
+"""Decides which proofs run in parallel, with how many jobs each, and estimates the time left."""
 
 import collections
 
-# How many times as fast a proof is with so many jobs as with one.
+# The speed of a proof with several jobs, as a multiple of its speed with one job.
 SPEEDS = {1: 1.0, 2: 1.5, 3: 1.8, 4: 2.0}
 
-# The memory of each further job, over that of the first.
+# The memory of each further job, as a share of the memory of the first.
 FURTHER = 0.6
 
-# What a proof waits for, its work in any unit, and the memory that is kept for it in bytes.
+# A proof: the names of the proofs that it waits for, its work in any unit, and the bytes of memory that it needs.
 Part = collections.namedtuple("Part", "waits weight memory")
 
 
 def share_done(planned):
-    """Returns which share of a proof is done, by an estimate, once this share of the time that was planned for it has passed. Past 0.6 it grows ever more
-    slowly and stays below 1, so a proof that takes longer than planned still goes on."""
+    """Returns the estimated share of a proof that is done, when this share of its planned time has passed.
+
+    Beyond 0.6, the result grows more slowly and stays below 1, so a proof may take longer than planned.
+    """
     return planned if planned <= 0.6 else 1 - 0.16 / (planned - 0.2)
 
 
 class Schedule:
-    """Parts to be done on so many processors, in so much memory. Those with the most work behind them come first."""
+    """A schedule of parts on some processors and bytes of memory. A part comes first if the most work waits for it."""
 
     def __init__(self, parts, processors, memory):
         self.parts, self.processors, self.memory = parts, processors, memory
@@ -31,29 +33,31 @@ class Schedule:
         return self.parts[name].weight + max(above, default=0)
 
     def taken(self, running):
+        """Returns the memory of the running parts."""
         return sum(self.room_of(name, jobs) for name, jobs in running.items())
 
     def room_of(self, name, jobs):
+        """Returns the memory of a part with some jobs."""
         return self.parts[name].memory * (1 + FURTHER * (jobs - 1))
 
     def starts(self, done, running):
-        """Returns which parts begin, with their jobs, where these are done and those run. A part gets the processors that no other waits for."""
+        """Returns the parts that can begin now, with their jobs. A part gets the processors that no other part waits for."""
         ready = [it for it in self.order if it not in done and it not in running and self.parts[it].waits <= done]
         begun = {}
         for at, name in enumerate(ready):
-            beside = {**running, **begun}
-            idle, room = self.processors - sum(beside.values()), self.memory - self.taken(beside)
-            if idle > 0 and (not beside or self.room_of(name, 1) <= room):
+            others = {**running, **begun}
+            idle, room = self.processors - sum(others.values()), self.memory - self.taken(others)
+            if idle > 0 and (not others or self.room_of(name, 1) <= room):
                 begun[name] = self.jobs(name, max(1, idle // (len(ready) - at)), room)
         return begun
 
     def jobs(self, name, most, room):
-        """Returns how many jobs a part gets, of so many at most and in so much memory; one it gets in any case."""
+        """Returns how many jobs a part gets: at least 1, at most `most`, and as many as fit in the memory."""
         fit = [it for it in SPEEDS if it <= most and self.room_of(name, it) <= room]
         return max(fit, default=1)
 
     def left(self, done, running, rest):
-        """Returns how long it takes until all is done, in the time that a unit of work takes with one job: `rest` is what is left of each part."""
+        """Returns the time until all parts are done, in units of work with one job. `rest` is the work left on each part."""
         done, running, rest, clock = set(done), dict(running), dict(rest), 0.0
         while done != set(self.parts):
             running.update(self.starts(done, running))

@@ -1,8 +1,9 @@
-"""What the tools of this repository use of the toolchain. No other file uses any of the toolchain's own scripts.
+"""The parts of the toolchain that the tools of this repository use. No other file uses the toolchain's own scripts.
 
-`rt` has no command that proves the crates of one program from nothing, in parallel. `rt ci` does that for a whole repository, with its tests and
-edits, and `Toolchain` uses the parts of `bin/rt` that do it for a program. Where a kit lacks one of these parts, `Commands` proves the crates one
-after the other by documented commands, which takes longer."""
+`rt` has no command that proves the crates of one program from nothing, in parallel. `rt ci` does so for a whole repository,
+with its tests and edits. `Toolchain` uses the parts of `bin/rt` that do so for a program. If a kit lacks one of these parts,
+`Commands` proves the crates one after the other by documented commands, which takes longer.
+"""
 
 import ctypes
 import importlib.machinery
@@ -16,36 +17,37 @@ import sys
 sys.dont_write_bytecode = True
 from crates import crates_of
 
-# The parts by their names in `rt`, and what each is used for. Those of `crate` are of each value that `rtlib.crates_below` returns.
+# The parts by their names in `rt`, and their purposes. A part `crate.NAME` belongs to each value of `rtlib.crates_below`.
 PARTS = {
-    "handles_of": "which handles the repository allows",
+    "handles_of": "the handles that the repository allows",
     "need": "the most memory that a proof is likely to take",
-    "processors": "how many processors there are",
-    "free": "how much memory is free",
-    "Crate": "a crate whose proof is held to these handles",
-    "Crate.allowed": "where a crate has the handles",
-    "Crate.cuts_libraries": "that a proof loads the statements of the libraries below alone",
-    "Crate.words": "what the prover is called with",
-    "Crate.prove": "a proof from nothing, whose last line says no more than a verdict may",
-    "Crate.build_rlib": "such a proof of a library, which is built",
-    "Crate.link": "a program out of what was compiled",
+    "processors": "the number of processors",
+    "free": "the free memory",
+    "Crate": "a crate whose proof may use only these handles",
+    "Crate.allowed": "the handles of a crate",
+    "Crate.cuts_libraries": "a switch: a proof loads only the statements of the libraries below",
+    "Crate.words": "the arguments of the prover",
+    "Crate.prove": "a proof from nothing, whose last line is a verdict's",
+    "Crate.build_rlib": "a proof of a library from nothing, and its build",
+    "Crate.link": "a program, linked from a compiled object",
     "rtlib": "the commands of a crate",
     "rtlib.Crate": "the crates that rtlib makes",
     "rtlib.crates_below": "the crates of a repository, lowest first",
-    "rtlib.guarded": "that what a run starts ends with it",
-    "rtlib.lock": "that no two runs work in a crate",
+    "rtlib.guarded": "a guard: processes that a run starts end with it",
+    "rtlib.lock": "a lock: no two runs work in a crate",
     "crate.name": "the name of a crate",
-    "crate.out": "where what the prover says goes",
+    "crate.out": "the file of the prover's output",
 }
 
 MOST_MEMORY = 3_000_000_000
 
 
 class Lacking(Exception):
-    """A part that the kit lacks."""
+    """The kit lacks a part."""
 
 
 def stop(why):
+    """Writes an error, and exits with status 2."""
     print(f"toolchain: {why}", file=sys.stderr)
     sys.exit(2)
 
@@ -63,7 +65,7 @@ def version_of(kit):
 
 
 def loaded(kit):
-    """Returns the module of a kit's command `rt`, with all of these parts."""
+    """Returns the module of a kit's command `rt`, if it has all parts."""
     loader = importlib.machinery.SourceFileLoader("rt", f"{kit}/bin/rt")
     rt = importlib.util.module_from_spec(importlib.util.spec_from_loader("rt", loader))
     try:
@@ -75,11 +77,13 @@ def loaded(kit):
 
 
 def refuse_lacking(kit, parts):
+    """Fails if there are lacking parts."""
     if parts:
         raise Lacking(f"the kit at {kit} lacks, in bin/rt, {', '.join(f'{part} ({PARTS[part]})' for part in parts)}")
 
 
 def has(module, part):
+    """Returns whether a module has a part, by its name with dots."""
     for name in part.split("."):
         if not hasattr(module, name):
             return False
@@ -88,7 +92,7 @@ def has(module, part):
 
 
 def toolchain_of(kit, top):
-    """Returns the toolchain that proves the crates of a repository: by the parts of the kit's `rt`, or by its commands where it lacks a part."""
+    """Returns the toolchain for a repository: by the parts of the kit's `rt`, or by its commands if it lacks a part."""
     try:
         return Toolchain(kit, top)
     except Lacking as why:
@@ -103,21 +107,23 @@ class Kit:
         self.kit, self.top, self.crates, self.version = kit, top, crates_of(top), version_of(kit)
 
     def and_below(self, name):
-        """Returns the crates below a crate, each behind those that it uses, and then the crate."""
+        """Returns the crates below a crate, each after the crates that it uses, and then the crate."""
         if name not in self.crates:
             stop(f"crates.txt has no crate {name}")
         return [*self.crates[name].below(), self.crates[name]]
 
     def stamp(self, crate):
+        """Returns the checksum of a crate."""
         return crate.stamp(self.version)
 
 
 class Toolchain(Kit):
-    """A kit, set to prove the crates of a repository from nothing, over the statements of the crates below."""
+    """A kit that proves the crates of a repository from nothing, over the statements of the crates below."""
 
     how = "from nothing"
 
     def __init__(self, kit, top):
+        """Loads the kit's `rt`, and fails if it lacks a part."""
         super().__init__(kit, top)
         self.rt = loaded(kit)
         os.chdir(top)
@@ -138,14 +144,15 @@ class Toolchain(Kit):
         return self.rt.processors()
 
     def free(self):
+        """Returns the memory for proofs, in bytes."""
         return 0.85 * self.rt.free()
 
     def memory(self, crate):
-        """Returns the memory in bytes that is kept for the proof of a crate. None of this repository takes more than 3 GB."""
+        """Returns the memory to reserve for the proof of a crate, in bytes. No crate of this repository takes more than 3 GB."""
         return min(self.rt.need(self.of_kit[crate.name]), MOST_MEMORY)
 
     def prove(self, crate, jobs, log):
-        """Proves a crate from nothing and builds it, and tells whether both succeeded. The log gets what the prover says."""
+        """Proves a crate from nothing and builds it, and returns whether both succeeded. The log gets the prover's output."""
         theirs, flags = self.of_kit[crate.name], ["--jobs", str(jobs)]
         with open(log, "w", encoding="utf-8", errors="replace") as theirs.out:
             try:
@@ -154,7 +161,7 @@ class Toolchain(Kit):
                 return False
 
     def build(self, crate, theirs, flags):
-        """Proves a program or a static library and builds it, and returns the status of that."""
+        """Proves a program or a static library and builds it, and returns the status."""
         made = f"out/{crate.name}.o" if crate.is_program else crate.built()
         words = [*theirs.words(flags, keeps=False), *crate.target()]
         status = theirs.prove(["build", *words, "--toolchain", f"{self.kit}/toolchain", "--backend", "llvm", "-o", made])
@@ -162,16 +169,18 @@ class Toolchain(Kit):
 
 
 class Commands(Kit):
-    """A kit of which documented commands alone are used: `rt lib`, `rt run` for a program, and `rattle build` for another machine. The first two
-    begin with the work that `rt check` kept, and choose their jobs themselves."""
+    """A kit that proves crates by documented commands: `rt lib`, `rt run` for a program, `rattle build` for another machine.
+
+    `rt lib` and `rt run` reuse the results of `rt check`, and choose their jobs themselves.
+    """
 
     how = "one after the other"
 
     def lock(self, crates):
-        """Does nothing, since each command waits until no other works in its crate."""
+        """Does nothing: each command waits until no other command works in its crate."""
 
     def processors(self):
-        """Returns 1, so that no two commands run side by side: each takes the processors that are free."""
+        """Returns 1, so that no two commands run in parallel: each takes all free processors."""
         return 1
 
     def free(self):
@@ -181,7 +190,7 @@ class Commands(Kit):
         return MOST_MEMORY
 
     def prove(self, crate, jobs, log):
-        """Proves a crate and builds it, and tells whether both succeeded. The log gets what the prover says."""
+        """Proves a crate and builds it, and returns whether both succeeded. The log gets the prover's output."""
         if crate.is_program and os.path.exists(crate.built()):
             os.remove(crate.built())
         command = [f"{self.kit}/bin/rt", "run" if crate.is_program else "lib"]
@@ -196,13 +205,13 @@ class Commands(Kit):
 
 
 def end_with_parent():
-    """Has the kernel end this process as soon as the one that started it ends."""
+    """Makes the kernel end this process as soon as its parent ends."""
     set_death_signal = 1
     ctypes.CDLL(None).prctl(set_death_signal, signal.SIGTERM)
 
 
 def words_of_check(kit, crate):
-    """Returns a call of `rattle check`, in the words that its --help explains, for a crate over the libraries that were built below it."""
+    """Returns the words of `rattle check` for a crate, over the libraries built below it. Its --help explains them."""
     words = [f"{kit}/bin/rattle", "check", "--crate-name", crate.name, "src/main.rt" if crate.is_program else "src/lib.rt"]
     for it in ("std", *crate.libraries):
         words += ["--extern", f"{it}={kit}/rlibs/{it}.rlib"]

@@ -9,14 +9,17 @@ from concurrent.futures import Future
 sys.dont_write_bytecode = True
 from toolchain import end_with_parent
 
-# How a trial run says that the program ended with status 0.
+# The beginning of the line in which a trial run reports that the program ended with status 0.
 ENDED = "run=ended status=0 "
 MOST_SHOWN = 2000  # characters
 
 
 class UnprovedAnswer(threading.Thread):
-    """A trial run, `rt try`, of a command of the program. The launcher puts the command's input into the file `input` of a folder once it has all of it,
-    and does not where the input is too long for a trial. `said` is a future of what to show, which a trial run that fails never sets."""
+    """A trial run, `rt try`, of a command of the program.
+
+    The launcher writes the command's input to the file `input` of a folder when it has read all of it, unless the input is
+    too long for a trial. `said` is a future of the text to show. A trial run that fails never sets it.
+    """
 
     def __init__(self, kit, crate, room, command):
         super().__init__(daemon=True)
@@ -24,6 +27,7 @@ class UnprovedAnswer(threading.Thread):
         self.said, self.running, self.is_over = Future(), None, threading.Event()
 
     def run(self):
+        """Waits for the input, runs the command, and sets the future if the command succeeds."""
         while not os.path.exists(self.input):
             if self.is_over.wait(0.1):
                 return
@@ -42,7 +46,7 @@ class UnprovedAnswer(threading.Thread):
 
 
 def shown(answer):
-    """Returns an answer as it is shown: one line behind the colon, and more lines below it, each indented."""
+    """Returns an answer as it is shown: one line after the colon, or several indented lines below it."""
     rest = len(answer) - MOST_SHOWN
     answer = answer[:MOST_SHOWN] + f".. (and {rest} characters)" * (rest > 0)
     return " " + answer if "\n" not in answer else "\n    " + answer.replace("\n", "\n    ") + "\n   "
