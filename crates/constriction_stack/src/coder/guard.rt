@@ -15,7 +15,7 @@ ghost use Rattle.constriction_base.specs.Digits.{fixed_digits};
 ghost use Rattle.constriction_base.specs.Steps.{IsSizes};
 ghost use Rattle.constriction_base.specs.declared.errors.CoderError.TheVariants as coder_error;
 ghost use Rattle.constriction_base.specs.Writing.{IsOneAbove, NotWritten};
-ghost use Rattle.constriction_stack.specs.Ans.{IsCoder, state_of, value_of};
+ghost use Rattle.constriction_stack.specs.Ans.{IsCoder, value_of};
 ghost use Rattle.constriction_stack.specs.Exports.{BinaryExportNotWritten, ExportNotWritten};
 ghost use Rattle.constriction_stack.specs.Guards.{BinaryLeft, ExportLeft, LeftByRefusal};
 ghost use Rattle.constriction_stack.specs.Guards.{ShowsBinary, ShowsExported, without};
@@ -264,7 +264,7 @@ where
     ensures kept { IfErr result (λ e. LeftByRefusal Word.number Backend.Holds Backend.WriteWords.own Backend.reads
         (fixed_digits (2 ^ Word.BITS) count (State.number head))
         (value_of Word.number Backend.Holds (State.number head) bulk.old) e
-        (state_of Word.number Backend.Holds (State.number head) bulk.new)) }
+        (value_of Word.number Backend.Holds (State.number head) bulk.new)) }
 {
     match append_words(bulk, head, count) {
         Ok(()) => Ok(()),

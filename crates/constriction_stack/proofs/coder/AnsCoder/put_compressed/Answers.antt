@@ -31,5 +31,5 @@ returns-in-Err-clause-kept g c =
     let digits = counted_digits g.Word.BitArray.BITS c.count_of_words-count.result head c.self.invariant.some_bits c.count_of_words-count.ensures in
     rw (← c.self.view_is) (
     subst (λ ds. LeftByRefusal number g.Backend.Holds g.Backend.WriteWords g.Backend.ReadWords.reads ds (value_of number g.Backend.Holds head c.self.inside.bulk) c.in-Err.error
-    (value_of number g.Backend.Holds head c.show_words.new.bulk).state) digits c.in-Err.ensures.kept
+    (value_of number g.Backend.Holds head c.show_words.new.bulk)) digits c.in-Err.ensures.kept
     )

@@ -12,5 +12,5 @@ returns-in-Err-clause-kept g c =
     let state : List g.row.Word.Denot → AnsState = λ ws. record { head = g.State.BitArray.number c.args.head; words = map g.Word.BitArray.number ws } in
     elim c.in-Err.ensures.refused [
       | inl none ↦ inl (ap state (ap g.Backend.Holds.words (rw none at c.take_back.ensures.reads) ∙ (rw none at c.in-Err.ensures.back)))
-      | inr some ↦ inr (refl, λ never. ap state (c.take_back.ensures.words never ∙ c.in-Err.ensures.back), (_, c.in-Err.ensures.written.begun, some))
+      | inr some ↦ inr (refl, λ never. ap state (c.take_back.ensures.words never ∙ c.in-Err.ensures.back), (_, _, c.in-Err.ensures.written.begun, some, c.in-Err.ensures.back, c.take_back.ensures.reads))
     ]
