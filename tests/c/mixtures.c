@@ -182,6 +182,29 @@ static void chain(size_t count) {
     refuses_models("chain: encode refuses", chain_encode, &back);
 }
 
+/* Does this call in memory that has no block left. */
+static void needs_none(const char *about, call *run, struct world *w) {
+    requests = 0, refused_request = 1;
+    done(about, run, w);
+    refused_request = 0;
+    CHECK(about, !requests);
+}
+
+/* Mixtures of no symbols have no components, whatever their width: no call asks for memory. */
+static void no_symbols(void) {
+    static const size_t widths[] = {1, (size_t)1 << 28, (size_t)1 << 59, SIZE_MAX};
+    for (size_t k = 0; k < LENGTH(widths); k++) {
+        struct world w = fresh();
+        draw(0);
+        in.width = widths[k];
+        needs_none("no symbols: ANS, encode", ans_encode, &w), needs_none("no symbols: ANS, decode", ans_decode, &w);
+        needs_none("no symbols: range, encode", range_encode, &w);
+        needs_none("no symbols: range, decode", range_decode, &w);
+        needs_none("no symbols: chain, encode", chain_encode, &w);
+        needs_none("no symbols: chain, decode", chain_decode, &w);
+    }
+}
+
 static void worked_words(void) {
     counted(LIST, LIST_WIDTH);
     in.min = FIRST, in.max = LAST;
@@ -212,7 +235,7 @@ static void worked_words(void) {
 }
 
 int main(void) {
-    worked_words();
+    worked_words(), no_symbols();
     for (int round = 0; round < 30; round++) {
         size_t count = round < 3 ? (size_t)round : 1 + random_below(COUNT);
         ans(count), range(count), chain(count);

@@ -1,5 +1,5 @@
 -- Quantized mixtures of a family's distributions, with a row of components for each symbol.
-use Rattle.std.specs.Prelude.{◌≡◌, ℕ, ℤ, ◌*◌, ◌<◌, ◌≤◌, List, length, map, sum, take, drop, Option}
+use Rattle.std.specs.Prelude.{◌≡◌, ℕ, ℤ, ◌*◌, ◌<◌, ◌≤◌, List, [], ◌∷◌, length, map, sum, take, drop, Option}
 use Rattle.std.specs.List.{range_with_len, zip}
 use Rattle.constriction_base.specs.Models.{Item, pairs_of}
 use Rattle.constriction_models.specs.Mixtures.{Weighted, mixed}
@@ -18,6 +18,11 @@ pub record ByMixture : Type 0 where
 -- The row at index `place` of a list that has rows of `width` items, one after another.
 abbrev pub row_of_place : {A : Type 0} → ℕ → ℕ → List A → List A
 row_of_place width place list = take width (drop (width * place) list)
+
+-- The list, or the one item alone if the list is empty.
+abbrev pub or_lone : {A : Type 0} → List A → A → List A
+or_lone [] lone = lone ∷ []
+or_lone (item ∷ items) lone = item ∷ items
 
 -- The components of a family with the given weights, locations and scales.
 abbrev pub components_of : Option Family → List ℕ → List ℤ → List ℕ → List Weighted

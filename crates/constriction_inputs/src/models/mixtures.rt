@@ -6,7 +6,8 @@ mod weighing;
 ghost use Rattle.std.specs.Prelude.{◌≡◌, ℕ, ◌*◌, ◌<◌, ◌≤◌, Some, get_or, length, vec_capacity};
 ghost use Rattle.constriction_models.specs.Mixtures.{weighted};
 ghost use Rattle.constriction_models.specs.Quantizers.{symbol_count, first_symbol};
-ghost use Rattle.constriction_inputs.specs.Mixtures.{AreMixable, by_mixture, components_of, mixture_tables, row_of_place};
+ghost use Rattle.constriction_inputs.specs.Mixtures.{AreMixable, by_mixture, components_of, mixture_tables, or_lone};
+ghost use Rattle.constriction_inputs.specs.Mixtures.{row_of_place};
 ghost use Rattle.constriction_inputs.specs.Quantized.{family_of, symbols_in};
 
 use crate::models::families::are_places;
@@ -117,16 +118,16 @@ impl<'a, P: WordOf<u32>, const PRECISION: usize> Models<P, PRECISION> for Mixtur
         let Ok((family, quantizer)) = self.components.family_and_range::<P, PRECISION>() else {
             return None;
         };
-        let Ok(mut components) = Vec::with_capacity(alloc, self.width) else {
+        let room = if count == 0 { 0 } else { self.width };
+        let Ok(components) = Vec::with_capacity(alloc, room) else {
             return None;
         };
-        components.push_reserved(first_component(family));
         Some(MixtureList {
             mixtures: *self,
             family,
             count,
             place: count,
-            mixed: MixedDistribution::new(components, quantizer),
+            mixed: MixedDistribution::new(components, first_component(family), quantizer),
         })
     }
 }
@@ -139,7 +140,8 @@ impl<'a, P: WordOf<u32>, const PRECISION: usize> DecoderModels<P, PRECISION> for
     }
 }
 
-/// A list of models of mixtures. The list keeps only one mixture's components in memory.
+/// A list of models of mixtures. The list keeps only one mixture's components in memory. A list of no models needs no
+/// memory.
 ///
 /// Each call of `interval` or `turn_to` replaces these components with the components of the mixture at the index.
 ///
@@ -165,9 +167,9 @@ pub struct MixtureList<'a, P: WordOf<u32>, const PRECISION: usize> {
     ghost stretched: { length mixtures.components.scales.now ≡ length mixtures.weights.now },
     ghost scaled: { (k : ℕ) → k < length mixtures.components.scales.now → 0 < get_or mixtures.components.scales.now k 0 },
     ghost mixable: { AreMixable mixtures.width count mixtures.weights.now },
-    ghost room: { mixtures.width ≤ vec_capacity mixed.components },
+    ghost room: { 0 < count → mixtures.width ≤ vec_capacity mixed.components },
     ghost filled: { place < count →
-        weighted ⟦<FamilyDistribution as CumulativeDistribution>⟧.below mixed.components.items
+        weighted ⟦<FamilyDistribution as CumulativeDistribution>⟧.below (or_lone mixed.components.items mixed.lone)
         ≡ components_of (Some family) (row_of_place mixtures.width place mixtures.weights.now)
         (row_of_place mixtures.width place mixtures.components.locations.now)
         (row_of_place mixtures.width place mixtures.components.scales.now) },

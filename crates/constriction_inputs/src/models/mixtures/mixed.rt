@@ -1,12 +1,12 @@
 //! [`MixedDistribution`]: the model of a mixture, which owns the mixture's components.
 
-ghost use Rattle.std.specs.Prelude.{◌≡◌, ℕ, ◌+◌, ◌*◌, ◌<◌, ◌≤◌, Some, get_or, length, vec_capacity};
+ghost use Rattle.std.specs.Prelude.{◌≡◌, ℕ, ◌+◌, ◌*◌, ◌<◌, ◌≤◌, Some, [], get_or, length, vec_capacity};
 ghost use Rattle.constriction_models.specs.Mixtures.{mixed, total_weight, weighted};
 ghost use Rattle.constriction_models.specs.Quantized.{indexed};
 ghost use Rattle.constriction_models.specs.Quantizers.{symbol_count, first_symbol};
 ghost use Rattle.constriction_models.specs.laws.Indexing.{indexed_is_table, indexed_two};
 ghost use Rattle.constriction_models.specs.laws.Mixing.{mixed_is_distribution};
-ghost use Rattle.constriction_inputs.specs.Mixtures.{IsMixable, components_of, row_of_place};
+ghost use Rattle.constriction_inputs.specs.Mixtures.{IsMixable, components_of, or_lone, row_of_place};
 
 use constriction_base::model::{DecoderModel, EncoderModel, EntropyModel};
 use constriction_models::distribution::CumulativeDistribution;
@@ -14,16 +14,19 @@ use constriction_models::families::{Family, FamilyDistribution};
 use constriction_models::mixture::{Component, Mixture};
 use constriction_models::quantizer::{IndexedDistribution, LeakyQuantizer};
 use constriction_words::{BitArray, WordOf};
+use std::array;
 
 /// The model of a mixture. The model owns the mixture's components.
 ///
-/// Its symbols are indices into a quantizer's range of integers.
+/// Its symbols are indices into a quantizer's range of integers. While the list of components is empty, the mixture has
+/// one component, which needs no memory of its own.
 #[derive(Drop)]
 pub struct MixedDistribution<D: CumulativeDistribution, P: WordOf<u32>, const PRECISION: usize> {
     pub(super) components: Vec<Component<D>>,
+    pub(super) lone: Component<D>,
     pub(super) quantizer: LeakyQuantizer<P, PRECISION>,
-    ghost some: { 0 < total_weight (weighted D.below components.items) },
-    ghost most: { total_weight (weighted D.below components.items) ≤ 4294967296 },
+    ghost some: { 0 < total_weight (weighted D.below (or_lone components.items lone)) },
+    ghost most: { total_weight (weighted D.below (or_lone components.items lone)) ≤ 4294967296 },
 }
 
 impl<D: CumulativeDistribution, P: WordOf<u32>, const PRECISION: usize> MixedDistribution<
@@ -31,20 +34,34 @@ impl<D: CumulativeDistribution, P: WordOf<u32>, const PRECISION: usize> MixedDis
     P,
     PRECISION,
 > {
-    /// Creates the model of a mixture of `components`, over the range of `quantizer`.
+    /// Creates the model of a mixture of the component `lone`, over the range of `quantizer`.
     ///
-    /// The caller proves that the weights of the components add up to at least 1 and at most `2^32`.
+    /// `components` is an empty list. It has capacity for the components that later replace `lone`. The caller proves
+    /// that the weight of `lone` isn't 0.
     pub(super) fn new(
         components: Vec<Component<D>>,
+        lone: Component<D>,
         quantizer: LeakyQuantizer<P, PRECISION>,
     ) -> Self
-        requires { (0 < total_weight (weighted D.below components.items))
-            × (total_weight (weighted D.below components.items) ≤ 4294967296) }
+        requires { (components.items ≡ []) × (0 < lone.weight) }
         ensures { (result.components ≡ components) × (result.quantizer ≡ quantizer) }
     {
         MixedDistribution {
             components,
+            lone,
             quantizer,
+        }
+    }
+
+    /// Returns the mixture's components.
+    #[inline(always)]
+    fn parts(&self) -> &[Component<D>]
+        ensures { result.now ≡ or_lone self.now.components.items self.now.lone }
+    {
+        if self.components.is_empty() {
+            array::from_ref(&self.lone)
+        } else {
+            &self.components
         }
     }
 
@@ -52,11 +69,11 @@ impl<D: CumulativeDistribution, P: WordOf<u32>, const PRECISION: usize> MixedDis
     #[inline(always)]
     fn borrowed<'b>(&'b self) -> IndexedDistribution<Mixture<'b, D>, P, PRECISION>
         ensures { ⟦<IndexedDistribution<Mixture<'b, D>, P, PRECISION> as EntropyModel<PRECISION>>⟧.table result
-            ≡ indexed PRECISION (mixed (weighted D.below self.now.components.items))
+            ≡ indexed PRECISION (mixed (weighted D.below (or_lone self.now.components.items self.now.lone)))
             (first_symbol self.now.quantizer) (symbol_count self.now.quantizer) }
     {
         self.quantizer
-            .quantize_indexed(Mixture::new(&self.components).unwrap())
+            .quantize_indexed(Mixture::new(self.parts()).unwrap())
     }
 }
 
@@ -66,17 +83,19 @@ impl<D: CumulativeDistribution, P: WordOf<u32>, const PRECISION: usize> EntropyM
 
     type Probability = P;
 
-    ghost table = { λ m. indexed PRECISION (mixed (weighted D.below m.components.items))
+    ghost table = { λ m. indexed PRECISION (mixed (weighted D.below (or_lone m.components.items m.lone)))
         (first_symbol m.quantizer) (symbol_count m.quantizer) };
 
-    ghost lawful = { λ m. indexed_is_table PRECISION (mixed (weighted D.below m.components.items)) m.quantizer.min
-        m.quantizer.count (mixed_is_distribution D.below m.components.items D.never_falls m.some) m.quantizer.some
+    ghost lawful = { λ m. indexed_is_table PRECISION (mixed (weighted D.below (or_lone m.components.items m.lone)))
+        m.quantizer.min m.quantizer.count
+        (mixed_is_distribution D.below (or_lone m.components.items m.lone) D.never_falls m.some) m.quantizer.some
         m.quantizer.room };
 
     ghost sized = { λ m. (m.quantizer.positive, m.quantizer.fits) };
 
     ghost two_symbols = { λ m _. indexed_two PRECISION
-        (mixed (weighted D.below m.components.items)) m.quantizer.min m.quantizer.count m.quantizer.some };
+        (mixed (weighted D.below (or_lone m.components.items m.lone))) m.quantizer.min m.quantizer.count
+        m.quantizer.some };
 }
 
 impl<D: CumulativeDistribution, P: WordOf<u32>, const PRECISION: usize> EncoderModel<PRECISION>
