@@ -10,11 +10,6 @@ pub asked_ok : {T A B : Type 0} {refusal : Refusal} {x : T} → ((A → ⊥) × 
 asked_ok (inl fails) = (let never = fails.1 in absurd cc)
 asked_ok (inr goes) = goes
 
--- what is asked for next, where the first holds
-asked_next : {T A B : Type 0} {refusal : Refusal} {answer : Result T Refusal} → A → ((A → ⊥) × (answer ≡ Err refusal)) ⊎ (A × B) → B
-asked_next h (inl fails) = absurd (fails.0 h)
-asked_next h (inr goes) = goes.1
-
 -- the same of three
 pub three_ok : {T A B C D : Type 0} {a b c : Refusal} {x : T} → Asks a A (Asks b B (Asks c C (λ answer. D))) (Ok x) → A × B × C
 three_ok asks =
@@ -30,10 +25,6 @@ module _ (precision : ℕ) (coded : Coded) where
   -- what comes behind one that went well
   pub fit_then : {T A : Type 0} {answer : Result T Refusal} → AreFit precision coded → A → AsksFit precision coded (λ answer. A) answer
   fit_then fit next = inr (fit.0, inr (fit.1, inr (fit.2, next)))
-
-  -- and the other way round
-  pub fit_behind : {T A : Type 0} {answer : Result T Refusal} → AreFit precision coded → AsksFit precision coded (λ answer. A) answer → A
-  fit_behind fit asks = asked_next fit.2 (asked_next fit.1 (asked_next fit.0 asks))
 
 -- want of room, or of memory
 pub room_of : {B : Type 0} (needs : ℕ → Type 0) (e : Refusal) (n : ℕ) → (e ≡ NoSpace n) ⊎ ((e ≡ NoMemory) × B) → needs n → Room needs e

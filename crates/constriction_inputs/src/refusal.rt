@@ -49,7 +49,7 @@ pub enum Refusal {
     /// A call also returns this error in three other cases:
     ///
     /// - The words don't encode the requested number of symbols under the caller's models. For example, the next bits
-    ///   can't begin a codeword.
+    ///   can't begin a codeword, or the number of the next codeword doesn't fit the type of the symbols.
     /// - The state has no export in the form that the caller asks for, such as the binary form.
     /// - A range encoder's number of pending words plus the number of symbols to encode is above `2^64 - 18`.
     #[error("invalid data")]
