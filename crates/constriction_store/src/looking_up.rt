@@ -56,8 +56,9 @@ pub fn decoder_at<'a, Word: WordOf<State>, State: BitArray>(
 ) -> RangeDecoder<Word, State, Cursor<Word, &'a [Word]>>
     requires sizes { IsSizes Word.BITS State.BITS }
     requires inside { place ≤ length words.now }
-    ensures { StandsAt Word.BITS State.BITS (map Word.number words.now)
+    ensures decoder { StandsAt Word.BITS State.BITS (map Word.number words.now)
         (run_from place (lower_of state) (range_of state)) result }
+    ensures buffer { result.bulk.buf.now ≡ words.now }
 {
     let mut decoder = match RangeDecoder::with_backend(Cursor::new_at_write_end(words)) {
         Ok(decoder) => decoder,

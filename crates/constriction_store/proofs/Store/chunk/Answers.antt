@@ -23,7 +23,7 @@ returns-clause-ok g c =
     let inside : c.args.i < length items = omega (arith, c.if-i-len.false, c.len.ensures, c.self.inside.index.ok.0) in
     let entry : entry_in (map entry_at items) c.args.i ≡ entry_at x = get_or-map entry_at items c.args.i x (entry_of 0 0 0 0) inside ∙ ap entry_at (sym c.index.ensures) in
     let words : List ℕ = map g.Word.BitArray.number c.self.inside.words.items in
-    let at : StandsAt w s words (run_at (entry_at x)) c.decoder_at-decoder.result = rw c.as_slice.ensures.value at c.decoder_at-decoder.ensures in
+    let at : StandsAt w s words (run_at (entry_at x)) c.decoder_at-decoder.result = rw c.as_slice.ensures.value at c.decoder_at-decoder.ensures.decoder in
     rw (← c.self.view_is, entry) (chunk_ok w s model words (entry_at x) c.decoder_at-decoder.result at c.decode_chunk.result c.decode_chunk.ensures.count c.decode_chunk.ensures.ok)
 
 pub returns-clause-err : goal.returns-clause-err
@@ -36,7 +36,7 @@ returns-clause-err g c =
     let inside : c.args.i < length items = omega (arith, c.if-i-len.false, c.len.ensures, c.self.inside.index.ok.0) in
     let entry : entry_in (map entry_at items) c.args.i ≡ entry_at x = get_or-map entry_at items c.args.i x (entry_of 0 0 0 0) inside ∙ ap entry_at (sym c.index.ensures) in
     let words : List ℕ = map g.Word.BitArray.number c.self.inside.words.items in
-    let at : StandsAt w s words (run_at (entry_at x)) c.decoder_at-decoder.result = rw c.as_slice.ensures.value at c.decoder_at-decoder.ensures in
+    let at : StandsAt w s words (run_at (entry_at x)) c.decoder_at-decoder.result = rw c.as_slice.ensures.value at c.decoder_at-decoder.ensures.decoder in
     let within : c.args.i < length (map entry_at items) = omega (arith, inside, length-map items entry_at) in
     rw (← c.self.view_is) (chunk_err w s model words (entry_at x) c.decoder_at-decoder.result at c.decode_chunk.result (map entry_at items) c.args.i within entry c.decode_chunk.ensures.err)
 
@@ -49,7 +49,7 @@ returns-clause-none g c =
     let model : Model ℕ = record { precision = g.row.PRECISION; table = g.M.EntropyModel.table c.self.inside.model } in
     let inside : c.args.i < length items = omega (arith, c.if-i-len.false, c.len.ensures, c.self.inside.index.ok.0) in
     let words : List ℕ = map g.Word.BitArray.number c.self.inside.words.items in
-    let at : StandsAt w s words (run_at (entry_at x)) c.decoder_at-decoder.result = rw c.as_slice.ensures.value at c.decoder_at-decoder.ensures in
+    let at : StandsAt w s words (run_at (entry_at x)) c.decoder_at-decoder.result = rw c.as_slice.ensures.value at c.decoder_at-decoder.ensures.decoder in
     let within : c.args.i < length (map entry_at items) = omega (arith, inside, length-map items entry_at) in
     rw (← c.self.view_is) (chunk_none w s model words (entry_at x) c.decoder_at-decoder.result at c.decode_chunk.result (length (map entry_at items)) c.args.i within c.decode_chunk.ensures.err)
 
@@ -65,5 +65,5 @@ returns-clause-back g c =
     let inside : c.args.i < length items = omega (arith, c.if-i-len.false, c.len.ensures, c.self.inside.index.ok.0) in
     let entry : entry_in (map entry_at items) c.args.i ≡ entry_at x = get_or-map entry_at items c.args.i x (entry_of 0 0 0 0) inside ∙ ap entry_at (sym c.index.ensures) in
     let words : List ℕ = map g.Word.BitArray.number c.self.inside.words.items in
-    let at : StandsAt w s words (run_at (entry_at x)) c.decoder_at-decoder.result = rw c.as_slice.ensures.value at c.decoder_at-decoder.ensures in
+    let at : StandsAt w s words (run_at (entry_at x)) c.decoder_at-decoder.result = rw c.as_slice.ensures.value at c.decoder_at-decoder.ensures.decoder in
     rw (← c.self.view_is, entry) (λ within symbols held. chunk_back w s model words (entry_at x) c.decoder_at-decoder.result at c.decode_chunk.result symbols lawful held c.decode_chunk.ensures.count c.decode_chunk.ensures.ok c.decode_chunk.ensures.err)

@@ -18,8 +18,8 @@ unreachable-requires g c =
       | inr read ↦ elim read.2 [ ]
     ]
 
-pub returns : goal.returns
-returns g c =
+pub returns-clause-decoder : goal.returns-clause-decoder
+returns-clause-decoder g c =
     let w = g.Word.BitArray.BITS in
     let s = g.State.BitArray.BITS in
     let number = g.Word.BitArray.number in
@@ -35,3 +35,8 @@ returns g c =
     ap (λ b. drop b.pos b.buf.now) sought.2.1 ∙ ap (λ v. drop c.args.place v.now) (kept ∙ ap (λ cursor. cursor.buf) c.new_at_write_end.ensures) in
     sought_there number w s items (drop moved.pos moved.buf.now) (map number items) there _ _ _ c.seek.new.self c.requires.sizes (words_of_numbers number w g.met.Word.BitArray.number_law items) refl position part
     sought.0 sought.1 point.0 (sought.3.words_are ∙ point.1)
+
+pub returns-clause-buffer : goal.returns-clause-buffer
+returns-clause-buffer g c =
+    let kept = cursor_keeps Infallible g.Word.BitArray.number (λ v. v.now) _ _ _ c.new_at_write_end.result c.in-Ok.decoder.bulk c.in-Ok.ensures.reads.2 in
+    ap (λ b. b.buf.now) c.in-Ok-seek.ensures.ok.2.1 ∙ ap (λ v. v.now) (kept ∙ ap (λ cursor. cursor.buf) c.new_at_write_end.ensures)

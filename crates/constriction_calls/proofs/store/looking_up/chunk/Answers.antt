@@ -24,7 +24,7 @@ returns-in-Ok-take_list g c =
     let there : Run = run_from c.args.pos (lower_of c.in-Ok.state) (range_of c.in-Ok.state) in
     let there_is : there ≡ run_from c.args.pos (state c.args.lower) (state c.args.range) = ap₂ (λ (l r : ℕ). run_from c.args.pos l r) c.in-Ok.ensures.lower c.in-Ok.ensures.range in
     let again = c.in-Ok-take_list.again.items in
-    let got = c.in-Ok-take_list.ensures.decoded words there c.decoder_at-decoder.ensures in
+    let got = c.in-Ok-take_list.ensures.decoded words there c.decoder_at-decoder.ensures.decoder in
     let by_weights = finds_same w s words _ (items_of (weights_model g.row.PRECISION weights) again) there got.0 (sym (c.in-Some.ensures.items again c.in-Ok-take_list.ensures.count)) got.1 in
     let found = subst (λ (r : Run). FindsAll w s words (items_of (weights_model g.row.PRECISION weights) again) r got.0) there_is by_weights in
     let same = c.copy_from_slice.ensures.after ∙ c.deref.ensures.value in
@@ -53,6 +53,6 @@ returns g c =
           (omega (arith, c.if-pos-words.false, length-map c.args.words.now number)) total least c.in-Err.refusal (words_moved c.in-Err.refusal
           (λ none symbols held.
           let all = subst (λ (r : Run). FindsAll w s words (items_of (weights_model g.row.PRECISION weights) symbols) r held.1.0) (sym there_is) held.1.1 in
-          none words symbols there held.1.0 c.decoder_at-decoder.ensures (finds_same w s words _ _ there held.1.0 (c.in-Some.ensures.items symbols held.0) all) held.0)
+          none words symbols there held.1.0 c.decoder_at-decoder.ensures.decoder (finds_same w s words _ _ there held.1.0 (c.in-Some.ensures.items symbols held.0) all) held.0)
           c.in-Err.ensures.err) _ refl;
     }
