@@ -1,10 +1,11 @@
 -- The errors of encoding and decoding symbols with range coders, and the results of a decoder's end-of-data test.
 use Rattle.std.specs.Prelude.{◌≡◌, ◌↔◌, ◌<◌, ℕ, ⊤, List, Bool, IsTrue, length}
 use Rattle.constriction_base.specs.Models.{Item}
+use Rattle.constriction_base.specs.declared.backends.reading.Holds as holding
 use Rattle.constriction_base.specs.declared.errors.CoderError.{CoderError}
 use Rattle.constriction_base.specs.declared.errors.CoderError.TheVariants.{Frontend}
 use Rattle.constriction_queue.specs.Range.{Run, Within, sealed, initial}
-use Rattle.constriction_queue.specs.Decoder.{Decoder, MayBeExhausted, StandsAt}
+use Rattle.constriction_queue.specs.Decoder.{Decoder, IsDecoder, MayBeExhausted, StandsAt}
 use Rattle.constriction_queue.specs.States.{IsPosition}
 use Rattle.constriction_laws.specs.Outcomes.{Reasons}
 use Rattle.constriction_laws.specs.declared.errors.RoundTripError.{RoundTripError}
@@ -45,11 +46,12 @@ abbrev pub ReadsToEnd : {S : Type 0} → ℕ → ℕ → List ℕ → List (Item
 ReadsToEnd w s words items ended =
     (last : Run) × FindsAll w s words items (initial s) last × (MayEnd w s words last → IsTrue ended) × (IsTrue ended → NearsEnd w s words last)
 
--- A decoder of the words is positioned after these items, over a backend of which `exhausted` says whether it may have
--- run out of words. The result is true if and only if that decoder may be exhausted.
-abbrev pub TellsEnd : {S B : Type 0} → ℕ → ℕ → (B → Bool) → List ℕ → List (Item S) → Bool → Type 0
-TellsEnd {B = B} w s exhausted words items ended = (last : Run) × (decoder : Decoder B)
-    × FindsAll w s words items (initial s) last × StandsAt w s words last decoder
+-- A decoder of the words is positioned after these items. Its words are those of its backend (`IsDecoder`), and
+-- `exhausted` says whether the backend may have run out of words. The result is true if and only if that decoder may be
+-- exhausted.
+abbrev pub TellsEnd : {Word S B T : Type 0} → (Word → ℕ) → holding.Ghosts B Word T → ℕ → ℕ → (B → Bool) → List ℕ → List (Item S) → Bool → Type 0
+TellsEnd {B = B} number holds w s exhausted words items ended = (last : Run) × (decoder : Decoder B)
+    × IsDecoder number holds w s decoder × FindsAll w s words items (initial s) last × StandsAt w s words last decoder
     × (IsTrue ended ↔ MayBeExhausted w s exhausted decoder)
 
 -- The words lie within the interval to which encoding the items leads.

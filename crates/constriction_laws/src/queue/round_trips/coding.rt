@@ -5,7 +5,7 @@
 ghost use Rattle.std.specs.Prelude.{◌≡◌, ◌↔◌, ◌+◌, ◌<◌, ◌≤◌, ℕ, List, length, IfOk, IfErr, IsTrue};
 ghost use Rattle.constriction_base.specs.Models.{pairs_of};
 ghost use Rattle.constriction_laws.specs.Outcomes.{HasImpossibleItem};
-ghost use Rattle.constriction_queue.specs.Decoder.{MayBeExhausted, StandsAt};
+ghost use Rattle.constriction_queue.specs.Decoder.{IsDecoder, MayBeExhausted, StandsAt};
 ghost use Rattle.constriction_queue.specs.Encoder.{left_to_encode};
 ghost use Rattle.constriction_queue.specs.Range.{Run};
 ghost use Rattle.constriction_laws.specs.queue.Outcomes.{GivesNone, NotCoded, NotRead};
@@ -115,6 +115,7 @@ pub fn has_ended<
     ensures value { IsTrue result ↔ MayBeExhausted Word.BITS State.BITS Backend.seems_exhausted decoder.now }
     ensures ended { (words : List ℕ) (there : Run) → StandsAt Word.BITS State.BITS words there decoder.now →
         MayEnd Word.BITS State.BITS words there → IsTrue result }
+    ensures decoder { IsDecoder Word.number Backend.Holds Word.BITS State.BITS decoder.now }
 {
     decoder.bulk().maybe_exhausted() && Decode::<PRECISION>::maybe_exhausted(decoder)
 }

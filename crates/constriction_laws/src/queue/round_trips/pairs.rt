@@ -97,9 +97,9 @@ where
     ensures count { IfOk result (λ back. length back.0.items ≡ length models.now) }
     ensures read { IfOk result (λ back. ReadsToEnd Word.BITS State.BITS (map Word.number (Words.words words))
         (pairs_of PRECISION M.table back.0.items models.now) back.1) }
-    ensures ended { IfOk result (λ back. TellsEnd Word.BITS State.BITS
-        (⟦<Words::IntoReadWords as ReadWords<Word, Queue>>⟧.seems_exhausted) (map Word.number (Words.words words))
-        (pairs_of PRECISION M.table back.0.items models.now) back.1) }
+    ensures ended { IfOk result (λ back. TellsEnd Word.number ⟦<Words::IntoReadWords as Holds<Word, Queue>>⟧
+        Word.BITS State.BITS (⟦<Words::IntoReadWords as ReadWords<Word, Queue>>⟧.seems_exhausted)
+        (map Word.number (Words.words words)) (pairs_of PRECISION M.table back.0.items models.now) back.1) }
     ensures back { GivesSymbolsOf Word.BITS State.BITS PRECISION M.table (map Word.number (Words.words words))
         models.now result }
     ensures within { 0 < length models.now → IfItemsWith PRECISION M.table models.now result (λ items _. LieWithin

@@ -32,6 +32,7 @@ returns-clause-ended g c =
     let decoded = c.in_ok-again.ensures.decoded known _ (initial g.State.BitArray.BITS) (c.in-Ok.ensures.ok known) in (
       decoded.0,
       c.decode_pairs.new.decoder,
+      c.has_ended-ended.ensures.decoder,
       decoded.1,
       decoded.2,
       c.has_ended-ended.ensures.value,
