@@ -8,7 +8,6 @@ use Rattle.constriction_chain.specs.Symbols.{TakesOffAll, PutsBackAll}
 use Rattle.constriction_chain.specs.Walk.{NeedsWord}
 use Rattle.constriction_inputs.specs.Buffers.{Appended, stack_in}
 use Rattle.constriction_inputs.specs.Coded.{AsksFit, Coded, items}
-use Rattle.constriction_inputs.specs.Intervals.{as_intervals}
 use Rattle.constriction_inputs.specs.Refusals.{Asks, DataOrRoom, Else}
 use Rattle.constriction_inputs.specs.Weights.{by_weights}
 use Rattle.constriction_calls.specs.NarrowSymbols.{narrow_by_weights}
@@ -122,11 +121,6 @@ pub record ChainPuts {Word State : Type 0} (number : Word → ℕ) (state : Stat
 abbrev pub ChainPutsBy : {Word State N M : Type 0} → numbers.Ghosts Word N → numbers.Ghosts State M → ℕ → Coded
     → ChainKept Word State → ChainKept Word State → Result (Unit {0}) Refusal → Type 0
 ChainPutsBy word state P coded old new answer = ChainPuts word.number state.number word.BITS state.BITS P coded old new answer
-
--- `ChainPutsBy` for intervals, each given by its start and its length.
-abbrev pub ChainPutsIntervals : {Word State P N M : Type 0} → numbers.Ghosts Word N → numbers.Ghosts State M → ℕ → (P → ℕ) → List P → List P
-    → ChainKept Word State → ChainKept Word State → Result (Unit {0}) Refusal → Type 0
-ChainPutsIntervals word state P number lefts ps old new answer = ChainPutsBy word state P (as_intervals (map number lefts) (map number ps)) old new answer
 
 -- The errors of a decode call whose lengths and models fit: `InvalidData` if no coder has these heads, and then
 -- `OutOfData`, `NoSpace` or `NoMemory`.

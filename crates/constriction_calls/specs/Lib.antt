@@ -1,6 +1,5 @@
 pub mod AnsCalls
 pub mod ChainCalls
-pub mod ChainFits
 pub mod ChainItems
 pub mod ChainWords
 pub mod NarrowSymbols

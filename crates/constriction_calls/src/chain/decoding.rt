@@ -7,7 +7,7 @@ ghost use Rattle.constriction_chain.specs.Symbols.{TakesOffAll};
 ghost use Rattle.constriction_inputs.specs.Buffers.{Appended};
 ghost use Rattle.constriction_calls.specs.ChainCalls.{AreHeadsOf, ChainTakesBy, ChainTakesByWeights};
 ghost use Rattle.constriction_calls.specs.ChainCalls.{ChainTakesNarrow, LacksCompressed, keeps};
-ghost use Rattle.constriction_calls.specs.ChainFits.{CoderFits};
+ghost use Rattle.constriction_chain.specs.Fits.{CoderFits};
 ghost use Rattle.constriction_inputs.specs.Coded.{AreFit, items};
 ghost use Rattle.constriction_inputs.specs.declared.refusal.Refusal.TheVariants as refusals;
 

@@ -5,7 +5,7 @@ ghost use Rattle.constriction_base.specs.Steps.{IsStep};
 ghost use Rattle.constriction_chain.specs.Chain.{ChainState, IsSized};
 ghost use Rattle.constriction_inputs.specs.Buffers.{Appended};
 ghost use Rattle.constriction_calls.specs.ChainCalls.{AreHeadsOf, ChainPutsBy, keeps};
-ghost use Rattle.constriction_calls.specs.ChainFits.{CoderFits};
+ghost use Rattle.constriction_chain.specs.Fits.{CoderFits};
 ghost use Rattle.constriction_calls.specs.ChainItems.{ChainPutsItems, PutsItem, PutsBackItems, PutsStep};
 ghost use Rattle.constriction_inputs.specs.declared.refusal.Refusal.TheVariants as refusals;
 ghost use Rattle.constriction_words.specs.Reciprocals.{IsReciprocalOf};
@@ -159,9 +159,11 @@ fn encode_list<
 
 /// Encodes items as [`encode_list`] does, and collects the new words in the buffer `room`.
 ///
+/// The caller proves that `room` has a word for each item. An item writes at most one word.
+///
 /// # Errors
 ///
-/// The call returns the errors of [`encode_list`]. It also returns `NoMemory` if `room` is too short for the new words.
+/// The call returns the errors of [`encode_list`].
 #[inline]
 fn encode_within<
     Word: WordOf<State>,
@@ -180,6 +182,7 @@ fn encode_within<
     list: &mut L,
 ) -> Result<(), Refusal>
     requires fits { CoderFits Word.row State.row }
+    requires room { length (L.list_items list.now) ≤ length room.now }
     requires heads { both ≡ (heads.now.compressed, heads.now.remainders) }
     requires compressed { compressed_len.now ≤ length compressed.now }
     requires remainders { remainders_len.now ≤ length remainders.now }

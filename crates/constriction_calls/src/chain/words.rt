@@ -1,6 +1,6 @@
 //! Importing chain coders from a caller's words, and exporting the words of chain coders.
 ghost use Rattle.constriction_chain.specs.Chain.{IsSized};
-ghost use Rattle.constriction_calls.specs.ChainFits.{CoderFits};
+ghost use Rattle.constriction_chain.specs.Fits.{CoderFits};
 ghost use Rattle.constriction_calls.specs.ChainWords.{ChainBeginsBy, ChainEndsBy, InBinary, InCompressed, InRemainders};
 
 use crate::chain::ChainHeads;
