@@ -4,6 +4,7 @@ pub mod Exporting
 pub mod Exports
 pub mod Guards
 pub mod Imports
+pub mod Lanes
 pub mod Positions
 pub mod Readings
 pub mod Sizes

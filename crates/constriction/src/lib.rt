@@ -247,6 +247,8 @@ pub mod stream {
         pub use constriction_stack::coder::words::{
             AnsCompressedIter, CompressedDataEndsWithZeroWord,
         };
+        pub use constriction_stack::lanes::decoding::decode_lanes;
+        pub use constriction_stack::lanes::steps::{decode_from, encode_onto};
         pub use constriction_stack::{AnsCoder, DefaultAnsCoder, SmallAnsCoder};
     }
 

@@ -14,3 +14,9 @@ pub mod FirstReads
 mod BinaryRows
 pub mod ByProduct
 pub mod StepCalls
+mod LaneFilling
+mod LaneGroups
+pub mod LaneRows
+mod LaneThree
+mod LaneTurns
+pub mod LaneWords

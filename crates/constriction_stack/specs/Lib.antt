@@ -4,6 +4,7 @@ pub mod Exports
 pub mod Guarded
 pub mod Guards
 pub mod Imports
+pub mod Lanes
 pub mod Positions
 pub mod Sizes
 pub mod Symbols

@@ -26,6 +26,7 @@
 //! The modules:
 //!
 //! - [`coder`]: the coder, its steps, its words, its positions and its guards.
+//! - [`lanes`]: the steps of many coders side by side, each over the words of a slice.
 //! - `steps`: the arithmetic of encoding and decoding one symbol, on the head.
 //!
 //! Contracts cite the definitions of `specs/Ans.antt`: states, pop and push, the words of a state, and the possible
@@ -34,6 +35,7 @@
 #![tactic(auto)]
 
 pub mod coder;
+pub mod lanes;
 mod steps;
 
 pub use crate::coder::{AnsCoder, DefaultAnsCoder, SmallAnsCoder};

@@ -118,7 +118,7 @@ pub fn pushed_onto<Word: WordOf<State>, State: BitArray, Backend: WriteWords<Wor
 /// computes the same number as `head + left + head / p * (2^precision - p)`. This formula needs no remainder, and the
 /// reciprocal replaces the division.
 #[inline]
-fn pushed<State: BitArray>(
+pub(crate) fn pushed<State: BitArray>(
     head: State,
     left: State,
     p: State,

@@ -1,0 +1,2 @@
+-- Stack coders side by side, each over the first words of a row.
+pub use Rattle.constriction_stack.specs.Lanes.{lane, row, DecodesLane, DecodesLanes, MakesRoom}

@@ -1,0 +1,130 @@
+use Rattle.std.proofs.Common.{◌≡◌, ◌<◌, ◌≤◌, ◌∙◌, ◌+◌, ◌-◌, ◌*◌, ℕ, suc, List, arith, drop, take, length, ap, sym, mul-le-mul_right}
+use Rattle.std.proofs.Common.{add-mul}
+use Rattle.std.proofs.lemmas.List.{drop-drop, length-drop, length-set, length-take-le}
+use Rattle.std.proofs.lemmas.Slice.{drop-put_mid}
+use borrow.Rule.Slice.PartMut.{put_mid, same_len_mid}
+use Rattle.constriction_base.specs.Models.{Model}
+use Rattle.constriction_stack.proofs.LaneFilling.{lane_more, left_more, same_here}
+use Rattle.constriction_stack.proofs.LaneGroups.{lanes_more}
+use Rattle.constriction_stack.proofs.lanes.decoding.decode_lanes.Goals as goal
+
+-- ---- groups of three
+-- the rows of a group lie within the matrix
+group_within : (i t n width all : ℕ) → i < t → t * 3 ≤ n → all ≡ n * width → i * 3 * width + 3 * width ≤ all
+group_within i t n width all lt le is =
+    let upto : i * 3 + 3 ≤ n = omega arith in
+    let next : (i * 3 + 3) * width ≤ n * width = mul-le-mul_right width upto in
+    omega (arith, next, add-mul (i * 3) 3 width)
+
+-- as many items as a part has
+part_long : {A : Type 0} (xs : List A) (a k : ℕ) → a + k ≤ length xs → length (take (a + k - a) (drop a xs)) ≡ k
+part_long xs a k within =
+    let e : a + k - a ≡ k = omega arith in
+    rw e (length-take-le k (drop a xs) (omega (arith, length-drop a xs)))
+
+-- lists that agree from a place on agree behind a part that is put there
+left_behind : {A : Type 0} (a k : ℕ) (xs ys new : List A) → a + k ≤ length xs → length new ≡ k → drop a xs ≡ drop a ys → drop (a + k) (put_mid a (a + k - a) xs new) ≡ drop (a + k) ys
+left_behind {A} a k xs ys new within long e =
+    drop-put_mid a (a + k - a) xs new (a + k) (omega arith) (omega arith) (omega arith)
+    ∙ (sym (drop-drop k a xs) ∙ (ap (λ (zs : List A). drop k zs) e ∙ drop-drop k a ys))
+
+pub overflow_add-j-in-threes : goal.overflow_add-j-in-threes
+overflow_add-j-in-threes g c =
+    let inside = group_within c.threes.group c.group_count-threes.result (length c.args.heads.now) c.args.width (length c.args.words.now) c.threes-test.true c.group_count-threes.ensures.within c.requires.words in
+    omega (arith, inside)
+
+pub slice_bounds-decode_group-end-in-threes : goal.slice_bounds-decode_group-end-in-threes
+slice_bounds-decode_group-end-in-threes g c =
+    let inside = group_within c.threes.group c.group_count-threes.result (length c.args.heads.now) c.args.width (length c.args.words.now) c.threes-test.true c.group_count-threes.ensures.within c.requires.words in
+    omega (arith, inside)
+
+pub slice_bounds-decode_group-end-in-threes-3 : goal.slice_bounds-decode_group-end-in-threes-3
+slice_bounds-decode_group-end-in-threes-3 g c =
+    let inside = group_within c.threes.group c.group_count-threes.result (length c.args.heads.now) c.args.count (length c.args.symbols.now) c.threes-test.true c.group_count-threes.ensures.within c.requires.symbols in
+    omega (arith, inside, c.threes.invariant.symbols_count)
+
+pub threes-preserved : goal.threes-preserved
+threes-preserved g c =
+    let l = c.threes in
+    let j = l.group * 3 in
+    let width = c.args.width in
+    let count = c.args.count in
+    let model : Model ℕ = record { precision = g.row.PRECISION; table = g.M.EntropyModel.table c.args.model.now } in
+    let one : j + 3 - j ≡ 3 = omega arith in
+    let row : j * width + 3 * width - j * width ≡ 3 * width = omega arith in
+    let symbols = group_within l.group c.group_count-threes.result (length c.args.heads.now) count (length c.args.symbols.now) c.threes-test.true c.group_count-threes.ensures.within c.requires.symbols in
+    let upto : j + 3 ≤ length c.args.heads.now = omega (arith, c.threes-test.true, c.group_count-threes.ensures.within) in
+    let in_heads : j + 3 ≤ length l.heads = omega (arith, upto, l.invariant.heads_count) in
+    let in_lens : j + 3 ≤ length l.lens = omega (arith, upto, l.invariant.lens_count, c.requires.lens) in
+    let in_symbols : j * count + 3 * count ≤ length l.symbols = omega (arith, symbols, l.invariant.symbols_count) in
+    let call = c.decode_group in
+    let heads : length call.new.heads ≡ 3 = omega (arith, call.auto.heads, part_long l.heads j 3 in_heads) in
+    let lens : length call.new.lens ≡ 3 = omega (arith, call.auto.lens, part_long l.lens j 3 in_lens) in
+    let decoded : length call.new.symbols ≡ 3 * count = omega (arith, call.auto.symbols, part_long l.symbols (j * count) (3 * count) in_symbols) in
+    let next : (l.group + 1) * 3 ≡ j + 3 = omega arith in
+    rw next (record {
+      done = lanes_more g.Word.BitArray.number g.State.BitArray.number g.Word.BitArray.BITS g.State.BitArray.BITS model width count c.args.words.now c.args.heads.now c.args.lens.now
+          l.heads l.lens l.symbols j 3 call.new.heads _ call.new.lens _ call.new.symbols _ l.invariant.heads_left l.invariant.lens_left
+          (omega arith) (omega arith) (omega arith) heads lens decoded (rw (row, one) at call.ensures.decoded) l.invariant.done;
+      heads_left = left_behind j 3 l.heads c.args.heads.now call.new.heads in_heads heads l.invariant.heads_left;
+      lens_left = left_behind j 3 l.lens c.args.lens.now call.new.lens in_lens lens l.invariant.lens_left;
+      heads_count = same_len_mid j (j + 3 - j) l.heads call.new.heads call.auto.heads ∙ l.invariant.heads_count;
+      lens_count = same_len_mid j (j + 3 - j) l.lens call.new.lens call.auto.lens ∙ l.invariant.lens_count;
+      symbols_count = same_len_mid (j * count) (j * count + 3 * count - j * count) l.symbols call.new.symbols call.auto.symbols ∙ l.invariant.symbols_count;
+    })
+
+-- ---- the others, one by one
+row_within : (j n width all : ℕ) → j < n → all ≡ n * width → j * width + width ≤ all
+row_within j n width all lt is =
+    let next : suc j * width ≤ n * width = mul-le-mul_right width lt in
+    omega (arith, next)
+
+pub decode_one-head-requires-clause-within : goal.decode_one-head-requires-clause-within
+decode_one-head-requires-clause-within g c =
+    let l = c.rest in
+    let lt : l.j < length c.args.heads.now = omega (arith, c.rest-test.true, c.threes.invariant.heads_count, l.invariant.heads_count) in
+    let long = part_long c.args.words.now (l.j * c.args.width) c.args.width (row_within l.j (length c.args.heads.now) c.args.width (length c.args.words.now) lt c.requires.words) in
+    let len = same_here l.j l.lens c.args.lens.now 0 l.invariant.lens_left in
+    let below = c.requires.within l.j (omega (arith, lt, c.requires.lens)) in
+    omega (arith, long, len, below)
+
+pub rest-preserved : goal.rest-preserved
+rest-preserved g c =
+    let l = c.rest in
+    let model : Model ℕ = record { precision = g.row.PRECISION; table = g.M.EntropyModel.table c.args.model.now } in
+    let lt : l.j < length c.args.heads.now = omega (arith, c.rest-test.true, c.threes.invariant.heads_count, l.invariant.heads_count) in
+    let e : l.j * c.args.width + c.args.width - l.j * c.args.width ≡ c.args.width = omega arith in
+    let inside = row_within l.j (length c.args.heads.now) c.args.count (length c.args.symbols.now) lt c.requires.symbols in
+    let within : l.j * c.args.count + c.args.count ≤ length l.symbols = omega (arith, inside, l.invariant.symbols_count) in
+    let call = c.decode_one-head in
+    let long = part_long l.symbols (l.j * c.args.count) c.args.count within in
+    record {
+      done = lane_more g.Word.BitArray.number g.State.BitArray.number g.Word.BitArray.BITS g.State.BitArray.BITS model c.args.width c.args.count c.args.words.now c.args.heads.now c.args.lens.now
+          l.heads l.lens l.symbols l.j call.result.0 call.result.1 c.index-heads-j.result call.new.symbols _ l.invariant.heads_left l.invariant.lens_left
+          (omega (arith, lt, l.invariant.heads_count)) (omega (arith, lt, l.invariant.lens_count, c.requires.lens)) (omega (arith, within)) (omega (arith, call.auto.symbols, long)) c.index-heads-j.is
+          (rw e at call.ensures.decoded, call.ensures.rest) l.invariant.done;
+      heads_left = left_more l.j l.heads c.args.heads.now call.result.0 l.invariant.heads_left;
+      lens_left = left_more l.j l.lens c.args.lens.now call.result.1 l.invariant.lens_left;
+      heads_count = length-set l.heads l.j call.result.0 ∙ l.invariant.heads_count;
+      lens_count = length-set l.lens l.j call.result.1 ∙ l.invariant.lens_count;
+      symbols_count = same_len_mid (l.j * c.args.count) (l.j * c.args.count + c.args.count - l.j * c.args.count) l.symbols call.new.symbols call.auto.symbols ∙ l.invariant.symbols_count;
+    }
+
+-- ---- between the two, and at the end
+pub rest-init : goal.rest-init
+rest-init g c =
+    let l = c.threes in
+    let e : c.group_count-threes.result * 3 ≡ l.group * 3 = omega (arith, c.threes-test.false, l.auto.group-end) in
+    rw e (record {
+      done = l.invariant.done;
+      heads_left = l.invariant.heads_left;
+      lens_left = l.invariant.lens_left;
+      heads_count = l.invariant.heads_count;
+      lens_count = l.invariant.lens_count;
+      symbols_count = l.invariant.symbols_count;
+    })
+
+pub returns : goal.returns
+returns g c = record {
+  decoded = λ k lt d. c.rest.invariant.done k (omega (arith, lt, c.rest-test.false, c.threes.invariant.heads_count)) d;
+}
