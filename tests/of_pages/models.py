@@ -110,6 +110,24 @@ def histograms(page):
     )
 
 
+def rows_of_counts(page):
+    """Compares the page's starts of a row of counts, and its comparison, with the definition."""
+    said = {}
+    exec(re.findall(r"^```python\n(.*?)^```$", read("docs/MODELS.md"), flags=re.M | re.S)[1], said)
+    starts = models.starts_of_counts([3, 1, 0, 4], 8)
+    page.has(f"The counts 3, 1, 0 and 4 at 8 bits begin at {series(starts[:-1])}: a count of 0 has the weight {starts[3] - starts[2]}.")
+    dice = random.Random(2)
+    for _ in range(200):
+        n, bits = dice.choice((1, 2, 9, 101, 256)), dice.choice((12, 24))
+        counts = [dice.randrange(2**32) >> dice.randrange(33) for _ in range(n)]
+        counts[dice.randrange(n)] |= 1
+        starts = models.starts_of_counts(counts, bits)
+        judge([said["start"](counts, bits, k) for k in range(n + 1)] == starts, f"{page.name}: counts {counts}, {bits}")
+        k, quantile, total = dice.randrange(n), dice.randrange(2**bits), sum(counts)
+        below = sum(counts[:k]) * (2**bits - n) + k * total < (quantile + 1) * total
+        judge(below == (starts[k] <= quantile), f"{page.name}: counts {counts}, {bits}, {k}, {quantile}")
+
+
 def units(page, *texts):
     """Finds means of 3.5 and -20 and deviations of 2.25 and 0.5 in the units of C and Rattle."""
     means, deviations = (series(map(models.location_of, it)) for it in ((3.5, -20.0), (2.25, 0.5)))
@@ -125,6 +143,7 @@ def test():
     margin(page)
     mixtures(page)
     histograms(page)
+    rows_of_counts(page)
     arrays = "{{{means}}};", "{{{deviations}}};"
     units(page, "means[] = " + arrays[0], "deviations[] = " + arrays[1], f"symbols[] = {{{{{7 + 100}, {-20 + 100}}}}};")
     units(Page("docs/C_AND_PYTHON.md"), "means[] = " + arrays[0], "deviations[] = " + arrays[1])

@@ -101,6 +101,13 @@ def weights(counts: list[int], precision: int = 24) -> list[int]:
     return found
 
 
+def starts_of_counts(counts: list[int], precision: int = 24) -> list[int]:
+    """Where the symbols of a row of counts begin, and where the last one ends: each symbol has one quantile, and the
+    counts share the others, as exact fractions rounded down."""
+    spare, total = 2**precision - len(counts), sum(counts)
+    return [int(Fraction(sum(counts[:k]), total) * spare) + k for k in range(len(counts) + 1)]
+
+
 def weights_of(probabilities: Iterable[float]) -> list[int]:
     """The weights that probabilities stand for."""
     exact = [Fraction(it) for it in probabilities]

@@ -1,4 +1,5 @@
 pub mod Bernoulli
+pub mod Categorical
 pub mod Counts
 pub mod Distributions
 pub mod Lookup

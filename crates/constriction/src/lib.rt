@@ -98,6 +98,8 @@
 //! - [`stream::model::UniformModel`], [`stream::model::BernoulliModel`]: models of equally probable symbols (up to
 //!   rounding), and of two symbols. [`stream::model::SupportError`] is the error of too few or too many symbols for
 //!   the precision.
+//! - [`stream::model::CategoricalCounts`]: a model of a row of counts, which computes intervals at each look-up and
+//!   needs no memory. [`stream::model::CategoricalError`] is the error of counts that make no model.
 //! - [`stream::model::weights_of_counts`]: a function that returns the weights for a histogram's counts.
 //!   [`stream::model::CountsError`] is the error of computing these weights.
 //! - [`stream::model::ContiguousLookupDecoderModel`]: a model for decoding that stores the symbol of each quantile.
@@ -229,6 +231,7 @@ pub mod stream {
         pub use constriction_base::model::{DecoderModel, EncoderModel, EntropyModel};
         pub use constriction_base::weights::{TableError, WeightTable};
         pub use constriction_models::bernoulli::BernoulliModel;
+        pub use constriction_models::categorical::{CategoricalCounts, CategoricalError};
         pub use constriction_models::counts::{CountsError, weights_of_counts};
         pub use constriction_models::distribution::CumulativeDistribution;
         pub use constriction_models::errors::SupportError;

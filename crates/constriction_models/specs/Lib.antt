@@ -7,6 +7,7 @@ pub mod Laplace
 pub mod Logistic
 pub mod Uniform
 pub mod Bernoulli
+pub mod Categorical
 pub mod Lookup
 pub mod Quantizers
 pub mod Counts

@@ -16,12 +16,15 @@
 //!   components that can't form a mixture.
 //! - [`uniform`], [`bernoulli`]: `UniformModel`, whose symbols have equal weights, and `BernoulliModel`, which has two
 //!   symbols.
+//! - [`categorical`]: `CategoricalCounts`, a model of a row of counts. `CategoricalError` is the error for counts that have
+//!   no table.
 //! - [`counts`]: `weights_of_counts`, which computes weights in proportion to counts.
 //! - [`lookup`]: `ContiguousLookupDecoderModel`, which finds a quantile's symbol with one look-up.
 //! - [`errors`]: `SupportError`, the error for too few symbols, or too many for the precision.
 #![tactic(auto)]
 
 pub mod bernoulli;
+pub mod categorical;
 pub mod counts;
 pub mod distribution;
 pub mod errors;

@@ -15,6 +15,8 @@
 #![tactic(auto)]
 
 #[cfg(test)]
+mod categorical;
+#[cfg(test)]
 mod cuts;
 #[cfg(test)]
 mod intervals;
