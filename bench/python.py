@@ -286,6 +286,7 @@ def categorical_cases(numpy: Any) -> list[tuple[str, Callable[[], Any], int]]:
 
 
 def main() -> None:
+    """Prints the times of the wanted cases."""
     wanted = sys.argv[1] if len(sys.argv) > 1 else ""
     weights = driver_weights()
     numpy: Any

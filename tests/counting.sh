@@ -4,13 +4,14 @@ passed=0 failed=0
 warnings="-Wall -Wextra -Werror -I$here/include"
 refusing=-Wl,--wrap=malloc,--wrap=realloc
 
+# has COMMAND WHAT: returns whether there is a command. Without it, a line says what is skipped.
 has() {
     command -v "$1" >/dev/null && return
-    echo "skipped: $2, since $1 is not there"
+    echo "skipped: $2, because there is no command $1"
     return 1
 }
 
-# wants NAME COMMAND..: a case that passes where the command does. Else what it said is shown.
+# wants NAME COMMAND..: a case that passes if the command does. If it fails, its output is shown.
 wants() {
     local name=$1
     shift
@@ -23,7 +24,7 @@ wants() {
     fi
 }
 
-# counts NAME COMMAND..: the command's last line is 'N passed, M failed', and its cases count.
+# counts NAME COMMAND..: runs a command whose last line is 'N passed, M failed', and counts its cases.
 counts() {
     local name=$1 found
     shift
@@ -40,8 +41,8 @@ counts() {
     tail -n 30 "$room/said"
 }
 
-# counts_python NAME COMMAND..: the command runs tests by Python's unittest. Each test counts as a case. Reasons to skip
-# a test are printed.
+# counts_python NAME COMMAND..: runs tests by Python's unittest, each of which counts as a case. Prints the reasons for
+# skipped tests.
 counts_python() {
     local name=$1 status ran
     shift
@@ -71,13 +72,13 @@ tests_in_c() {
     done
 }
 
-# The functions of the headers at one size, without that part of their names. Those by the families' names are the
-# headers' own.
+# functions_of SIZE: prints the functions of the headers at one size, without this size. Functions with a family's name are
+# inline functions of the headers.
 functions_of() {
     grep -ho "constriction_[a-z_]*_$1(" "$here"/include/*.h | sed "s/constriction_//; s/_$1(//" | sort
 }
 
-# shows_functions SHARED: the shared object exports exactly the headers' functions, the same ones at both sizes.
+# shows_functions SHARED: returns whether the shared object exports exactly the headers' functions, at both sizes.
 shows_functions() {
     local of_32 of_16
     of_32=$(functions_of u32) of_16=$(functions_of u16)
@@ -86,14 +87,14 @@ shows_functions() {
         <(nm -D --defined-only "$1" | awk '{ print $3 }' | sort)
 }
 
-# only_own_names STATIC SHARED: the static library's global names begin with constriction_, and the shared object has
-# its SONAME.
+# only_own_names STATIC SHARED: returns whether the static library's global names begin with constriction_, and the shared
+# object has its SONAME.
 only_own_names() {
     ! nm -g --defined-only "$1" 2>/dev/null | awk 'NF == 3 { print $3 }' | grep -v '^constriction_' || return 1
     nm -g --defined-only "$1" | grep -q ' constriction_' && readelf -d "$2" | grep -q 'SONAME.*libconstriction\.so\.0'
 }
 
-# wants_named_symbols STATIC: the static library's undefined symbols are those that docs/C_AND_PYTHON.md names.
+# wants_named_symbols STATIC: returns whether docs/C_AND_PYTHON.md names exactly the static library's undefined symbols.
 wants_named_symbols() {
     local named wanted
     named=$(grep '^The static library needs' "$here/docs/C_AND_PYTHON.md" | grep -o '`[a-z_0-9]*`' | tr -d '`' | sort)
@@ -101,7 +102,7 @@ wants_named_symbols() {
     [ -n "$named" ] && diff <(echo "$named") <(echo "$wanted")
 }
 
-# block PAGE LANGUAGE NUMBER: the page's block of code of this number in this language.
+# block PAGE LANGUAGE NUMBER: prints a page's block of code, by its number among the blocks of its language.
 block() {
     awk -v begins="\`\`\`$2" -v number="$3" '
         inside && /^```/ { exit }
@@ -109,7 +110,7 @@ block() {
         $0 == begins && ++count == number { inside = 1 }' "$1"
 }
 
-# compresses PROGRAM FILE: it comes back by both coders.
+# compresses PROGRAM FILE: returns whether the file comes back by both coders.
 compresses() {
     local coder
     for coder in ans range; do

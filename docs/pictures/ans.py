@@ -55,6 +55,7 @@ def push(y, head, words, symbol):
 
 
 def main():
+    """Writes the picture."""
     drawn, y, head, words = quantiles(40), 130, 7661, []
     for symbol in [2, 0, 1, 2]:
         more, head, words = push(y, head, words, symbol)

@@ -63,6 +63,7 @@ def circle(place, index, weight, colour):
 
 
 def main():
+    """Writes the picture."""
     weight, parts = merged(WEIGHTS)
     root = len(weight) - 1
     codewords = leaves(parts, root)

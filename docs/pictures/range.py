@@ -63,6 +63,7 @@ def zoom(y, length, symbol):
 
 
 def main():
+    """Writes the picture."""
     run, y = (0, 2**STATE_BITS - 1, 0), 54
     drawn = bar(y, "before the first symbol", run)
     for symbol, title in [(1, "after symbol 1: the word 126 is held"), (3, "after symbol 3: 127 is released, and the word 127 is held")]:

@@ -100,6 +100,7 @@ def commands(page):
 
 
 def test():
+    """Judges the page."""
     page = Page("docs/ANS.md")
     for (left, length), name in zip(entries(WEIGHTS), NAMES):
         page.row(name, left, length, quantiles(left, length), bits_of_information(length, 4))

@@ -25,6 +25,7 @@ class Decode(NamedTuple):
     grown: int
 
     def way(self):
+        """Returns the computation of the new number as text."""
         return f"{self.number} * {self.length} + {self.place} = {self.grown}"
 
 
@@ -108,6 +109,7 @@ def way_back(page, number):
 
 
 def test():
+    """Judges the page."""
     page = Page("docs/CHAIN.md")
     page.has(f"This table has 4 bits of precision and the weights {series(WEIGHTS)}")
     for symbol, (left, length) in enumerate(entries(WEIGHTS)):

@@ -8,6 +8,7 @@ from judging import Page, judge, series
 
 
 def golomb(number):
+    """Returns the codeword of a number."""
     bits = format(number + 1, "b")
     return "0" * (len(bits) - 1) + bits
 
@@ -34,6 +35,7 @@ def read(bits, size):
 
 
 def grammar(page):
+    """Finds the rows of codewords, and the bits that they take."""
     for number in (0, 1, 2, 5, 7, 1000):
         bits, code = format(number + 1, "b"), golomb(number)
         page.row(number, bits, len(bits) - 1, code, len(code))
@@ -46,7 +48,7 @@ def grammar(page):
     page.has("over all numbers `2^-length` adds up to 1")
 
 
-def one_behind_another(page):
+def one_after_another(page):
     """Finds the words of a queue and of a stack."""
     queue, numbers = "", (0, 5, 7)
     for number in numbers:
@@ -61,7 +63,7 @@ def one_behind_another(page):
 
 
 def reading(page):
-    """Finds how 5 is read, and where reading stops."""
+    """Finds the steps that read 5, and the reasons why reading stops."""
     code, zeros, number = golomb(5), 0, 0
     for count, bit in enumerate(code, 1):
         zeros += bit == "0" and not number
@@ -81,8 +83,9 @@ def reading(page):
 
 
 def test():
+    """Judges the page."""
     page = Page("docs/GOLOMB.md")
     grammar(page)
-    one_behind_another(page)
+    one_after_another(page)
     reading(page)
     page.rest("1", "2")

@@ -45,6 +45,7 @@ def least_cost(weights, room=Fraction(1)):
 
 
 def codewords(page, ways):
+    """Finds the codewords, and their average length."""
     total, lengths = sum(WEIGHTS), [len(ways[symbol]) for symbol in range(len(WEIGHTS))]
     for symbol, weight in enumerate(WEIGHTS):
         page.row(symbol, weight, ways[symbol], bits_of_information(weight, log2(total)))
@@ -114,10 +115,12 @@ def least(page):
 
 
 def cost(weights, codewords):
+    """Returns the sum of weight times length."""
     return sum(weight * len(codeword) for weight, codeword in zip(weights, codewords))
 
 
 def test():
+    """Judges the page."""
     page, steps, ways = Page("docs/HUFFMAN.md"), merged(WEIGHTS), ways_of(WEIGHTS)
     page.has(f"for the weights {series(WEIGHTS)}:")
     last, root = len(WEIGHTS) - 1, len(ways) - 1

@@ -11,10 +11,12 @@ passed, faults = [], []
 
 
 def judge(is_so, fault):
+    """Records a passed case, or a fault."""
     (passed if is_so else faults).append(fault)
 
 
 def read(path):
+    """Returns the text of a file of the repository."""
     with open(f"{TOP}/{path}", encoding="utf-8") as file:
         return file.read()
 
@@ -58,10 +60,12 @@ def entries(weights):
 
 
 def symbol_at(weights, quantile):
+    """Returns the symbol whose interval holds a quantile."""
     return next(symbol for symbol in range(len(weights)) if quantile < sum(weights[: symbol + 1]))
 
 
 def quantiles(left, length):
+    """Returns an interval as text."""
     return f"{left} to {left + length - 1}"
 
 
@@ -71,8 +75,10 @@ def digits(number, count):
 
 
 def series(numbers):
+    """Returns numbers with commas."""
     return ", ".join(map(str, numbers))
 
 
 def listed(numbers):
+    """Returns numbers as a list."""
     return f"[{series(numbers)}]"

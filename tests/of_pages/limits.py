@@ -29,6 +29,7 @@ def dates(text):
 
 
 def test():
+    """Judges the numbers of words and the dates."""
     limited = [page for page in pages() if page not in UNLIMITED]
     words = {page: len(read(page).split()) for page in limited}
     judge(words["README.md"] <= README, f"README.md: {words['README.md']} words, more than {README}")

@@ -9,6 +9,7 @@ from judging import TOP, judge, read
 
 
 def pages():
+    """Returns the paths of all pages."""
     docs = [f"docs/{it}" for it in sorted(os.listdir(f"{TOP}/docs")) if it.endswith(".md")]
     return ["README.md", *docs, "edits/README.md", "python/README.md", "examples/c/README.md", "bench/README.md"]
 
@@ -20,12 +21,14 @@ def anchors(path):
 
 
 def leads(page, link):
+    """Returns whether a link of a page leads to a file, and to a heading if it names one."""
     path, _, anchor = link.partition("#")
     target = os.path.normpath(f"{os.path.dirname(page)}/{path}") if path else page
     return os.path.exists(f"{TOP}/{target}") and (not anchor or anchor in anchors(target))
 
 
 def test():
+    """Judges the links, and the rows that bench/words names."""
     for page in pages():
         text = re.sub(r"```.*?```", "", read(page), flags=re.S)
         for link in re.findall(r"\]\(([^)\s]+)\)", text):

@@ -12,7 +12,7 @@ import distributions
 from judging import Page, judge, read, series
 
 LEAST, GREATEST, PRECISION = -2, 2, 8
-# The worked start of the page: a family, its parameters, the range, the bits and a symbol.
+# The worked example of the page: a family, its parameters, the range, the bits and a symbol.
 WORKED = "Logistic", -1133972, 701962, -66, 189, 24, -41
 
 
@@ -102,6 +102,7 @@ def mixtures(page):
 
 
 def histograms(page):
+    """Finds the shares and weights of counts."""
     shares = [f"{16 * count / 6:.2f}".removesuffix(".00") for count in (1, 2, 3)]
     weights = models.weights([1, 2, 3], 4)
     page.has(
@@ -136,6 +137,7 @@ def units(page, *texts):
 
 
 def test():
+    """Judges the pages."""
     page = Page("docs/MODELS.md")
     table(page)
     definition(page)

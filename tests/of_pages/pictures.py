@@ -11,6 +11,7 @@ from judging import TOP, judge, read
 
 
 def test():
+    """Draws each picture again, and compares it."""
     for name in sorted(it for it in os.listdir(f"{TOP}/docs/pictures") if it.endswith(".py")):
         picture = f"{name[:-3]}.svg"
         with tempfile.TemporaryDirectory() as room:

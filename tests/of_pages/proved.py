@@ -36,6 +36,7 @@ def parts_of(crates):
 
 
 def judge_row(row, crates, parts, words):
+    """Judges the clauses, names and paths of a row."""
     where = f"docs/PROVED.md: {crates[0]}"
     for name, clauses in re.findall(r"`([\w:]+)`: ((?:`\w+`(?:, )?)+)", row):
         known = parts.get(name.split("::")[-1], set())
@@ -50,6 +51,7 @@ def judge_row(row, crates, parts, words):
 
 
 def test():
+    """Judges the rows of each section that names crates."""
     for section in re.split(r"^## ", read("docs/PROVED.md"), flags=re.M)[1:]:
         crates = re.findall(r"`(constriction\w*)`", section.splitlines()[0])
         if not crates:

@@ -8,6 +8,7 @@ WEIGHTS = [127, 1, 127, 1]
 
 
 def start(state):
+    """Returns the run before the first symbol."""
     return 0, 2**state - 1, 0
 
 
@@ -125,6 +126,7 @@ def waiting(page, runs, words):
 
 
 def reading(page, runs, words):
+    """Finds the rows of the two reads."""
     symbols, stands, end = found([WEIGHTS] * 2, words, 16)
     judge(symbols == [1, 3] and end == runs[1], "the symbols come back")
     for symbol, (count, number, low, quantile) in zip(symbols, stands):
@@ -175,6 +177,7 @@ def self_delimited(tables, symbols, state=32):
 
 
 def test():
+    """Judges the page."""
     page = Page("docs/RANGE.md")
     runs, words = growing(page)
     waiting(page, runs, words)

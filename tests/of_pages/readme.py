@@ -152,6 +152,7 @@ def trial_first():
 
 
 def test():
+    """Judges the pages."""
     page = Page("README.md")
     program = Page("docs/PROGRAM.md")
     commands(page, program, Page("docs/ANS.md"))
