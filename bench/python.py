@@ -164,7 +164,7 @@ def bare() -> None:
         c_size_t(8),
     )
     arguments = byref(head), byref(words), eight, byref(length), byref(weights), three, byref(place), one
-    function = plain_function("ans_decode")
+    function = plain_function("ans_decode_u32")
     for _ in range(CALLS):
         head.value = 0x123456789ABCDEF
         function(*arguments)

@@ -1,7 +1,7 @@
 """Lists of numbers in memory that C functions read and write.
 
-A C function only gets memory of this package, so no other code changes it during a call. The package asks for the
-memory's address at each call, so no copy of a coder keeps an old address.
+A C function only gets memory of this package, so no other code changes it during a call. An exception is ``out=`` of a
+decode. The package asks for the memory's address at each call, so no copy of a coder keeps an old address.
 """
 
 from __future__ import annotations
@@ -11,11 +11,11 @@ import sys
 from array import array
 from collections.abc import Iterable, Sequence
 from importlib import import_module
-from typing import TYPE_CHECKING, Any, SupportsFloat, SupportsIndex, Union, overload
+from typing import TYPE_CHECKING, Any, SupportsFloat, SupportsIndex, TypeVar, Union, overload
 
 __all__ = [
-    "NUMBER", "SYMBOL", "WORD", "Amount", "Answer", "Array", "List", "Numbers", "Parameter", "Real", "Reals", "Symbols", "addressed",
-    "answered", "lent", "listed", "numpy_for_answers", "numpy_module", "room",
+    "ANSWER", "BYTE", "NUMBER", "SHORT", "SYMBOL", "WORD", "Amount", "Answer", "Array", "List", "Numbers", "Parameter", "Real", "Reals", "Symbols",
+    "addressed", "answered", "lent", "listed", "numpy_for_answers", "numpy_module", "room",
 ]  # fmt: skip
 
 #: A list of whole numbers, as words or symbols: a list, a tuple, an ``array.array``, a numpy array.
@@ -33,9 +33,16 @@ Parameter = Union[Real, Reals, Iterable[Reals]]
 Amount = Union[SupportsIndex, "tuple[SupportsIndex, ...]"]
 
 WORD, SYMBOL, NUMBER = "I", "q", "d"
+#: Symbols of 8 and of 16 bits. Words and weights of 16 bits have the second typecode too.
+BYTE, SHORT = "B", "H"
+#: numpy's names of these types.
+_KINDS = {WORD: "uint32", SYMBOL: "int64", NUMBER: "float64", BYTE: "uint8", SHORT: "uint16"}
+#: What ``room`` returns for an answer: a numpy array where numpy can be imported, and otherwise ``Numbers``.
+ANSWER: Any = None
 #: The memory of empty lists.
 _NOWHERE = (ctypes.c_uint64 * 1)()
 _Start = ctypes.c_char * 0
+Held = TypeVar("Held", bound="array[Any]")
 
 
 if TYPE_CHECKING:
@@ -121,12 +128,14 @@ class Numbers(Array):
         return Numbers(self.typecode, numbers)
 
 
-def lent(memory: Any) -> Any:
-    """Returns the memory of a writable buffer as an argument of a C function.
+def lent(memory: Any, start: int = 0) -> Any:
+    """Returns the memory of a writable buffer from an item on, as an argument of a C function.
 
     The buffer doesn't move while the argument exists.
     """
-    return _Start.from_buffer(memory) if len(memory) else _NOWHERE
+    if start >= len(memory):
+        return _NOWHERE
+    return _Start.from_buffer(memory, start * memory.itemsize) if start else _Start.from_buffer(memory)
 
 
 def listed(memory: Any) -> tuple[Any, int]:
@@ -140,25 +149,39 @@ def addressed(memory: array[Any]) -> tuple[int, int]:
     return memory.buffer_info()
 
 
+#: Zeros that ``room`` copies.
+_ZEROS = bytes(1 << 16)
+
+
 @overload
 def room(code: str, count: int) -> Numbers:
     ...
 
 
 @overload
-def room(code: str, count: int, kind: type[array[Any]]) -> array[Any]:
+def room(code: str, count: int, kind: type[Held]) -> Held:
     ...
 
 
-def room(code: str, count: int, kind: type[array[Any]] = Numbers) -> array[Any]:
-    """Returns a list of ``count`` zeros. All memory for C functions comes from this function.
+def room(code: str, count: int, kind: Any = Numbers) -> Any:
+    """Returns a list of ``count`` zeros. All lists that C functions write come from this function.
 
-    An ``array`` has quicker indexing than ``Numbers``, and no caller gets one.
+    An ``array`` has quicker indexing than ``Numbers``, and no caller gets one. An ``ANSWER`` has any numbers, because a
+    C function fills it.
     """
     if count < 0:
         raise ValueError(f"expected a count of at least 0, got {count}")
-    numbers = kind(code, (0,))
-    numbers *= count
+    if kind is ANSWER:
+        numpy = numpy_for_answers()
+        if numpy is not None:
+            return numpy.empty(count, dtype=_KINDS[code])
+        kind = Numbers
+    numbers = kind(code)
+    at_a_time = len(_ZEROS) // numbers.itemsize
+    if count >= at_a_time:
+        numbers.frombytes(_ZEROS)
+        numbers *= count // at_a_time
+    numbers.frombytes(_ZEROS[: count % at_a_time * numbers.itemsize])
     return numbers
 
 
@@ -185,13 +208,13 @@ def numpy_for_answers() -> Any:
     return numpy_module()
 
 
-def answered(numbers: Numbers) -> Any:
+def answered(numbers: Any) -> Any:
     """Returns numbers as a caller gets them.
 
     If numpy can be imported, these are a numpy array over the same memory. Otherwise they are ``numbers``.
     """
     numpy = numpy_for_answers()
-    if numpy is None:
+    if numpy is None or not isinstance(numbers, array):
         return numbers
-    kind = numpy.uint32 if numbers.typecode == WORD else numpy.int64
+    kind = _KINDS[numbers.typecode]
     return numpy.frombuffer(numbers, dtype=kind) if len(numbers) else numpy.empty(0, dtype=kind)

@@ -7,15 +7,16 @@ from itertools import repeat
 from math import prod
 from typing import Any, NoReturn
 
-from ._buffers import SYMBOL, Numbers, Symbols, answered, listed, numpy_for_answers, numpy_module, room
-from ._numbers import count_of, is_one, listed_of, places_of, sequence_of, whole
-
+from ._answers import Wanted, shape_counted, shifted
+from ._buffers import ANSWER, SYMBOL, Numbers, Symbols, lent, listed, room
+from ._numbers import count_of, is_one, listed_of, narrow_of, places_of, sequence_of, whole
 from .errors import (
-    WRONG_WEIGHTS, ImpossibleSymbolError, Refusal, WrongLengthError, WrongWeightsError, impossible,
+    ImpossibleSymbolError, Refusal, WrongLengthError, WrongWeightsError, impossible, wrong_weights,
 )  # fmt: skip
 from ._shapes import Shape, aligned, flat, shape_of
+from ._sizes import Size
 from .stream.model import Model
-from .stream.model._base import TOTAL, Located, lists_named
+from .stream.model._base import Located, lists_named
 
 __all__ = ["Call", "decoded", "encoded"]
 
@@ -44,6 +45,7 @@ def model_wanted(model: Any, symbols: Any = None) -> NoReturn:
 
 def encoded(
     state: Any,
+    size: Size,
     symbols: Symbols,
     model: Model,
     parameters: tuple[Any, ...],
@@ -57,7 +59,7 @@ def encoded(
     """
     if not isinstance(model, Model):
         model_wanted(model, symbols)
-    one = is_one(symbols)
+    model, one = model.at(size), is_one(symbols)
     parameters = tuple(it if is_one(it) else sequence_of(it) for it in parameters)
     if not one:
         symbols = sequence_of(symbols)
@@ -80,18 +82,26 @@ def _encoded(
         lefts, ps = model.intervals(symbols, parameters)
         return encode("_intervals", ready(state, len(ps)), len(ps), (*listed(lefts), *listed(ps)))
     weights = model.table() if located is None else ()
-    places = places_of(symbols, model.first)
+    kind, places = _typed_places(symbols, model.first) if located is None else (located.form, places_of(symbols, model.first))
     if located is not None and len(places) != located.symbols:
         raise _other_lengths(len(places), located.symbols, "sets of parameters")
     state = ready(state, len(places))
     parts = _parts(len(places), len(weights))
     for part in reversed(parts) if backwards else parts:
-        some = places if len(parts) == 1 else places[part]
-        if located is None:
-            state = encode("", state, len(some), (*listed(weights), *listed(some)))
-        else:
-            state = encode(located.form, state, len(some), (*located.part(part).lent(), *listed(some)))
+        models, count = listed(weights) if located is None else located.lent(part), part.stop - part.start
+        state = encode(kind, state, count, (*models, lent(places, part.start), count))
     return state
+
+
+def _typed_places(symbols: Symbols, first: int) -> tuple[str, Any]:
+    """Returns indexes of one table, and the part of a function's name for their type.
+
+    Symbols of 8 and of 16 bits are indexes of these types if the first symbol is 0.
+    """
+    narrow = None if first else narrow_of(symbols)
+    if narrow is None:
+        return "", places_of(symbols, first)
+    return ("_bytes" if narrow.itemsize == 1 else "_shorts"), narrow
 
 
 def _other_lengths(symbols: int, others: int, names: str) -> WrongLengthError:
@@ -115,8 +125,9 @@ def _explained_weights(refused: Refusal, model: Model, given: tuple[Any, ...]) -
     for place, row in enumerate(_rows(model, given) if given else (model.table(),)):
         if not len(row):
             return type(refused)("expected at least one weight, got none" + (f" in row {place}" if given else ""))
-        if sum(row) != TOTAL:
-            return WrongWeightsError(f"{WRONG_WEIGHTS}, got a sum of {sum(row)}" + (f" in row {place}" if given else ""))
+        if sum(row) != model.words.total:
+            text = wrong_weights(model.words.total)
+            return WrongWeightsError(f"{text}, got a sum of {sum(row)}" + (f" in row {place}" if given else ""))
     return refused
 
 
@@ -146,47 +157,29 @@ def _encoded_under_rows(
         raise _other_lengths(len(places), end, f"rows of {model.missing[0]}")
     state = ready(state, len(places))
     for weights, width, part in reversed(parts) if backwards else parts:
-        some = places[part]
-        state = encode("_each", state, len(some), (*listed(weights), width, *listed(some)))
+        count = part.stop - part.start
+        state = encode("_each", state, count, (*listed(weights), width, lent(places, part.start), count))
     return state
 
 
-def shifted(places: Numbers, first: int) -> Numbers:
-    """Converts indexes of a table to symbols: adds ``first`` to each index."""
-    if not first or not len(places):
-        return places
-    numpy = numpy_module()
-    if numpy is not None:
-        numpy.frombuffer(places, dtype="int64")[:] += first
-        return places
-    return Numbers(SYMBOL, map(first.__add__, places))
-
-
 def _in_parts(
-    state: Any, count: int, weights: int, decode: Callable[[Any, slice, Numbers], Any]
-) -> tuple[Any, Numbers]:
-    """Returns the state after decoding ``count`` symbols in several parts, and the symbols."""
-    symbols = room(SYMBOL, count)  # Comes first: without memory for all symbols, none is decoded.
-    parts = _parts(count, weights)
-    if len(parts) == 1:
-        return decode(state, parts[0], symbols), symbols
-    view = memoryview(symbols)
-    for part in parts:
-        some = room(SYMBOL, part.stop - part.start)
-        state = decode(state, part, some)
-        view[part] = memoryview(some)
-    view.release()
+    state: Any, symbols: Any, weights: int, decode: Callable[[Any, slice], Any]
+) -> tuple[Any, Any]:
+    """Returns the state after decoding symbols in several parts to this list, and the list."""
+    for part in _parts(len(symbols), weights):
+        state = decode(state, part)
     return state, symbols
 
 
-def _under_table(state: Any, model: Model, count: int, decode: Call) -> tuple[Any, Numbers]:
-    """Returns the state after decoding ``count`` symbols with the model's own table, and the symbols."""
-    weights = model.table()
+def _under_table(state: Any, model: Model, symbols: Any, decode: Call) -> tuple[Any, Any]:
+    """Returns the state after decoding symbols to this list with the model's own table, and the list."""
+    weights, kind = model.table(), {1: "_bytes", 2: "_shorts", 8: ""}[symbols.itemsize]
 
-    def some(state: Any, part: slice, symbols: Numbers) -> Any:
-        return decode("", state, len(symbols), (*listed(weights), *listed(symbols)))
+    def some(state: Any, part: slice) -> Any:
+        count = part.stop - part.start
+        return decode(kind, state, count, (*listed(weights), lent(symbols, part.start), count))
 
-    return _in_parts(state, count, len(weights), some)
+    return _in_parts(state, symbols, len(weights), some)
 
 
 def _under_rows(state: Any, model: Model, given: tuple[Any, ...], decode: Call) -> tuple[Any, Numbers]:
@@ -213,25 +206,27 @@ def _under_each(
     return state, places
 
 
-def _under_located(state: Any, located: Located, decode: Call) -> tuple[Any, Numbers]:
+def _under_located(state: Any, located: Located, decode: Call, kind: Any) -> tuple[Any, Any]:
     """Returns the state after decoding one symbol for each location and scale, and the symbols."""
+    symbols = room(SYMBOL, located.symbols, kind)  # Comes first: without memory for all symbols, none is decoded.
 
-    def some(state: Any, part: slice, symbols: Numbers) -> Any:
-        return decode(located.form, state, len(symbols), (*located.part(part).lent(), *listed(symbols)))
+    def some(state: Any, part: slice) -> Any:
+        count = part.stop - part.start
+        return decode(located.form, state, count, (*located.lent(part), lent(symbols, part.start), count))
 
-    return _in_parts(state, located.symbols, 0, some)
+    return _in_parts(state, symbols, 0, some)
 
 
 def _under_parameters(
-    state: Any, model: Model, given: tuple[Any, ...], decode: Call, quantile: Callable[[Any], int]
-) -> tuple[Any, Numbers]:
+    state: Any, model: Model, given: tuple[Any, ...], decode: Call, quantile: Callable[[Any], int], kind: Any
+) -> tuple[Any, Any]:
     """Does the same as ``_under_each``, in the way in which the C functions take these parameters."""
     if model.has_rows:
         return _under_rows(state, model, given, decode)
     located = model.located(given)
     if located is None:
         return _under_each(state, model, given, decode, quantile)
-    return _under_located(state, located, decode)
+    return _under_located(state, located, decode, kind)
 
 
 def _counted(model: Model, rest: tuple[Any, ...], amt: Any) -> tuple[tuple[Any, ...], bool]:
@@ -256,47 +251,26 @@ def _counted(model: Model, rest: tuple[Any, ...], amt: Any) -> tuple[tuple[Any, 
     return rest, False
 
 
-def shape_counted(amt: Any) -> Shape:
-    """Returns the shape of ``amt`` symbols: a number of them, or a tuple of such numbers."""
-    if not isinstance(amt, tuple):
-        return (count_of(amt),)
-    if len(amt) != 1 and numpy_for_answers() is None:
-        raise TypeError(f"expected a number of symbols, got the shape {amt}, which needs numpy")
-    return tuple(map(count_of, amt))
-
-
-def typed(symbols: Numbers, dtype: Any) -> Any:
-    """Returns symbols as a numpy array of an integer type. Raises ValueError if a symbol doesn't fit the type."""
-    numpy = numpy_for_answers()
-    if numpy is None:
-        raise TypeError("expected no dtype, because numpy can't be imported, got one")
-    kind = numpy.dtype(dtype)
-    if kind.kind not in "iu":
-        raise TypeError(f"expected an integer type, got {kind}")
-    found, limits = answered(symbols), numpy.iinfo(kind)
-    for symbol in (found.min(), found.max()) if found.size else ():
-        if not limits.min <= int(symbol) <= limits.max:
-            raise ValueError(f"expected symbols that fit {kind}, got {symbol}")
-    return found.astype(kind)
-
-
 def decoded(
     state: Any,
+    size: Size,
     model: Model,
     rest: tuple[Any, ...],
     amt: Any,
-    dtype: Any,
+    wanted: Wanted,
     decode: Call,
     quantile: Callable[[Any], int],
     most: Callable[[Any], int] | None = None,
 ) -> tuple[Any, Any]:
     """Returns the state after the next symbols, and the symbols: one, ``amt``, or one for each set of parameters.
 
-    ``dtype`` is numpy's type of an array of symbols, or None. ``quantile`` returns the quantile that selects the next
-    symbol, a number in 0 .. 2^24 - 1. ``most`` returns a number of symbols. A decode of more symbols is refused.
+    ``wanted`` says how the caller gets an array of symbols. ``quantile`` returns the quantile that selects the next
+    symbol, a number below the sum of all weights. ``most`` returns a number of symbols. A decode of more symbols is
+    refused.
     """
     if not isinstance(model, Model):
         model_wanted(model)
+    model = model.at(size)
     rest, counted = _counted(model, rest, amt)
     given = rest
     shape: Shape = shape_counted(rest[0]) if counted else ()
@@ -305,17 +279,18 @@ def decoded(
             given, count = (), count_of(prod(shape)) if rest else 1
             if most is not None:
                 count = min(count, most(state) + 1)  # Enough for the refusal, without memory for all symbols.
-            state, places = _under_table(state, model, count, decode)
+            wanted.check(shape)
+            # Comes first: without memory for all symbols, none is decoded.
+            symbols = room(wanted.code(model), count, ANSWER if shape else Numbers)
+            state, places = _under_table(state, model, symbols, decode)
         else:
             given, shape = aligned(model.core, [it if is_one(it) else sequence_of(it) for it in rest])
+            wanted.check(shape)
             if not shape and model.has_rows:
                 given = tuple([it] for it in given)
-            state, places = _under_parameters(state, model, given, decode, quantile)
+            state, places = _under_parameters(state, model, given, decode, quantile, ANSWER if shape else Numbers)
     except (WrongWeightsError, WrongLengthError) as refused:
         own = not given or model.has_rows
         raise (_explained_weights(refused, model, given) if own else model.explained(refused, given)) from None
     symbols = shifted(places, model.first)
-    if not shape:
-        return state, symbols[0]
-    found = answered(symbols) if dtype is None else typed(symbols, dtype)
-    return state, found if len(shape) == 1 else found.reshape(shape)
+    return state, wanted.given(symbols, shape) if shape else int(symbols[0])

@@ -4,14 +4,17 @@ from __future__ import annotations
 
 import ctypes
 import os
-from ctypes import POINTER, Structure, c_int32, c_size_t, c_uint32, c_uint64, c_void_p
+from ctypes import POINTER, Structure, c_int32, c_size_t, c_uint16, c_uint32, c_uint64, c_void_p
 from pathlib import Path
 from typing import Any
 
 from ._version import VERSION
 from .errors import refusal
 
-__all__ = ["PATH", "ChainHeads", "RangeDecoderState", "RangeEncoderState", "call"]
+__all__ = [
+    "PATH", "ChainHeads", "RangeDecoderState", "RangeEncoderState", "SmallChainHeads", "SmallRangeDecoderState", "SmallRangeEncoderState",
+    "call", "plain_function",
+]  # fmt: skip
 
 
 class RangeEncoderState(Structure):
@@ -30,6 +33,24 @@ class ChainHeads(Structure):
     """The two heads of a chain coder."""
 
     _fields_ = [("remainders", c_uint64), ("compressed", c_uint32)]
+
+
+class SmallRangeEncoderState(Structure):
+    """The numbers of a range encoder with words of 16 bits."""
+
+    _fields_ = [("lower", c_uint32), ("range", c_uint32), ("held", c_size_t), ("first", c_uint16)]
+
+
+class SmallRangeDecoderState(Structure):
+    """The numbers of a range decoder with words of 16 bits."""
+
+    _fields_ = [("lower", c_uint32), ("range", c_uint32), ("point", c_uint32), ("pos", c_size_t)]
+
+
+class SmallChainHeads(Structure):
+    """The two heads of a chain coder with words of 16 bits."""
+
+    _fields_ = [("remainders", c_uint32), ("compressed", c_uint16)]
 
 
 def _path() -> Path:
@@ -71,30 +92,46 @@ def _version(number: int) -> str:
 
 
 _size, _list = c_size_t, c_void_p
-_length, _head, _needed = POINTER(c_size_t), POINTER(c_uint64), POINTER(c_size_t)
+_length, _needed = POINTER(c_size_t), POINTER(c_size_t)
 _buffer = [_list, _size, _length]
 _table, _rows, _pairs = [_list, _size], [_list, _size, _size], [_list, _size, _list, _size]
 _located = [c_uint32, c_int32, c_int32, _list, _size, _list, _size]
 _mixed = [c_uint32, c_int32, c_int32, _size, _list, _size, _list, _size, _list, _size]
 _items = [_list, _size]
-_encoder, _decoder, _heads = POINTER(RangeEncoderState), POINTER(RangeDecoderState), POINTER(ChainHeads)
+# What differs between functions of the two sizes stands in the table by its name.
+_number, _head, _encoder, _decoder, _heads = "number", "head", "encoder", "decoder", "heads"
+#: The types of these in functions for words of 32 bits, and for words of 16 bits.
+_large: dict[Any, Any] = {
+    _number: c_uint64, _head: POINTER(c_uint64), _encoder: POINTER(RangeEncoderState), _decoder: POINTER(RangeDecoderState),
+    _heads: POINTER(ChainHeads),
+}  # fmt: skip
+_small: dict[Any, Any] = {
+    _number: c_uint32, _head: POINTER(c_uint32), _encoder: POINTER(SmallRangeEncoderState), _decoder: POINTER(SmallRangeDecoderState),
+    _heads: POINTER(SmallChainHeads),
+}  # fmt: skip
 
 _PARAMETERS: dict[str, list[Any]] = {
     "ans_encode_reverse": [_head, *_buffer, *_table, *_items, _needed],
+    "ans_encode_bytes_reverse": [_head, *_buffer, *_table, *_items, _needed],
+    "ans_encode_shorts_reverse": [_head, *_buffer, *_table, *_items, _needed],
     "ans_encode_each_reverse": [_head, *_buffer, *_rows, *_items, _needed],
     "ans_encode_intervals_reverse": [_head, *_buffer, *_pairs, _needed],
     "ans_encode_quantized_reverse": [_head, *_buffer, *_located, *_items, _needed],
     "ans_encode_mixture_reverse": [_head, *_buffer, *_mixed, *_items, _needed],
     "ans_decode": [_head, *_buffer, *_table, *_items],
+    "ans_decode_bytes": [_head, *_buffer, *_table, *_items],
+    "ans_decode_shorts": [_head, *_buffer, *_table, *_items],
     "ans_decode_each": [_head, *_buffer, *_rows, *_items],
     "ans_decode_quantized": [_head, *_buffer, *_located, *_items],
     "ans_decode_mixture": [_head, *_buffer, *_mixed, *_items],
     "ans_from_compressed": [*_buffer, _head],
-    "ans_into_compressed": [c_uint64, *_buffer, _needed],
+    "ans_into_compressed": [_number, *_buffer, _needed],
     "ans_from_binary": [*_buffer, _head],
-    "ans_into_binary": [c_uint64, *_buffer, _needed],
+    "ans_into_binary": [_number, *_buffer, _needed],
     "range_encoder": [_encoder],
     "range_encode": [_encoder, *_buffer, *_table, *_items, _needed],
+    "range_encode_bytes": [_encoder, *_buffer, *_table, *_items, _needed],
+    "range_encode_shorts": [_encoder, *_buffer, *_table, *_items, _needed],
     "range_encode_each": [_encoder, *_buffer, *_rows, *_items, _needed],
     "range_encode_intervals": [_encoder, *_buffer, *_pairs, _needed],
     "range_encode_quantized": [_encoder, *_buffer, *_located, *_items, _needed],
@@ -103,21 +140,27 @@ _PARAMETERS: dict[str, list[Any]] = {
     "range_into_self_delimited": [_encoder, *_buffer, _needed],
     "range_from_compressed": [*_items, _decoder],
     "range_decode": [_decoder, *_items, *_table, *_items],
+    "range_decode_bytes": [_decoder, *_items, *_table, *_items],
+    "range_decode_shorts": [_decoder, *_items, *_table, *_items],
     "range_decode_each": [_decoder, *_items, *_rows, *_items],
     "range_decode_quantized": [_decoder, *_items, *_located, *_items],
     "range_decode_mixture": [_decoder, *_items, *_mixed, *_items],
-    "range_seek": [_decoder, *_items, _size, c_uint64, c_uint64],
+    "range_seek": [_decoder, *_items, _size, _number, _number],
     "range_maybe_exhausted": [_decoder, *_items, POINTER(c_uint32)],
     "store_build": [*_buffer, *_items, *_items, *_items, *_table, *_items, *_items, _needed],
-    "store_chunk": [*_items, _size, c_uint64, c_uint64, *_table, *_items],
+    "store_chunk": [*_items, _size, _number, _number, *_table, *_items],
     "chain_from_compressed": [*_buffer, _heads],
     "chain_from_binary": [*_buffer, _heads],
     "chain_from_remainders": [*_buffer, _heads],
     "chain_decode": [_heads, *_buffer, *_buffer, *_table, *_items, _needed],
+    "chain_decode_bytes": [_heads, *_buffer, *_buffer, *_table, *_items, _needed],
+    "chain_decode_shorts": [_heads, *_buffer, *_buffer, *_table, *_items, _needed],
     "chain_decode_each": [_heads, *_buffer, *_buffer, *_rows, *_items, _needed],
     "chain_decode_quantized": [_heads, *_buffer, *_buffer, *_located, *_items, _needed],
     "chain_decode_mixture": [_heads, *_buffer, *_buffer, *_mixed, *_items, _needed],
     "chain_encode_reverse": [_heads, *_buffer, *_buffer, *_table, *_items, _needed],
+    "chain_encode_bytes_reverse": [_heads, *_buffer, *_buffer, *_table, *_items, _needed],
+    "chain_encode_shorts_reverse": [_heads, *_buffer, *_buffer, *_table, *_items, _needed],
     "chain_encode_each_reverse": [_heads, *_buffer, *_buffer, *_rows, *_items, _needed],
     "chain_encode_intervals_reverse": [_heads, *_buffer, *_buffer, *_pairs, _needed],
     "chain_encode_quantized_reverse": [_heads, *_buffer, *_buffer, *_located, *_items, _needed],
@@ -144,11 +187,12 @@ _LIBRARY = _load()
 def _functions() -> dict[str, Any]:
     functions = {}
     for name, parameters in _PARAMETERS.items():
-        function = getattr(_LIBRARY, f"constriction_{name}_u32", None)
-        if function is None:
-            continue  # The library has another version. A call raises an exception.
-        function.argtypes, function.restype = parameters, c_uint32
-        functions[name] = function
+        for end, types in (("u32", _large), ("u16", _small)):
+            function = getattr(_LIBRARY, f"constriction_{name}_{end}", None)
+            if function is None:
+                continue  # The library has another version. A call raises an exception.
+            function.argtypes, function.restype = [types.get(it, it) for it in parameters], c_uint32
+            functions[f"{name}_{end}"] = function
     return functions
 
 
@@ -162,9 +206,7 @@ def plain_function(name: str) -> Any:
     """
     if name not in _FUNCTIONS:
         return lambda *arguments: 1
-    function = _LIBRARY[
-        f"constriction_{name}_u32"
-    ]  # An object of its own, without types of arguments. An attribute of the library has them.
+    function = _LIBRARY[f"constriction_{name}"]  # An object of its own, without types of arguments. An attribute has them.
     function.restype = c_uint32
     return function
 
@@ -176,7 +218,7 @@ def call(name: str, *arguments: Any, texts: dict[int, str] | None = None) -> Non
     """
     function = _FUNCTIONS.get(name)
     if function is None:
-        raise NotImplementedError(f"expected the library of this version, got {PATH} without constriction_{name}_u32")
+        raise NotImplementedError(f"expected the library of this version, got {PATH} without constriction_{name}")
     code = function(*arguments)
     if code:
         raise refusal(code, texts)

@@ -12,24 +12,22 @@ from itertools import islice
 from operator import index
 from typing import Any
 
-from ._buffers import NUMBER, SYMBOL, WORD, List, numpy_module, room
+from ._buffers import BYTE, NUMBER, SHORT, SYMBOL, WORD, List, numpy_module, room
 from .errors import IMPOSSIBLE_SYMBOL, ImpossibleSymbolError, InvalidDataError, Refusal, WrongLengthError, shown
 
 __all__ = [
-    "as_numpy", "count_of", "doubles", "floats_of", "grid_of", "is_one", "is_row", "listed_of", "places_of", "plain_of", "real", "reals_of", "rows_of",
-    "sequence_of", "table_of", "whole", "wholes_of", "words_of",
+    "as_numpy", "count_of", "doubles", "floats_of", "grid_of", "is_one", "is_row", "listed_of", "narrow_of", "places_of", "plain_of", "real",
+    "reals_of", "rows_of", "sequence_of", "table_of", "whole", "wholes_of", "words_of",
 ]  # fmt: skip
 
 #: The least and the greatest number that a word and a symbol can be.
-_RANGES = {WORD: (0, (1 << 32) - 1), SYMBOL: (-(1 << 63), (1 << 63) - 1)}
+_RANGES = {WORD: (0, (1 << 32) - 1), SHORT: (0, (1 << 16) - 1), SYMBOL: (-(1 << 63), (1 << 63) - 1)}
 _WANTED = "expected whole numbers, got {}: round them and convert them, as by array.astype('int64')"
 #: The formats of memory that holds such numbers. No index of a table has more than 63 bits, so a sign doesn't matter.
-_ALIKE = {WORD: ("I", "L"), SYMBOL: ("q", "Q", "l", "L", "n", "N"), NUMBER: ("d",)}
+_ALIKE = {BYTE: ("B",), SHORT: ("H",), WORD: ("I", "L"), SYMBOL: ("q", "Q", "l", "L", "n", "N"), NUMBER: ("d",)}
 _FLOAT = frozenset((float,))
 #: The greatest number of symbols of a list. These symbols would take 2^51 bytes.
 _MOST = 1 << 48
-#: numpy shifts a table if the first symbol's absolute value is below this: then the sums fit 64 bits.
-_NEAR = 1 << 61
 
 
 def is_one(it: Any) -> bool:
@@ -162,9 +160,9 @@ def _past(code: str, numbers: Any) -> bool:
 def _filled(code: str, numbers: Any) -> array[Any]:
     """Returns the numbers of a numpy array in memory of this package."""
     numpy = numpy_module()
-    memory = room(code, numbers.size)
+    memory = room(code, numbers.size, array)
     if len(memory):
-        kind = {WORD: "uint32", SYMBOL: "int64", NUMBER: "float64"}[code]
+        kind = {WORD: "uint32", SHORT: "uint16", SYMBOL: "int64", NUMBER: "float64"}[code]
         numpy.copyto(numpy.frombuffer(memory, dtype=kind), numbers, casting="unsafe")
     return memory
 
@@ -184,11 +182,14 @@ def wholes_of(code: str, numbers: List) -> array[Any]:
     table = as_numpy(numbers)
     if table is not None:
         _wholes(table)
-        if _past(code, table):
-            raise OverflowError("a number is past its type")
-        return _filled(code, table)
-    memory = _copied(code, numbers)
-    return array(code, map(whole, _listed(numbers))) if memory is None else memory
+    memory = _copied(code, numbers if table is None else table)
+    if memory is not None:
+        return memory
+    if table is None:
+        return array(code, map(whole, _listed(numbers)))
+    if _past(code, table):
+        raise OverflowError("a number is past its type")
+    return _filled(code, table)
 
 
 def _copied(code: str, numbers: Any) -> array[Any] | None:
@@ -198,17 +199,25 @@ def _copied(code: str, numbers: Any) -> array[Any] | None:
     """
     try:
         view = memoryview(numbers)
-    except TypeError:
+    except (TypeError, ValueError):
         return None
     memory = array(code)
     if view.ndim != 1 or view.format not in _ALIKE[code] or view.itemsize != memory.itemsize:
         return None
-    memory.frombytes(view.tobytes())
+    memory.frombytes(view.cast("B") if view.c_contiguous and len(view) else view.tobytes())
     return memory
 
 
-def words_of(words: List, name: str = "word", refused: type[Refusal] = InvalidDataError) -> array[Any]:
-    """Returns a copy of words, each below 2^32.
+def narrow_of(symbols: Any) -> array[Any] | None:
+    """Returns a copy of a list of symbols of 8 or 16 bits without a sign. Returns None for other symbols."""
+    if isinstance(symbols, (list, tuple, bytes, bytearray)) or is_one(symbols):
+        return None
+    _unmasked(symbols)
+    return _copied(SHORT if getattr(symbols, "itemsize", 1) == 2 else BYTE, symbols)
+
+
+def words_of(words: List, name: str = "word", refused: type[Refusal] = InvalidDataError, code: str = WORD) -> array[Any]:
+    """Returns a copy of words, each below 2^32, or below 2^16 for the typecode of these.
 
     Raises TypeError for numbers that aren't whole, and ``refused`` for a number that doesn't fit a word.
     """
@@ -216,10 +225,11 @@ def words_of(words: List, name: str = "word", refused: type[Refusal] = InvalidDa
         raise TypeError(f"expected a list of {name}s, got {type(words).__name__}")
     given = sequence_of(words)
     try:
-        return wholes_of(WORD, given)
+        return wholes_of(code, given)
     except OverflowError:
-        place, number = next((i, it) for i, it in enumerate(map(whole, listed_of(given))) if it >> 32)
-        raise refused(f"expected a {name} of at least 0 and below 2^32, got {shown(number)} at place {place}") from None
+        bits = 8 * array(code).itemsize
+        place, number = next((i, it) for i, it in enumerate(map(whole, listed_of(given))) if it >> bits)
+        raise refused(f"expected a {name} of at least 0 and below 2^{bits}, got {shown(number)} at place {place}") from None
 
 
 def _signed(symbols: Any) -> Iterable[int]:
@@ -229,29 +239,35 @@ def _signed(symbols: Any) -> Iterable[int]:
     return map(whole, _listed(symbols))
 
 
-def places_of(symbols: Any, first: int) -> array[Any]:
+def places_of(symbols: Any, first: int) -> Any:
     """Converts a symbol or a list of symbols to indexes of a table whose first symbol is ``first``.
 
-    Raises ImpossibleSymbolError if an index doesn't fit 64 bits.
+    Returns an array, or a numpy array. Raises ImpossibleSymbolError if an index doesn't fit 64 bits. Indexes of a numpy
+    array are modulo 2^64.
     """
     try:
         if is_one(symbols):
             return array(SYMBOL, (whole(symbols) - first,))
         table = as_numpy(symbols)
-        if table is not None and abs(first) >= _NEAR:
-            _wholes(table)
-            symbols, table = table.tolist(), None
-        if first and table is None:
+        if table is not None:
+            return _places_of_table(table, first)
+        if first:
             return array(SYMBOL, map((-first).__add__, _signed(symbols)))
-        places = wholes_of(SYMBOL, symbols)
-        if first and len(places):
-            if int(table.min()) < -2 * _NEAR or int(table.max()) > 2 * _NEAR:
-                raise OverflowError
-            numpy_module().frombuffer(places, dtype="int64")[:] -= first
-        return places
+        return wholes_of(SYMBOL, symbols)
     except OverflowError:
         # No index of a table has more than 64 bits.
         raise ImpossibleSymbolError(IMPOSSIBLE_SYMBOL) from None
+
+
+def _places_of_table(table: Any, first: int) -> Any:
+    """Does the same as ``places_of`` for a numpy array. A symbol of 64 bits and a sign is one of its index alone."""
+    _wholes(table)
+    if first < 0 and table.dtype.kind == "u" and table.dtype.itemsize == 8 and _past(SYMBOL, table):
+        raise OverflowError
+    places = table.astype("int64")
+    if first:
+        places -= first
+    return places
 
 
 def doubles(table: Any) -> Any:

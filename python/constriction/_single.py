@@ -15,9 +15,9 @@ from ctypes import byref, c_int32, c_int64, c_size_t, c_uint32, c_void_p
 from functools import partial
 from typing import Any
 
-from ._buffers import SYMBOL, WORD, Array
-from ._library import plain_function
-from .stream.model._base import ENDS, MIXED, TOTAL, UNITS, Model
+from ._buffers import SYMBOL, Array
+from ._sizes import LARGE, Size
+from .stream.model._base import ENDS, MIXED, UNITS, Model
 
 __all__ = ["Buffer", "Lane", "made", "memory_of"]
 
@@ -29,13 +29,16 @@ made: Any = tuple.__new__
 class Lane:
     """The memory for a coder's calls with one symbol. Each coder has one, and the coder's lock protects it."""
 
-    def __init__(self, lead: tuple[Any, ...], encode: str, decode: str, behind_decode: tuple[Any, ...] = ()) -> None:
-        """Creates the memory.
+    def __init__(
+        self, size: Size, lead: tuple[Any, ...], encode: str, decode: str, behind_decode: tuple[Any, ...] = ()
+    ) -> None:
+        """Creates the memory for words of a size.
 
         ``lead`` is the state as arguments of the C functions. The names of the functions have a gap for the kind of
         model.
         """
-        self._interval, self._three, self._place = array(WORD, (0, 0)), array(WORD, (0, 0, 0)), array(SYMBOL, (0,))
+        self.size, self._place, code = size, array(SYMBOL, (0,)), size.code
+        self._interval, self._three = array(code, (0, 0)), array(code, (0, 0, 0))
         self._location, self._scale, self._row, self._width = c_int64(), c_uint32(), c_void_p(), c_size_t()
         self._family, self._least, self._greatest, self._model = c_uint32(), c_int32(), c_int32(), None
         self._mixed = c_size_t(), c_void_p(), c_void_p(), c_void_p()
@@ -46,14 +49,19 @@ class Lane:
         row = self._row, self._width
         count, weights, locations, scales = self._mixed
         mixture = *family[:3], count, weights, count, locations, count, scales, count
-        self._encode_interval = _bound(encode.format("_intervals"), *lead, *interval, needed)
-        self._encode_units = _bound(encode.format("_quantized"), *lead, *family, *symbol, needed)
-        self._encode_row = _bound(encode.format(""), *lead, *row, *symbol, needed)
-        self._encode_mixture = _bound(encode.format("_mixture"), *lead, *mixture, *symbol, needed)
-        self._decode_three = _bound(decode.format(""), *lead, memory_of(self._three), three, *symbol, *behind_decode)
-        self._decode_units = _bound(decode.format("_quantized"), *lead, *family, *symbol, *behind_decode)
-        self._decode_row = _bound(decode.format(""), *lead, *row, *symbol, *behind_decode)
-        self._decode_mixture = _bound(decode.format("_mixture"), *lead, *mixture, *symbol, *behind_decode)
+
+        def bound(name: str, kind: str, *arguments: Any) -> _Way:
+            """Returns a C function with these arguments. Each call reads the arguments' memory."""
+            return partial(size.plain_function(name.format(kind)), *lead, *arguments)
+
+        self._encode_interval = bound(encode, "_intervals", *interval, needed)
+        self._encode_units = bound(encode, "_quantized", *family, *symbol, needed)
+        self._encode_row = bound(encode, "", *row, *symbol, needed)
+        self._encode_mixture = bound(encode, "_mixture", *mixture, *symbol, needed)
+        self._decode_three = bound(decode, "", memory_of(self._three), three, *symbol, *behind_decode)
+        self._decode_units = bound(decode, "_quantized", *family, *symbol, *behind_decode)
+        self._decode_row = bound(decode, "", *row, *symbol, *behind_decode)
+        self._decode_mixture = bound(decode, "_mixture", *mixture, *symbol, *behind_decode)
 
     #: The state in this memory, or None if it isn't known.
     _kept: Any = None
@@ -73,7 +81,7 @@ class Lane:
         raise NotImplementedError
 
     def quantile(self, state: Any) -> int:
-        """Returns the quantile that selects the next symbol, or a number of at least 2^24 if there is none."""
+        """Returns the quantile that selects the next symbol, or a number past all quantiles if there is none."""
         raise NotImplementedError
 
     def encode(self, coder: Any, symbol: int, model: Model, given: tuple[Any, ...]) -> bool:
@@ -83,6 +91,8 @@ class Lane:
                 return False
             try:
                 coder._busy = True
+                if self.size is not LARGE:
+                    model = model.at(self.size)
                 order = None if given else model._often
                 if order is None:
                     order = model.alone(given)
@@ -129,6 +139,8 @@ class Lane:
                 return None
             try:
                 coder._busy = True
+                if self.size is not LARGE:
+                    model = model.at(self.size)
                 order = None if given else model._often
                 if order is None:
                     if given and model.core and not model.is_single(given):
@@ -143,12 +155,12 @@ class Lane:
                 self._kept = None  # After an interrupt the state in this memory isn't known.
                 if kind == ENDS:
                     quantile = self.quantile(state)
-                    if quantile >= TOTAL:
+                    if quantile >= first[-1]:
                         return None
                     place = bisect_right(first, quantile)
                     left, end = first[place - 1] if place else 0, first[place]
                     three = self._three
-                    three[0], three[1], three[2] = left, end - left, TOTAL - end
+                    three[0], three[1], three[2] = left, end - left, first[-1] - end
                     refused = self._decode_three()
                     place -= 1
                 else:
@@ -203,11 +215,6 @@ class Buffer:
         if memory is not self._memory:
             self.address.value, self.capacity.value = memory.buffer_info()
             self._memory = memory  # type: ignore[assignment]
-
-
-def _bound(name: str, *arguments: Any) -> _Way:
-    """Returns a C function with these arguments. Each call reads the arguments' memory."""
-    return partial(plain_function(name), *arguments)
 
 
 def memory_of(numbers: array[int]) -> c_void_p:

@@ -9,6 +9,7 @@ from typing import Any
 
 from ._buffers import NUMBER, SYMBOL, WORD, numpy_module, room
 from ._numbers import doubles, real
+from ._sizes import Size
 from .errors import WrongWeightsError, shown
 
 __all__ = [
@@ -22,8 +23,6 @@ UNITS_OF_ONE = 65536.0
 FARTHEST = 2.0**46
 #: The least scale, 1 unit, the greatest scale, 2^32 - 1 units, and the least float that no scale may be.
 NARROWEST, WIDEST, TOO_WIDE = 1 / UNITS_OF_ONE, 65536.0 - 1 / UNITS_OF_ONE, 65536.0
-#: The sum of the two weights of a Bernoulli model.
-_TOTAL = 16777216.0
 #: The number of units in a component's weight of 1, the greatest sum of a row's weights, and the greatest weight.
 SHARES, _MOST_SHARES = 2.0**31, 2.0
 MOST_WEIGHT = _MOST_SHARES - 1 / SHARES
@@ -93,8 +92,8 @@ def _rounded(code: str, floats: array[float], unit: float, within: Ends, ends: E
         if ends[0] < within[0] or ends[1] > within[1]:
             table = numpy.clip(table, *within)
         table = table * unit
-        memory, kind = room(code, len(floats)), {WORD: "uint32", SYMBOL: "int64"}[code]
-        numpy.copyto(numpy.frombuffer(memory, dtype=kind), numpy.rint(table, out=table), casting="unsafe")
+        memory = room(code, len(floats), array)
+        numpy.copyto(numpy.frombuffer(memory, dtype=code), numpy.rint(table, out=table), casting="unsafe")
         return memory
     numbers: Iterable[float] = floats
     if ends[0] < within[0] or ends[1] > within[1]:
@@ -197,15 +196,16 @@ def wrong_row(floats: Any, width: int) -> WrongWeightsError:
     return WrongWeightsError("expected weights with a sum above 0 and of at most 2")
 
 
-def parts_of(probabilities: array[float]) -> array[int]:
-    """Returns probabilities in units of 2^-24, from 1 to 2^24 - 1.
+def parts_of(probabilities: array[float], words: Size) -> array[int]:
+    """Returns probabilities in units of 2^-24, from 1 to 2^24 - 1, or of 2^-12 for words of 16 bits.
 
     Raises ValueError if a probability isn't between 0 and 1.
     """
     ends = _ends(probabilities)
     if not (ends[0] >= 0 and ends[1] <= 1):
         raise _fault("probability", probabilities, lambda it: 0 <= it <= 1, "between 0 and 1")
-    return _rounded(WORD, probabilities, _TOTAL, (1 / _TOTAL, 1 - 1 / _TOTAL), ends)
+    total = float(words.total)
+    return _rounded(words.code, probabilities, total, (1 / total, 1 - 1 / total), ends)
 
 
 def counts_of_row(row: Any) -> array[int] | None:

@@ -6,13 +6,16 @@ import sys
 from array import array
 from typing import Any, NamedTuple, TypeVar
 
-from ._buffers import WORD, Array, List, Numbers, lent, room
+from ._buffers import Array, List, Numbers, lent, room
 from ._numbers import words_of
+from ._sizes import LARGE, Size
 from .errors import InvalidDataError
 
 __all__ = ["Words", "bytes_of", "copied", "packed", "unpacked", "words_from"]
 
 Memory = TypeVar("Memory", bound=Array)
+#: A buffer has at least this many words.
+_LEAST = 4
 
 
 class Words(NamedTuple):
@@ -33,7 +36,7 @@ class Words(NamedTuple):
         wanted, capacity = self.length + more, len(self.memory)
         if wanted <= capacity:
             return self
-        memory, kept = room(WORD, max(wanted, capacity + capacity // 2), array), max(kept, self.length)
+        memory, kept = room(self.memory.typecode, max(wanted, capacity + capacity // 2), array), max(kept, self.length)
         memoryview(memory)[:kept] = memoryview(self.memory)[:kept]
         return Words(memory, self.length)
 
@@ -43,7 +46,7 @@ class Words(NamedTuple):
 
     def numbers(self) -> Numbers:
         """Returns a copy of the words in use, as a caller gets it."""
-        copy = room(WORD, self.length)
+        copy = room(self.memory.typecode, self.length)
         memoryview(copy)[:] = memoryview(self.memory)[: self.length]
         return copy
 
@@ -52,12 +55,13 @@ class Words(NamedTuple):
         return Words(self.memory[: self.length], self.length)
 
 
-def copied(given: List = ()) -> Words:
+def copied(given: List = (), size: Size = LARGE) -> Words:
     """Returns a copy of these words."""
-    memory = words_of(given)
-    copy = room(WORD, max(len(memory), 4), array)
-    memoryview(copy)[: len(memory)] = memoryview(memory)
-    return Words(copy, len(memory))
+    memory = words_of(given, code=size.code)
+    length = len(memory)
+    if length < _LEAST:
+        memory.extend([0] * (_LEAST - length))
+    return Words(memory, length)
 
 
 def packed(numbers: Words) -> bytes:
@@ -65,27 +69,27 @@ def packed(numbers: Words) -> bytes:
     return swapped(numbers.numbers()).tobytes()
 
 
-def unpacked(data: bytes) -> Words:
+def unpacked(data: bytes, size: Size) -> Words:
     """Returns the words from bytes. This is the inverse of ``packed``."""
-    memory = room(WORD, 0, array)
+    memory = room(size.code, 0, array)
     memory.frombytes(data)
     return Words(swapped(memory), len(memory))
 
 
 def bytes_of(numbers: Numbers) -> bytes:
-    """Returns words as a file has them: 4 bytes for each word, lowest first. The call may change ``numbers``."""
+    """Returns words as a file has them, each with the lowest byte first. The call may change ``numbers``."""
     return swapped(numbers).tobytes()
 
 
-def words_from(data: Any) -> Numbers:
+def words_from(data: Any, size: Size) -> Numbers:
     """Returns the words of such bytes. Raises TypeError for other objects, and InvalidDataError for a part of a word."""
     try:
         view = memoryview(data)
     except TypeError:
         raise TypeError(f"expected bytes, got {type(data).__name__}") from None
-    if view.nbytes % 4:
-        raise InvalidDataError(f"expected 4 bytes for each word, got {view.nbytes} bytes")
-    words = room(WORD, 0)
+    if view.nbytes % (size.bits // 8):
+        raise InvalidDataError(f"expected {size.bits // 8} bytes for each word, got {view.nbytes} bytes")
+    words = room(size.code, 0)
     words.frombytes(view.tobytes())
     return swapped(words)
 

@@ -36,11 +36,14 @@ class ImpossibleSymbolError(Refusal, KeyError):
 
 
 class WrongWeightsError(Refusal):
-    """Weights don't add up to 2^24, or a Huffman tree has no weights, or the sum of its weights is too large."""
+    """Weights don't add up to 2^24, or to 2^12 for words of 16 bits.
+
+    Or a Huffman tree has no weights, or the sum of its weights is too large.
+    """
 
 
 class WrongIntervalError(Refusal):
-    """An interval is empty or ends past 2^24."""
+    """An interval is empty or ends past 2^24 (2^12 for words of 16 bits)."""
 
 
 class WrongLengthError(Refusal):
@@ -60,7 +63,6 @@ class OutOfDataError(Refusal):
 
 
 IMPOSSIBLE_SYMBOL = "Impossible symbol."
-WRONG_WEIGHTS = "expected weights with a sum of 16777216"
 INVALID_FOR_MODEL = "Tried to decode from compressed data that is invalid for the employed entropy model."
 ENDS_WITH_ZERO_WORD = (
     "Tried to decode from compressed data that ends with a zero word, which is invalid for an ANS coder."
@@ -72,6 +74,11 @@ CODEWORD_ENDED = "The compressed data ended before the current codeword was comp
 INVALID_CODEWORD = "Invalid codeword for this codebook: Invalid Exp-Golomb codeword."
 NO_WHOLE_WORDS = "the coder holds no whole number of words"
 NO_SUCH_POSITION = "there is no such position"
+
+
+def wrong_weights(total: int) -> str:
+    """Returns the text for weights that don't have this sum."""
+    return f"expected weights with a sum of {total}"
 
 
 def shown(number: int) -> str:
@@ -94,7 +101,7 @@ def impossible(symbol: int, place: int | None, first: int, count: int) -> Imposs
 
 _CLASSES: dict[int, tuple[type[Exception], str]] = {
     1: (ImpossibleSymbolError, IMPOSSIBLE_SYMBOL),
-    2: (WrongWeightsError, WRONG_WEIGHTS),
+    2: (WrongWeightsError, "wrong weights"),
     3: (WrongIntervalError, "wrong interval"),
     4: (WrongLengthError, "wrong length"),
     5: (NoSpaceError, "no space"),

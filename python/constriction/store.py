@@ -20,9 +20,10 @@ from typing import Any, NamedTuple
 
 from . import errors
 from ._buffers import SYMBOL, WORD, List, Numbers, answered, lent, room
-from ._coding import shifted
-from ._library import RangeDecoderState, call
+from ._answers import shifted
+from ._library import RangeDecoderState
 from ._numbers import whole
+from ._sizes import LARGE
 from .stream.model import Model
 from .stream.queue import RangeEncoder
 
@@ -153,9 +154,9 @@ class Store:
         # Each symbol takes at most one word, so the decoder needs no other words.
         words = self._words_from(entry.position, entry.count + _WORDS_OF_A_STATE)
         weights, decoder, texts = self._model.table(), RangeDecoderState(), {7: INVALID_CHUNK}
-        call("range_seek", byref(decoder), lent(words), len(words), 0, *entry.state, texts=texts)
+        LARGE.call("range_seek", byref(decoder), lent(words), len(words), 0, *entry.state, texts=texts)
         if len(symbols):
-            call(
+            LARGE.call(
                 "range_decode", byref(decoder), lent(words), len(words), lent(weights), len(weights),
                 lent(symbols), len(symbols), texts=texts,
             )  # fmt: skip

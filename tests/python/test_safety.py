@@ -266,7 +266,7 @@ class Threads(unittest.TestCase):
                 ticks.append(time.perf_counter())
 
         inside = []
-        original = _library._FUNCTIONS["ans_encode_reverse"]
+        original = _library._FUNCTIONS["ans_encode_reverse_u32"]
 
         def timed(*arguments: Any) -> int:
             begin = time.perf_counter()
@@ -277,7 +277,7 @@ class Threads(unittest.TestCase):
         thread = threading.Thread(target=spin)
         thread.start()
         try:
-            with mock.patch.dict(_library._FUNCTIONS, {"ans_encode_reverse": timed}):
+            with mock.patch.dict(_library._FUNCTIONS, {"ans_encode_reverse_u32": timed}):
                 AnsCoder().encode_reverse(symbols, model)
         finally:
             stop.set()
@@ -382,16 +382,16 @@ class Memory(unittest.TestCase):
             self.assertEqual(coder.get_compressed(), wanted.get_compressed())
 
     def test_growth_past_what_the_system_gives(self) -> None:
-        # A process that may have 400 MB, and whose list wants more.
+        # A process whose list wants more words than it may have memory: 12 MB, after 4 MB of symbols.
         program = """
 import resource
 from array import array
 from constriction.stream.model import WeightTable
 from constriction.stream.stack import AnsCoder
-model, coder, symbols = WeightTable([1, (1 << 24) - 1]), AnsCoder(), array("q", [0]) * 4000000
+model, coder, symbols = WeightTable([(1 << 24) - 1, 1]), AnsCoder(), array("B", b"\\1") * 4000000
 coder.encode_reverse(symbols[:1000], model)
 have = int(open("/proc/self/statm").read().split()[0]) * resource.getpagesize()
-resource.setrlimit(resource.RLIMIT_AS, (have + (40 << 20),) * 2)
+resource.setrlimit(resource.RLIMIT_AS, (have + (16 << 20),) * 2)
 before = coder.pos()
 words = len(coder.get_compressed())
 try:
@@ -400,7 +400,7 @@ try:
 except MemoryError:
     print("refused", coder.pos() == before, len(coder.get_compressed()) == words)
 coder.encode_reverse([1, 0], model)
-print(coder.decode(model, 1002) == [1, 0] + [0] * 1000)
+print(coder.decode(model, 1002) == [1, 0] + [1] * 1000)
 """
         # Without numpy, which wants more memory than the process may have.
         folders = str(Path(__file__).parent / "without_numpy"), PACKAGE

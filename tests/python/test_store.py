@@ -38,7 +38,7 @@ def built_by_function(chunks: list[list[int]], model: WeightTable) -> tuple[list
     positions, lowers, ranges = (array("Q", [0]) * len(chunks) for _ in range(3))
     count, needed = c_size_t(0), c_size_t(0)
     call(
-        "store_build", lent(words), len(words), byref(count), lent(positions), len(chunks), lent(lowers), len(chunks),
+        "store_build_u32", lent(words), len(words), byref(count), lent(positions), len(chunks), lent(lowers), len(chunks),
         lent(ranges), len(chunks), lent(weights), len(weights), lent(symbols), len(symbols), lent(lengths), len(chunks),
         byref(needed),
     )  # fmt: skip
@@ -50,7 +50,7 @@ def looked_up_by_function(words: list[int], entry: tuple[Any, ...], model: Weigh
     """The chunk at an entry of words, by the C function."""
     place, state, many = entry
     memory, symbols, weights = array("I", words), array("q", [0]) * many, model.table()
-    call("store_chunk", lent(memory), len(memory), place, *state, lent(weights), len(weights), lent(symbols), many)
+    call("store_chunk_u32", lent(memory), len(memory), place, *state, lent(weights), len(weights), lent(symbols), many)
     return list(symbols)
 
 

@@ -327,7 +327,7 @@ class Range(unittest.TestCase):
         decoder.decode(TWO, 100)
         self.assertTrue(decoder.maybe_exhausted())
 
-    @unittest.skipUnless("range_into_self_delimited" in _library._FUNCTIONS, "the library has no self-delimiting seal")
+    @unittest.skipUnless("range_into_self_delimited_u32" in _library._FUNCTIONS, "the library has no self-delimiting seal")
     def test_self_delimiting(self) -> None:
         dice = random.Random(14)
         for count in (0, 1, 2, 5, 40):

@@ -8,13 +8,14 @@ from typing import Any, NamedTuple, SupportsIndex, Union, overload
 from .. import errors
 from .._buffers import Amount, Answer, List, Numbers, Parameter, Reals, Symbols, answered, lent
 from .._coder import Coder
+from .._answers import AS_USUAL, Wanted
 from .._coding import decoded, encoded
-from .._library import ChainHeads, call
+from .._sizes import LARGE, SMALL, Size
 from .._single import Buffer, Lane
 from .._words import Words, copied, packed, unpacked
 from .model import Categorical, Model, QuantizedMixture, WeightTable
 
-__all__ = ["ChainCoder"]
+__all__ = ["ChainCoder", "SmallChainCoder"]
 
 #: The models whose parameters are rows.
 RowModel = Union[Categorical, WeightTable, QuantizedMixture]
@@ -31,8 +32,8 @@ class _State(NamedTuple):
 class _Call:
     """The arguments of a C call that moves words between the two stacks, and the state after the call."""
 
-    def __init__(self, compressed: Words, remainders: Words, heads: tuple[int, int]) -> None:
-        self._compressed, self._remainders, self._heads = compressed, remainders, ChainHeads(*heads)
+    def __init__(self, size: Size, compressed: Words, remainders: Words, heads: tuple[int, int]) -> None:
+        self._compressed, self._remainders, self._heads = compressed, remainders, size.heads(*heads)
         self._lengths = c_size_t(compressed.length), c_size_t(remainders.length)
         self.needed = c_size_t(0)
 
@@ -46,45 +47,25 @@ class _Call:
         return _State(Words(self._compressed.memory, below), Words(self._remainders.memory, above), heads)
 
 
-def _encode(kind: str, state: _State, count: int, arguments: tuple[Any, ...]) -> _State:
-    it = _Call(state.compressed.reserve(count), state.remainders, state.heads)  # A step moves at most one word.
-    texts = {8: errors.OUT_OF_REMAINDERS}
-    call(f"chain_encode{kind}_reverse", *it.arguments(), *arguments, byref(it.needed), texts=texts)
-    return it.state()
+def _next_bits(state: _State, size: Size) -> int | None:
+    """Returns a number whose lowest bits select the next symbol: bits left over, or the next word.
 
-
-def _decode(kind: str, state: _State, count: int, arguments: tuple[Any, ...]) -> _State:
-    it = _Call(state.compressed, state.remainders.reserve(count), state.heads)
-    call(f"chain_decode{kind}", *it.arguments(), *arguments, byref(it.needed))
-    return it.state()
-
-
-def _quantile(state: _State) -> int:
-    """Returns the quantile that selects the next symbol: 24 bits left over, or 24 bits of the next word.
-
-    Raises OutOfDataError if a word is needed and none is left.
+    Returns None if a word is needed and none is left.
     """
     bits, words = state.heads[1], state.compressed
-    if bits < 1 << 24:
-        if not words.length:
-            raise errors.OutOfDataError(errors.OUT_OF_COMPRESSED_DATA)
-        bits = words.memory[words.length - 1]
-    return bits & 0xFFFFFF
-
-
-def _most(state: _State) -> int:
-    """Returns the number of symbols that the compressed words suffice for. Each symbol takes 24 bits."""
-    return (32 * state.compressed.length + state.heads[1].bit_length() - 1) // 24
+    if bits < size.total:
+        return words.memory[words.length - 1] if words.length else None
+    return bits
 
 
 class _Lane(Lane):
-    def __init__(self) -> None:
-        self._heads, self._below, self._above = ChainHeads(), Buffer(), Buffer()
+    def __init__(self, size: Size) -> None:
+        self._heads, self._below, self._above = size.heads(), Buffer(), Buffer()
         self._lengths = c_size_t(), c_size_t()
         below = self._below.address, self._below.capacity, byref(self._lengths[0])
         above = self._above.address, self._above.capacity, byref(self._lengths[1])
         lead = byref(self._heads), *below, *above
-        super().__init__(lead, "chain_encode{}_reverse", "chain_decode{}", (byref(c_size_t()),))
+        super().__init__(size, lead, "chain_encode{}_reverse", "chain_decode{}", (byref(c_size_t()),))
 
     def load(self, state: _State, encodes: bool) -> _State:
         """Writes a state to this memory, and returns the state.
@@ -106,12 +87,8 @@ class _Lane(Lane):
         return _State(Words(before.compressed.memory, below), Words(before.remainders.memory, above), heads)
 
     def quantile(self, state: _State) -> int:
-        bits, words = state.heads[1], state.compressed
-        if bits < 1 << 24:
-            if not words.length:
-                return 1 << 24
-            bits = words.memory[words.length - 1]
-        return bits & 0xFFFFFF
+        bits = _next_bits(state, self.size)
+        return self.size.total if bits is None else bits & self.size.total - 1
 
 
 class ChainCoder(Coder):
@@ -129,6 +106,8 @@ class ChainCoder(Coder):
     True
     """
 
+    _size = LARGE
+
     def __init__(self, data: List, is_remainders: bool = False, seal: bool = False) -> None:
         """Imports a coder from ``data``, a list of words. The coder copies the words.
 
@@ -141,23 +120,24 @@ class ChainCoder(Coder):
         """
         if is_remainders and seal:
             raise ValueError("expected is_remainders or seal, got both")
-        words, length, heads = copied(data), c_size_t(0), ChainHeads()
+        words, length, heads = copied(data, self._size), c_size_t(0), self._size.heads()
         name = "chain_from_remainders" if is_remainders else "chain_from_binary" if seal else "chain_from_compressed"
         texts = {7: errors.NOT_ENOUGH_WORDS}
-        call(name, lent(words.memory), words.length, byref(length), byref(heads), texts=texts)
+        self._size.call(name, lent(words.memory), words.length, byref(length), byref(heads), texts=texts)
         words, numbers = Words(words.memory, length.value), (heads.remainders, heads.compressed)
-        self._begin(_State(copied(), words, numbers) if is_remainders else _State(words, copied(), numbers))
+        none = copied((), self._size)
+        self._begin(_State(none, words, numbers) if is_remainders else _State(words, none, numbers))
 
     @overload
     def decode(self, model: Model) -> int:
         ...
 
     @overload
-    def decode(self, model: Model, amt: SupportsIndex, *, dtype: Any = None) -> Answer:
+    def decode(self, model: Model, amt: SupportsIndex, *, dtype: Any = None, out: Any = None) -> Answer:
         ...
 
     @overload
-    def decode(self, model: Model, *, amt: Amount, dtype: Any = None) -> Answer:
+    def decode(self, model: Model, *, amt: Amount, dtype: Any = None, out: Any = None) -> Answer:
         ...
 
     @overload
@@ -169,19 +149,24 @@ class ChainCoder(Coder):
         ...
 
     @overload
-    def decode(self, model: Model, parameter: Parameter, /, *parameters: Parameter, dtype: Any = None) -> Answer:
+    def decode(
+        self, model: Model, parameter: Parameter, /, *parameters: Parameter, dtype: Any = None, out: Any = None
+    ) -> Answer:
         ...
 
-    def decode(self, model: Model, *amt_or_parameters: Any, amt: Any = None, dtype: Any = None) -> Any:
+    def decode(
+        self, model: Model, *amt_or_parameters: Any, amt: Any = None, dtype: Any = None, out: Any = None
+    ) -> Any:
         """Decodes one symbol, ``amt`` symbols, or one symbol for each set of parameters.
 
         ``amt`` is a number of symbols, or the shape of an array of them. Parameters may have any shape, and the answer
         has the shape to which they broadcast by numpy's rules. ``dtype`` is numpy's integer type of an array of symbols.
+        Or ``out`` is a numpy array of this shape, which gets the symbols and is returned.
 
         Raises :class:`OutOfDataError` if the coder needs another compressed word and none is left. After an error the
         coder is unchanged.
         """
-        if amt is None and dtype is None:
+        if amt is None and dtype is None and out is None:
             lane = self._lane
             if lane is not None and not amt_or_parameters and isinstance(model, Model):
                 symbol = lane.decode(self, model, ())
@@ -189,10 +174,34 @@ class ChainCoder(Coder):
                 symbol = self._decoded_alone(model, amt_or_parameters)
             if symbol is not None:
                 return symbol
-        return self._changed(lambda it: decoded(it, model, amt_or_parameters, amt, dtype, _decode, _quantile, _most))
+        wanted = AS_USUAL if dtype is None and out is None else Wanted(dtype, out)
+        return self._changed(
+            lambda it: decoded(
+                it, self._size, model, amt_or_parameters, amt, wanted, self._decode, self._quantile, self._most
+            )
+        )
+
+    def _decode(self, kind: str, state: _State, count: int, arguments: tuple[Any, ...]) -> _State:
+        it = _Call(self._size, state.compressed, state.remainders.reserve(count), state.heads)
+        self._size.call(f"chain_decode{kind}", *it.arguments(), *arguments, byref(it.needed))
+        return it.state()
+
+    def _quantile(self, state: _State) -> int:
+        """Returns the quantile that selects the next symbol.
+
+        Raises OutOfDataError if a word is needed and none is left.
+        """
+        bits = _next_bits(state, self._size)
+        if bits is None:
+            raise errors.OutOfDataError(errors.OUT_OF_COMPRESSED_DATA)
+        return bits & self._size.total - 1
+
+    def _most(self, state: _State) -> int:
+        """Returns the number of symbols that the compressed words suffice for. Each takes as many bits as the precision."""
+        return (self._size.bits * state.compressed.length + state.heads[1].bit_length() - 1) // self._size.precision
 
     def _made_lane(self) -> Lane:
-        self._lane = _Lane()
+        self._lane = _Lane(self._size)
         return self._lane
 
     def encode_reverse(self, symbols: Symbols, model: Model, *parameters: Parameter) -> None:
@@ -213,7 +222,14 @@ class ChainCoder(Coder):
         ):
             return
         if not self._encoded_alone(symbols, model, parameters):
-            self._changed(lambda it: (encoded(it, symbols, model, parameters, _encode, True), None))
+            self._changed(lambda it: (encoded(it, self._size, symbols, model, parameters, self._encode, True), None))
+
+    def _encode(self, kind: str, state: _State, count: int, arguments: tuple[Any, ...]) -> _State:
+        # A step moves at most one word.
+        it = _Call(self._size, state.compressed.reserve(count), state.remainders, state.heads)
+        texts = {8: errors.OUT_OF_REMAINDERS}
+        self._size.call(f"chain_encode{kind}_reverse", *it.arguments(), *arguments, byref(it.needed), texts=texts)
+        return it.state()
 
     def get_data(self, unseal: bool = False) -> tuple[Answer, Answer]:
         """Returns two lists: the remainders that are left, and the compressed words with the remainders head.
@@ -226,7 +242,7 @@ class ChainCoder(Coder):
         name = "chain_into_binary" if unseal else "chain_into_compressed"
 
         def ask(state: _State) -> tuple[Numbers, Numbers]:
-            return state.remainders.numbers(), _export(name, state.compressed.reserve(2), state.heads)
+            return state.remainders.numbers(), self._export(name, state.compressed.reserve(2), state.heads)
 
         left, data = self._asked(ask)
         return answered(left), answered(data)
@@ -239,9 +255,8 @@ class ChainCoder(Coder):
         """
 
         def ask(state: _State) -> tuple[Numbers, Numbers]:
-            return state.compressed.numbers(), _export(
-                "chain_into_remainders", state.remainders.reserve(3), state.heads
-            )
+            words = state.remainders.reserve(3)
+            return state.compressed.numbers(), self._export("chain_into_remainders", words, state.heads)
 
         left, remainders = self._asked(ask)
         return answered(left), answered(remainders)
@@ -253,12 +268,27 @@ class ChainCoder(Coder):
         return packed(state.compressed), packed(state.remainders), state.heads
 
     def _unplain(self, plain: tuple[Any, ...]) -> _State:
-        return _State(unpacked(plain[0]), unpacked(plain[1]), plain[2])
+        return _State(unpacked(plain[0], self._size), unpacked(plain[1], self._size), plain[2])
+
+    def _export(self, name: str, words: Words, heads: tuple[int, int]) -> Numbers:
+        """Returns a copy of the words, followed by the words of the heads. The state is unchanged."""
+        length, needed = c_size_t(words.length), c_size_t(0)
+        texts = {7: errors.NO_WHOLE_WORDS}
+        self._size.call(name, byref(self._size.heads(*heads)), *words.lent(), byref(length), byref(needed), texts=texts)
+        return Words(words.memory, length.value).numbers()
 
 
-def _export(name: str, words: Words, heads: tuple[int, int]) -> Numbers:
-    """Returns a copy of the words, followed by the words of the heads. The state is unchanged."""
-    length, needed = c_size_t(words.length), c_size_t(0)
-    texts = {7: errors.NO_WHOLE_WORDS}
-    call(name, byref(ChainHeads(*heads)), *words.lent(), byref(length), byref(needed), texts=texts)
-    return Words(words.memory, length.value).numbers()
+class SmallChainCoder(ChainCoder):
+    """A chain coder with words of 16 bits and a precision of 12 bits, and otherwise like :class:`ChainCoder`.
+
+    Models are those of ``stream.stack.SmallAnsCoder``.
+
+    >>> from constriction.stream.model import Uniform
+    >>> coder = SmallChainCoder([0x1122, 0x3344, 0x100])
+    >>> symbols = coder.decode(Uniform(9), 2)
+    >>> coder.encode_reverse(symbols, Uniform(9))
+    >>> coder.get_data()[1].tolist() == [0x1122, 0x3344, 0x100]
+    True
+    """
+
+    _size = SMALL

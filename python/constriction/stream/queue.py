@@ -9,20 +9,18 @@ from typing import Any, NamedTuple, SupportsIndex, Union, overload
 from .. import errors
 from .._buffers import Amount, Answer, List, Numbers, Parameter, Reals, Symbols, answered, lent
 from .._coder import Coder
+from .._answers import AS_USUAL, Wanted
 from .._coding import decoded, encoded
-from .._library import RangeDecoderState, RangeEncoderState, call
 from .._numbers import whole
+from .._sizes import LARGE, SMALL, Size
 from .._single import Buffer, Lane, made, memory_of
 from .._words import Words, bytes_of, copied, packed, unpacked, words_from
 from .model import Categorical, Model, QuantizedMixture, WeightTable
 
-__all__ = ["RangeDecoder", "RangeEncoder"]
+__all__ = ["RangeDecoder", "RangeEncoder", "SmallRangeDecoder", "SmallRangeEncoder"]
 
 #: The models whose parameters are rows.
 RowModel = Union[Categorical, WeightTable, QuantizedMixture]
-
-_WHOLE = (1 << 64) - 1
-
 
 class _Writing(NamedTuple):
     """The words that an encoder wrote, and the encoder's numbers."""
@@ -35,21 +33,9 @@ class _Writing(NamedTuple):
         return self.numbers[2]
 
 
-def _numbers(it: RangeEncoderState) -> tuple[int, int, int, int]:
+def _numbers(it: Any) -> tuple[int, int, int, int]:
+    """Returns the numbers of an encoder from its struct."""
     return it.lower, it.range, it.held, it.first
-
-
-def _new_encoder() -> tuple[int, int, int, int]:
-    it = RangeEncoderState()
-    call("range_encoder", byref(it))
-    return _numbers(it)
-
-
-def _encode(kind: str, state: _Writing, count: int, arguments: tuple[Any, ...]) -> _Writing:
-    words = state.words.reserve(state.held + count)  # A step shifts out at most one word.
-    it, length, needed = RangeEncoderState(*state.numbers), c_size_t(words.length), c_size_t(0)
-    call(f"range_encode{kind}", byref(it), *words.lent(), byref(length), *arguments, byref(needed))
-    return _Writing(Words(words.memory, length.value), _numbers(it))
 
 
 class _Reading(NamedTuple):
@@ -62,30 +48,15 @@ class _Reading(NamedTuple):
         return lent(self.words.memory), self.words.length
 
 
-def _reading(words: Words, it: RangeDecoderState) -> _Reading:
+def _reading(words: Words, it: Any) -> _Reading:
     return _Reading(words, (it.lower, it.range, it.point, it.pos))
 
 
-def _decode(kind: str, state: _Reading, count: int, arguments: tuple[Any, ...]) -> _Reading:
-    it = RangeDecoderState(*state.numbers)
-    call(f"range_decode{kind}", byref(it), *state.lent(), *arguments)
-    return _reading(state.words, it)
-
-
-def _quantile(state: _Reading) -> int:
-    """Returns the quantile that selects the next symbol. Raises InvalidDataError if no encoder wrote the words."""
-    lower, length, point, _ = state.numbers
-    quantile = ((point - lower) & _WHOLE) // (length >> 24)
-    if quantile >> 24:
-        raise errors.InvalidDataError(errors.INVALID_FOR_MODEL)
-    return quantile
-
-
 class _WritingLane(Lane):
-    def __init__(self) -> None:
-        self._words, self._state, self._length = Buffer(), RangeEncoderState(), c_size_t()
+    def __init__(self, size: Size) -> None:
+        self._words, self._state, self._length = Buffer(), size.encoder(), c_size_t()
         lead = byref(self._state), self._words.address, self._words.capacity, byref(self._length)
-        super().__init__(lead, "range_encode{}", "")
+        super().__init__(size, lead, "range_encode{}", "")
 
     def load(self, state: _Writing, encodes: bool) -> _Writing:
         numbers, it = state.numbers, self._state
@@ -106,25 +77,26 @@ class _WritingLane(Lane):
 
 
 class _ReadingLane(Lane):
-    def __init__(self) -> None:
-        # Four numbers of 64 bits, like the fields of a RangeDecoderState.
-        self._words, self._numbers, self._length = Buffer(), array("Q", (0,) * 4), c_size_t()
-        super().__init__((memory_of(self._numbers), self._words.address, self._length), "", "range_decode{}")
+    def __init__(self, size: Size) -> None:
+        self._words, self._length, self._state = Buffer(), c_size_t(), size.decoder()
+        super().__init__(size, (byref(self._state), self._words.address, self._length), "", "range_decode{}")
+        self._all_bits, self._precision = size.greatest, size.precision
 
     def load(self, state: _Reading, encodes: bool) -> _Reading:
         words, numbers = state
         self._words.take(words.memory)
-        for i, number in enumerate(numbers):
-            self._numbers[i] = number
+        it = self._state
+        it.lower, it.range, it.point, it.pos = numbers
         self._length.value, self._decodes = words.length, True  # A decoder writes no words.
         return state
 
     def loaded(self, before: _Reading) -> _Reading:
-        return made(_Reading, (before[0], tuple(self._numbers)))  # type: ignore[no-any-return]
+        it = self._state
+        return made(_Reading, (before[0], (it.lower, it.range, it.point, it.pos)))  # type: ignore[no-any-return]
 
     def quantile(self, state: _Reading) -> int:
         lower, length, point, _ = state.numbers
-        return ((point - lower) & _WHOLE) // (length >> 24)
+        return ((point - lower) & self._all_bits) // (length >> self._precision)
 
 
 class RangeEncoder(Coder):
@@ -138,9 +110,16 @@ class RangeEncoder(Coder):
     (181, [164, 170, 193])
     """
 
+    _size = LARGE
+
     def __init__(self) -> None:
         """Creates an encoder that has encoded no symbols."""
-        self._begin(_Writing(copied(), _new_encoder()))
+        self._begin(_Writing(copied((), self._size), self._new_numbers()))
+
+    def _new_numbers(self) -> tuple[int, int, int, int]:
+        it = self._size.encoder()
+        self._size.call("range_encoder", byref(it))
+        return _numbers(it)
 
     def encode(self, symbols: Symbols, model: Model, *parameters: Parameter) -> None:
         """Encodes a symbol, or a list of symbols in order.
@@ -159,18 +138,24 @@ class RangeEncoder(Coder):
         ):
             return
         if not self._encoded_alone(symbols, model, parameters):
-            self._changed(lambda it: (encoded(it, symbols, model, parameters, _encode, False), None))
+            self._changed(lambda it: (encoded(it, self._size, symbols, model, parameters, self._encode, False), None))
+
+    def _encode(self, kind: str, state: _Writing, count: int, arguments: tuple[Any, ...]) -> _Writing:
+        words = state.words.reserve(state.held + count)  # A step shifts out at most one word.
+        it, length, needed = self._size.encoder(*state.numbers), c_size_t(words.length), c_size_t(0)
+        self._size.call(f"range_encode{kind}", byref(it), *words.lent(), byref(length), *arguments, byref(needed))
+        return _Writing(Words(words.memory, length.value), _numbers(it))
 
     def _made_lane(self) -> Lane:
-        self._lane = _WritingLane()
+        self._lane = _WritingLane(self._size)
         return self._lane
 
     def _sealed(self, state: _Writing, self_delimiting: bool) -> Words:
         """Returns all words of the encoder, followed by the seal. The state is unchanged."""
         words = state.words.reserve(state.held + 2)
-        it, length, needed = RangeEncoderState(*state.numbers), c_size_t(words.length), c_size_t(0)
+        it, length, needed = self._size.encoder(*state.numbers), c_size_t(words.length), c_size_t(0)
         name = "range_into_self_delimited" if self_delimiting else "range_into_compressed"
-        call(name, byref(it), *words.lent(), byref(length), byref(needed))
+        self._size.call(name, byref(it), *words.lent(), byref(length), byref(needed))
         return Words(words.memory, length.value)
 
     def get_compressed(self, self_delimiting: bool = False) -> Answer:
@@ -183,7 +168,10 @@ class RangeEncoder(Coder):
         return found
 
     def to_bytes(self, self_delimiting: bool = False) -> bytes:
-        """Returns the words of ``get_compressed`` for a file: 4 bytes for each word, lowest first on every machine."""
+        """Returns the words of ``get_compressed`` for a file: 4 bytes for each word, lowest first on every machine.
+
+        A coder with words of 16 bits writes 2 bytes for each.
+        """
         return bytes_of(self._compressed(self_delimiting))
 
     def _compressed(self, self_delimiting: bool = False) -> Numbers:
@@ -191,20 +179,20 @@ class RangeEncoder(Coder):
 
     def get_decoder(self) -> RangeDecoder:
         """Returns a decoder of the symbols that were encoded so far."""
-        return RangeDecoder(self._compressed())
+        return (RangeDecoder if self._size is LARGE else SmallRangeDecoder)(self._compressed())
 
     def num_words(self) -> int:
         """Returns the number of words that ``get_compressed`` returns."""
         return self._asked(lambda state: self._sealed(state, False).length)
 
     def num_bits(self) -> int:
-        """Returns the number of bits that ``get_compressed`` returns: 32 for each word."""
-        return 32 * self.num_words()
+        """Returns the number of bits that ``get_compressed`` returns: 32 for each word, or 16 for words of 16 bits."""
+        return self._size.bits * self.num_words()
 
     def is_empty(self) -> bool:
         """Returns whether no symbol was encoded."""
         state: _Writing = self._state
-        return state.numbers[1] == _WHOLE and not state.words.length
+        return state.numbers[1] == self._size.greatest and not state.words.length
 
     def pos(self) -> tuple[int, tuple[int, int]]:
         """Returns the position, for a decoder's ``seek``.
@@ -217,7 +205,7 @@ class RangeEncoder(Coder):
 
     def clear(self) -> None:
         """Removes all symbols."""
-        self._changed(lambda state: (_Writing(Words(state.words.memory, 0), _new_encoder()), None))
+        self._changed(lambda state: (_Writing(Words(state.words.memory, 0), self._new_numbers()), None))
 
     def _said(self, state: _Writing) -> str:
         return f"{state.words.length} words, and {state.held} held back"
@@ -226,7 +214,7 @@ class RangeEncoder(Coder):
         return packed(state.words), state.numbers
 
     def _unplain(self, plain: tuple[Any, ...]) -> _Writing:
-        return _Writing(unpacked(plain[0]), plain[1])
+        return _Writing(unpacked(plain[0], self._size), plain[1])
 
 
 class RangeDecoder(Coder):
@@ -237,30 +225,32 @@ class RangeDecoder(Coder):
     1
     """
 
+    _size = LARGE
+
     def __init__(self, compressed: List) -> None:
         """Creates a decoder at the beginning of ``compressed``. The decoder copies the words."""
-        words, it = copied(compressed), RangeDecoderState()
-        call("range_from_compressed", lent(words.memory), words.length, byref(it))
+        words, it = copied(compressed, self._size), self._size.decoder()
+        self._size.call("range_from_compressed", lent(words.memory), words.length, byref(it))
         self._begin(_reading(words, it))
 
     @classmethod
     def from_bytes(cls, data: Any) -> RangeDecoder:
         """Creates a decoder of bytes that the encoder's ``to_bytes`` returned.
 
-        Raises :class:`InvalidDataError` if these aren't 4 bytes for each word.
+        Raises :class:`InvalidDataError` if these aren't whole words.
         """
-        return cls(words_from(data))
+        return cls(words_from(data, cls._size))
 
     @overload
     def decode(self, model: Model) -> int:
         ...
 
     @overload
-    def decode(self, model: Model, amt: SupportsIndex, *, dtype: Any = None) -> Answer:
+    def decode(self, model: Model, amt: SupportsIndex, *, dtype: Any = None, out: Any = None) -> Answer:
         ...
 
     @overload
-    def decode(self, model: Model, *, amt: Amount, dtype: Any = None) -> Answer:
+    def decode(self, model: Model, *, amt: Amount, dtype: Any = None, out: Any = None) -> Answer:
         ...
 
     @overload
@@ -272,19 +262,24 @@ class RangeDecoder(Coder):
         ...
 
     @overload
-    def decode(self, model: Model, parameter: Parameter, /, *parameters: Parameter, dtype: Any = None) -> Answer:
+    def decode(
+        self, model: Model, parameter: Parameter, /, *parameters: Parameter, dtype: Any = None, out: Any = None
+    ) -> Answer:
         ...
 
-    def decode(self, model: Model, *amt_or_parameters: Any, amt: Any = None, dtype: Any = None) -> Any:
+    def decode(
+        self, model: Model, *amt_or_parameters: Any, amt: Any = None, dtype: Any = None, out: Any = None
+    ) -> Any:
         """Decodes one symbol, ``amt`` symbols, or one symbol for each set of parameters.
 
         ``amt`` is a number of symbols, or the shape of an array of them. Parameters may have any shape, and the answer
         has the shape to which they broadcast by numpy's rules. ``dtype`` is numpy's integer type of an array of symbols.
+        Or ``out`` is a numpy array of this shape, which gets the symbols and is returned.
 
         Raises :class:`InvalidDataError` if the words don't encode such symbols with the model. After an error the
         decoder is unchanged.
         """
-        if amt is None and dtype is None:
+        if amt is None and dtype is None and out is None:
             lane = self._lane
             if lane is not None and not amt_or_parameters and isinstance(model, Model):
                 symbol = lane.decode(self, model, ())
@@ -292,10 +287,26 @@ class RangeDecoder(Coder):
                 symbol = self._decoded_alone(model, amt_or_parameters)
             if symbol is not None:
                 return symbol
-        return self._changed(lambda it: decoded(it, model, amt_or_parameters, amt, dtype, _decode, _quantile))
+        wanted = AS_USUAL if dtype is None and out is None else Wanted(dtype, out)
+        return self._changed(
+            lambda it: decoded(it, self._size, model, amt_or_parameters, amt, wanted, self._decode, self._quantile)
+        )
+
+    def _decode(self, kind: str, state: _Reading, count: int, arguments: tuple[Any, ...]) -> _Reading:
+        it = self._size.decoder(*state.numbers)
+        self._size.call(f"range_decode{kind}", byref(it), *state.lent(), *arguments)
+        return _reading(state.words, it)
+
+    def _quantile(self, state: _Reading) -> int:
+        """Returns the quantile that selects the next symbol. Raises InvalidDataError if no encoder wrote the words."""
+        lower, length, point, _ = state.numbers
+        quantile = ((point - lower) & self._size.greatest) // (length >> self._size.precision)
+        if quantile >> self._size.precision:
+            raise errors.InvalidDataError(errors.INVALID_FOR_MODEL)
+        return quantile
 
     def _made_lane(self) -> Lane:
-        self._lane = _ReadingLane()
+        self._lane = _ReadingLane(self._size)
         return self._lane
 
     def seek(self, position: int, state: tuple[int, int]) -> None:
@@ -309,11 +320,11 @@ class RangeDecoder(Coder):
         def go(now: _Reading) -> tuple[_Reading, None]:
             if not 0 <= place <= now.words.length:
                 raise errors.WrongLengthError(errors.NO_SUCH_POSITION)
-            if not (0 <= lower <= _WHOLE and 0 <= length <= _WHOLE):
+            if not (0 <= lower <= self._size.greatest and 0 <= length <= self._size.greatest):
                 raise errors.InvalidDataError(errors.NO_SUCH_POSITION)
-            it = RangeDecoderState(*now.numbers)
+            it = self._size.decoder(*now.numbers)
             texts = {4: errors.NO_SUCH_POSITION, 7: errors.NO_SUCH_POSITION}
-            call("range_seek", byref(it), *now.lent(), place, lower, length, texts=texts)
+            self._size.call("range_seek", byref(it), *now.lent(), place, lower, length, texts=texts)
             return _reading(now.words, it), None
 
         self._changed(go)
@@ -322,7 +333,7 @@ class RangeDecoder(Coder):
         """Returns ``False`` if symbols are certainly left, and ``True`` if the decoder may have decoded all symbols."""
         state: _Reading = self._state
         maybe = c_uint32(0)
-        call("range_maybe_exhausted", byref(RangeDecoderState(*state.numbers)), *state.lent(), byref(maybe))
+        self._size.call("range_maybe_exhausted", byref(self._size.decoder(*state.numbers)), *state.lent(), byref(maybe))
         return bool(maybe.value)
 
     def _said(self, state: _Reading) -> str:
@@ -332,4 +343,30 @@ class RangeDecoder(Coder):
         return packed(state.words), state.numbers
 
     def _unplain(self, plain: tuple[Any, ...]) -> _Reading:
-        return _Reading(unpacked(plain[0]), plain[1])
+        return _Reading(unpacked(plain[0], self._size), plain[1])
+
+
+class SmallRangeEncoder(RangeEncoder):
+    """A range encoder with words of 16 bits and a precision of 12 bits, and otherwise like :class:`RangeEncoder`.
+
+    Models are those of ``stream.stack.SmallAnsCoder``.
+
+    >>> from constriction.stream.model import Categorical
+    >>> encoder, model = SmallRangeEncoder(), Categorical([1, 2, 1])
+    >>> encoder.encode([1, 0, 2, 1], model)
+    >>> SmallRangeDecoder(encoder.get_compressed()).decode(model, 4).tolist()
+    [1, 0, 2, 1]
+    """
+
+    _size = SMALL
+
+
+class SmallRangeDecoder(RangeDecoder):
+    """A range decoder with words of 16 bits and a precision of 12 bits. See :class:`SmallRangeEncoder`.
+
+    >>> from constriction.stream.model import Uniform
+    >>> SmallRangeDecoder([2**15]).decode(Uniform(2))
+    1
+    """
+
+    _size = SMALL

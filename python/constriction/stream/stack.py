@@ -3,20 +3,21 @@
 from __future__ import annotations
 
 from array import array
-from ctypes import byref, c_size_t, c_uint64
+from ctypes import byref, c_size_t
 from typing import Any, NamedTuple, SupportsIndex, Union, overload
 
 from .. import errors
 from .._buffers import Amount, Answer, List, Numbers, Parameter, Reals, Symbols, answered, lent
 from .._coder import Coder
+from .._answers import AS_USUAL, Wanted
 from .._coding import decoded, encoded
-from .._library import call
 from .._numbers import whole
+from .._sizes import LARGE, SMALL, Size
 from .._single import Buffer, Lane, made, memory_of
 from .._words import Words, bytes_of, copied, packed, unpacked, words_from
 from .model import Categorical, Model, QuantizedMixture, WeightTable
 
-__all__ = ["AnsCoder"]
+__all__ = ["AnsCoder", "SmallAnsCoder"]
 
 #: The models whose parameters are rows.
 RowModel = Union[Categorical, WeightTable, QuantizedMixture]
@@ -66,29 +67,12 @@ def _behind(before: _State, words: Words, length: int, head: int) -> _State:
     return _State(Words(words.memory, length), head, before.top, before.saved)
 
 
-def _encode(kind: str, state: _State, count: int, arguments: tuple[Any, ...]) -> _State:
-    words = state.words.reserve(count, state.top)  # A step writes at most one word.
-    head, length, needed = c_uint64(state.head), c_size_t(words.length), c_size_t(0)
-    call(f"ans_encode{kind}_reverse", byref(head), *words.lent(), byref(length), *arguments, byref(needed))
-    return _behind(state, words, length.value, head.value)
-
-
-def _decode(kind: str, state: _State, count: int, arguments: tuple[Any, ...]) -> _State:
-    words, head, length = state.words, c_uint64(state.head), c_size_t(state.words.length)
-    call(f"ans_decode{kind}", byref(head), *words.lent(), byref(length), *arguments)
-    return _behind(state, words, length.value, head.value)
-
-
-def _quantile(state: _State) -> int:
-    """Returns the quantile that selects the next symbol: a number below 2^24."""
-    return state.head & 0xFFFFFF
-
-
 class _Lane(Lane):
-    def __init__(self) -> None:
-        self._words, self._head, self._length = Buffer(), array("Q", (0,)), c_size_t()
+    def __init__(self, size: Size) -> None:
+        self._words, self._head, self._length = Buffer(), array(size.code_of_states, (0,)), c_size_t()
         lead = memory_of(self._head), self._words.address, self._words.capacity, byref(self._length)
-        super().__init__(lead, "ans_encode{}_reverse", "ans_decode{}")
+        super().__init__(size, lead, "ans_encode{}_reverse", "ans_decode{}")
+        self._mask = size.total - 1
 
     def load(self, state: _State, encodes: bool) -> _State:
         if encodes:
@@ -115,7 +99,7 @@ class _Lane(Lane):
         return made(_State, (words, self._head[0], top, saved))  # type: ignore[no-any-return]
 
     def quantile(self, state: _State) -> int:
-        return state[1] & 0xFFFFFF
+        return state[1] & self._mask
 
 
 class AnsCoder(Coder):
@@ -130,6 +114,8 @@ class AnsCoder(Coder):
     181
     """
 
+    _size = LARGE
+
     def __init__(self, compressed: List | None = None, seal: bool = False) -> None:
         """Creates an empty coder, or imports a coder from ``compressed``: words that ``get_compressed`` returned.
 
@@ -138,12 +124,12 @@ class AnsCoder(Coder):
 
         Raises :class:`InvalidDataError` if the last word is 0 and ``seal`` isn't set.
         """
-        words, head = copied(() if compressed is None else compressed), c_uint64(0)
+        words, head = copied(() if compressed is None else compressed, self._size), self._size.head(0)
         if compressed is not None:
             length = c_size_t(0)
             name = "ans_from_binary" if seal else "ans_from_compressed"
             texts = {7: errors.ENDS_WITH_ZERO_WORD}
-            call(name, lent(words.memory), words.length, byref(length), byref(head), texts=texts)
+            self._size.call(name, lent(words.memory), words.length, byref(length), byref(head), texts=texts)
             words = Words(words.memory, length.value)
         self._begin(_State(words, head.value, words.length))
 
@@ -165,7 +151,14 @@ class AnsCoder(Coder):
         ):
             return
         if not self._encoded_alone(symbols, model, parameters):
-            self._changed(lambda it: (encoded(it, symbols, model, parameters, _encode, True, self._ready), None))
+            self._changed(lambda it: (encoded(it, self._size, symbols, model, parameters, self._encode, True, self._ready), None))
+
+    def _encode(self, kind: str, state: _State, count: int, arguments: tuple[Any, ...]) -> _State:
+        words = state.words.reserve(count, state.top)  # A step writes at most one word.
+        head, length, needed = self._size.head(state.head), c_size_t(words.length), c_size_t(0)
+        lead = byref(head), *words.lent(), byref(length)
+        self._size.call(f"ans_encode{kind}_reverse", *lead, *arguments, byref(needed))
+        return _behind(state, words, length.value, head.value)
 
     def _ready(self, state: _State, count: int) -> _State:
         """Replaces the state by an equal one before an encode of ``count`` symbols writes over words ahead."""
@@ -177,11 +170,11 @@ class AnsCoder(Coder):
         ...
 
     @overload
-    def decode(self, model: Model, amt: SupportsIndex, *, dtype: Any = None) -> Answer:
+    def decode(self, model: Model, amt: SupportsIndex, *, dtype: Any = None, out: Any = None) -> Answer:
         ...
 
     @overload
-    def decode(self, model: Model, *, amt: Amount, dtype: Any = None) -> Answer:
+    def decode(self, model: Model, *, amt: Amount, dtype: Any = None, out: Any = None) -> Answer:
         ...
 
     @overload
@@ -193,18 +186,23 @@ class AnsCoder(Coder):
         ...
 
     @overload
-    def decode(self, model: Model, parameter: Parameter, /, *parameters: Parameter, dtype: Any = None) -> Answer:
+    def decode(
+        self, model: Model, parameter: Parameter, /, *parameters: Parameter, dtype: Any = None, out: Any = None
+    ) -> Answer:
         ...
 
-    def decode(self, model: Model, *amt_or_parameters: Any, amt: Any = None, dtype: Any = None) -> Any:
+    def decode(
+        self, model: Model, *amt_or_parameters: Any, amt: Any = None, dtype: Any = None, out: Any = None
+    ) -> Any:
         """Decodes one symbol, ``amt`` symbols, or one symbol for each set of parameters.
 
         ``amt`` is a number of symbols, or the shape of an array of them. Parameters may have any shape, and the answer
         has the shape to which they broadcast by numpy's rules. ``dtype`` is numpy's integer type of an array of symbols.
+        Or ``out`` is a numpy array of this shape, which gets the symbols and is returned.
 
         An empty coder decodes to symbols too, so the caller has to know the number of encoded symbols.
         """
-        if amt is None and dtype is None:
+        if amt is None and dtype is None and out is None:
             lane = self._lane
             if lane is not None and not amt_or_parameters and isinstance(model, Model):
                 symbol = lane.decode(self, model, ())
@@ -212,10 +210,22 @@ class AnsCoder(Coder):
                 symbol = self._decoded_alone(model, amt_or_parameters)
             if symbol is not None:
                 return symbol
-        return self._changed(lambda it: decoded(it, model, amt_or_parameters, amt, dtype, _decode, _quantile))
+        wanted = AS_USUAL if dtype is None and out is None else Wanted(dtype, out)
+        return self._changed(
+            lambda it: decoded(it, self._size, model, amt_or_parameters, amt, wanted, self._decode, self._quantile)
+        )
+
+    def _decode(self, kind: str, state: _State, count: int, arguments: tuple[Any, ...]) -> _State:
+        words, head, length = state.words, self._size.head(state.head), c_size_t(state.words.length)
+        self._size.call(f"ans_decode{kind}", byref(head), *words.lent(), byref(length), *arguments)
+        return _behind(state, words, length.value, head.value)
+
+    def _quantile(self, state: _State) -> int:
+        """Returns the quantile that selects the next symbol: a number below the sum of all weights."""
+        return state.head & self._size.total - 1
 
     def _made_lane(self) -> Lane:
-        self._lane = _Lane()
+        self._lane = _Lane(self._size)
         return self._lane
 
     def get_compressed(self, unseal: bool = False) -> Answer:
@@ -227,24 +237,27 @@ class AnsCoder(Coder):
         return found
 
     def to_bytes(self, unseal: bool = False) -> bytes:
-        """Returns the words of ``get_compressed`` for a file: 4 bytes for each word, lowest first on every machine."""
+        """Returns the words of ``get_compressed`` for a file: 4 bytes for each word, lowest first on every machine.
+
+        A coder with words of 16 bits writes 2 bytes for each.
+        """
         return bytes_of(self._exported("ans_into_binary" if unseal else "ans_into_compressed"))
 
     @classmethod
     def from_bytes(cls, data: Any, seal: bool = False) -> AnsCoder:
         """Imports a coder from bytes that ``to_bytes`` returned, or from any words with ``seal``.
 
-        Raises :class:`InvalidDataError` if these aren't 4 bytes for each word, and as the constructor does.
+        Raises :class:`InvalidDataError` if these aren't whole words, and as the constructor does.
         """
-        return cls(words_from(data), seal)
+        return cls(words_from(data, cls._size), seal)
 
     def get_binary(self) -> Answer:
         """Returns a copy of the words, followed by the words of the head below its leading 1.
 
-        ``AnsCoder(words, seal=True)`` imports these words. The coder is unchanged.
+        The constructor with ``seal`` imports these words. The coder is unchanged.
 
         Raises :class:`InvalidDataError` if the head is 0, or if the number of bits below its leading 1 isn't a multiple
-        of 32.
+        of 32 (of 16 for words of 16 bits).
         """
         found: Answer = answered(self._exported("ans_into_binary"))
         return found
@@ -254,7 +267,7 @@ class AnsCoder(Coder):
             words = (state.words.clone() if state.top > state.words.length else state.words).reserve(2)
             length, needed = c_size_t(words.length), c_size_t(0)
             texts = {7: errors.NO_WHOLE_WORDS}
-            call(name, state.head, *words.lent(), byref(length), byref(needed), texts=texts)
+            self._size.call(name, state.head, *words.lent(), byref(length), byref(needed), texts=texts)
             return Words(words.memory, length.value).numbers()
 
         return self._asked(export)
@@ -262,11 +275,11 @@ class AnsCoder(Coder):
     def num_words(self) -> int:
         """Returns the number of words that ``get_compressed`` returns."""
         state: _State = self._state
-        return state.words.length + (state.head.bit_length() + 31) // 32
+        return state.words.length + (state.head.bit_length() + self._size.bits - 1) // self._size.bits
 
     def num_bits(self) -> int:
-        """Returns the number of bits that ``get_compressed`` returns: 32 for each word."""
-        return 32 * self.num_words()
+        """Returns the number of bits that ``get_compressed`` returns: 32 for each word, or 16 for words of 16 bits."""
+        return self._size.bits * self.num_words()
 
     def num_valid_bits(self) -> int:
         """Returns the number of bits that carry information.
@@ -274,7 +287,7 @@ class AnsCoder(Coder):
         These are the bits below the head's leading 1, and all bits of the other words.
         """
         state: _State = self._state
-        return 32 * state.words.length + max(state.head.bit_length() - 1, 0)
+        return self._size.bits * state.words.length + max(state.head.bit_length() - 1, 0)
 
     def is_empty(self) -> bool:
         """Returns whether the coder has no words and its head is 0."""
@@ -297,7 +310,7 @@ class AnsCoder(Coder):
         length, head = whole(position), whole(state)
 
         def go(now: _State) -> tuple[_State, None]:
-            if not 0 <= length <= now.top or not 0 <= head < 1 << 64:
+            if not 0 <= length <= now.top or not 0 <= head <= self._size.greatest:
                 raise errors.WrongLengthError(errors.NO_SUCH_POSITION)
             return _State(Words(_whole(now).words.memory, length), head, now.top), None
 
@@ -317,5 +330,23 @@ class AnsCoder(Coder):
         return packed(Words(_whole(state).words.memory, state.top)), state.head, state.words.length
 
     def _unplain(self, plain: tuple[Any, ...]) -> _State:
-        kept = unpacked(plain[0])
+        kept = unpacked(plain[0], self._size)
         return _State(Words(kept.memory, plain[2]), plain[1], kept.length)
+
+
+class SmallAnsCoder(AnsCoder):
+    """A stack coder with words of 16 bits and a precision of 12 bits, and otherwise like :class:`AnsCoder`.
+
+    A model has at most 2^12 symbols. The weights of a ``WeightTable`` add up to 2^12. The other models share 2^12 out,
+    by the rules by which they share 2^24 out for an ``AnsCoder``.
+
+    >>> from constriction.stream.model import QuantizedGaussian
+    >>> coder, heights = SmallAnsCoder(), QuantizedGaussian(120, 220, 172.5, 9.25)
+    >>> coder.encode_reverse([181, 164, 170, 193], heights)
+    >>> len(coder.to_bytes())
+    4
+    >>> coder.decode(heights, amt=4).tolist()
+    [181, 164, 170, 193]
+    """
+
+    _size = SMALL

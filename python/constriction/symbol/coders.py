@@ -8,7 +8,7 @@ from typing import Any, NamedTuple, SupportsIndex, overload
 from .. import errors
 from .._buffers import SYMBOL, Answer, List, Numbers, Symbols, answered, room
 from .._coder import Coder
-from .._numbers import count_of, is_one, whole, words_of
+from .._numbers import count_of, is_one, sequence_of, whole, words_of
 from ._bits import Bits, bits_of, words_with
 from ._codebook import Codebook, codebook_wanted
 
@@ -23,12 +23,12 @@ def _symbol_codeword(symbol: Any, codebook: Codebook) -> tuple[int, int]:
     return codebook.codeword(whole(symbol))
 
 
-def _all_or_nothing(coder: Coder, listed: Any, codebook: Codebook, change: Callable[[Bits], tuple[Bits, None]]) -> None:
+def _all_or_nothing(coder: Coder, given: Any, codebook: Codebook, change: Callable[[Bits], tuple[Bits, None]]) -> None:
     """Makes a change. If it fails, raises an exception that names the symbol without a codeword."""
     try:
         coder._changed(change)
     except errors.ImpossibleSymbolError:
-        raise codebook.impossible(listed) from None
+        raise codebook.impossible(given) from None
 
 
 class _Place(NamedTuple):
@@ -60,7 +60,8 @@ class QueueEncoder(Coder):
         codebook_wanted(codebook)
         if is_one(symbols):
             return self.encode_symbol(symbols, codebook)  # type: ignore[arg-type]
-        listed = codebook.symbols(symbols)
+        given = sequence_of(symbols)
+        listed = codebook.symbols(given)
 
         def change(bits: Bits) -> tuple[Bits, None]:
             if len(listed) < _LONG:
@@ -71,7 +72,7 @@ class QueueEncoder(Coder):
             count = sum(codebook.codeword(it)[1] for it in listed)
             return bits.put(words.part(0, count), count), None
 
-        _all_or_nothing(self, listed, codebook, change)
+        _all_or_nothing(self, given, codebook, change)
 
     def encode_symbol(self, symbol: SupportsIndex, codebook: Codebook) -> None:
         """Encodes one symbol."""
@@ -230,7 +231,8 @@ class StackCoder(Coder):
         codebook_wanted(codebook)
         if is_one(symbols):
             return self.encode_symbol(symbols, codebook)  # type: ignore[arg-type]
-        listed = codebook.symbols(symbols)
+        given = sequence_of(symbols)
+        listed = codebook.symbols(given)
 
         def change(bits: Bits) -> tuple[Bits, None]:
             if len(listed) < _LONG:
@@ -240,7 +242,7 @@ class StackCoder(Coder):
             words = StackCoder(codebook.encoded(listed, True))._state
             return bits.put(words.part(0, words.length), words.length), None
 
-        _all_or_nothing(self, listed, codebook, change)
+        _all_or_nothing(self, given, codebook, change)
 
     def encode_symbol(self, symbol: SupportsIndex, codebook: Codebook) -> None:
         """Encodes one symbol."""

@@ -9,8 +9,8 @@ from typing import Any
 
 from .. import errors
 from .._buffers import WORD, Numbers, lent, room
-from .._library import call
 from .._numbers import is_one, sequence_of, whole, wholes_of
+from .._sizes import LARGE
 from .._words import Words
 from ._codebook import Codebook
 
@@ -69,12 +69,12 @@ class ExpGolomb(Codebook):
         count = len(symbols)
         words, length, needed = room(WORD, 3 * count + 1), c_size_t(0), c_size_t(0)  # A codeword has at most 65 bits.
         name = "exp_golomb_encode_stack" if stack else "exp_golomb_encode_queue"
-        call(name, lent(symbols), count, lent(words), len(words), byref(length), byref(needed))
+        LARGE.call(name, lent(symbols), count, lent(words), len(words), byref(length), byref(needed))
         return Words(words, length.value).numbers()
 
     def decoded(self, words: array[Any], count: int, stack: bool) -> Numbers:
         found = room(WORD, count)
         name = "exp_golomb_decode_stack" if stack else "exp_golomb_decode_queue"
         texts = {7: errors.INVALID_CODEWORD, 8: errors.CODEWORD_ENDED}
-        call(name, lent(words), len(words), lent(found), count, texts=texts)
+        LARGE.call(name, lent(words), len(words), lent(found), count, texts=texts)
         return found

@@ -11,8 +11,8 @@ from typing import Any
 
 from .. import errors
 from .._buffers import SYMBOL, WORD, List, Numbers, lent, room
-from .._library import call
-from .._numbers import floats_of, is_one, listed_of, places_of, sequence_of, whole, wholes_of
+from .._numbers import floats_of, is_one, listed_of, sequence_of, whole, wholes_of
+from .._sizes import LARGE
 from .._words import Words
 from ._bits import bits_of
 from ._codebook import Codebook
@@ -110,8 +110,8 @@ class _Tree(Codebook):
     def symbols(self, symbols: Any) -> array[Any]:
         given = symbols if is_one(symbols) else sequence_of(symbols)
         try:
-            return places_of(given, 0)
-        except errors.ImpossibleSymbolError:
+            return array(SYMBOL, (whole(given),)) if is_one(given) else wholes_of(SYMBOL, given)
+        except OverflowError:
             raise self.impossible(given) from None
 
     def encoded(self, symbols: array[Any], stack: bool) -> Numbers:
@@ -121,17 +121,17 @@ class _Tree(Codebook):
         words = room(WORD, len(symbols) + 1)
         arguments = (lent(weights), len(weights), lent(symbols), len(symbols))
         try:
-            call(name, *arguments, lent(words), len(words), byref(length), byref(needed), texts=self._texts)
+            LARGE.call(name, *arguments, lent(words), len(words), byref(length), byref(needed), texts=self._texts)
         except errors.NoSpaceError:
             words = room(WORD, needed.value)
-            call(name, *arguments, lent(words), len(words), byref(length), byref(needed), texts=self._texts)
+            LARGE.call(name, *arguments, lent(words), len(words), byref(length), byref(needed), texts=self._texts)
         return Words(words, length.value).numbers()
 
     def decoded(self, words: array[Any], count: int, stack: bool) -> Numbers:
         found, weights = room(SYMBOL, count), self._weights
         name = "huffman_decode_stack" if stack else "huffman_decode_queue"
         texts = {**self._texts, 7: errors.NOT_ENOUGH_WORDS}
-        call(name, lent(weights), len(weights), lent(words), len(words), lent(found), count, texts=texts)
+        LARGE.call(name, lent(weights), len(weights), lent(words), len(words), lent(found), count, texts=texts)
         return found
 
 

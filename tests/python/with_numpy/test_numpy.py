@@ -15,6 +15,7 @@ from typing import Any
 from unittest import mock
 
 from constriction import _units, errors
+from constriction._sizes import LARGE
 from constriction.store import Store
 from constriction.stream.chain import ChainCoder
 from constriction.stream.model import (
@@ -138,8 +139,8 @@ print(*kinds, type(coder.decode(Uniform(3), 2)).__name__)
         means, stds = array("d", given), array("d", (min(abs(it), 65535.99999) for it in given))
         chances = array("d", (it for it in stds if it <= 1))
         with mock.patch.object(_units, "numpy_module", return_value=None):
-            wanted_parts = _units.parts_of(chances)
-        self.assertEqual(_units.parts_of(chances), wanted_parts)
+            wanted_parts = _units.parts_of(chances, LARGE)
+        self.assertEqual(_units.parts_of(chances, LARGE), wanted_parts)
         with mock.patch.dict("sys.modules", numpy=None):
             wanted_rows = list(Bernoulli().rows((chances,)))
         self.assertEqual(list(Bernoulli().rows((chances,))), wanted_rows)

@@ -5,20 +5,20 @@ from __future__ import annotations
 import math
 from array import array
 from collections.abc import Callable, Iterator, Sequence
+from copy import copy
 from itertools import accumulate
 from typing import Any, NamedTuple
 
-from ..._buffers import WORD, listed
+from ..._buffers import lent, listed
 from ..._numbers import floats_of, is_one, listed_of, whole
+from ..._sizes import LARGE, Size
 from ...errors import ImpossibleSymbolError, Refusal, WrongLengthError, impossible, shown
 
 __all__ = [
     "ENDS",
     "FALLS",
     "MIXED",
-    "PRECISION",
     "ROW",
-    "TOTAL",
     "UNITS",
     "Bound",
     "Located",
@@ -37,8 +37,6 @@ ENDS, UNITS, ROW, MIXED = range(4)
 #: After ``_SELDOM`` calls with one symbol, a model of at most ``_MOST_ENDS`` symbols keeps its sums of weights.
 #: Before that, a model of at most ``_FEW_WEIGHTS`` symbols passes all weights.
 _SELDOM, _MOST_ENDS, _FEW_WEIGHTS = 2, 1 << 16, 64
-PRECISION = 24
-TOTAL = 1 << PRECISION
 FALLS = "expected a cumulative distribution function that never falls, got one that falls"
 #: The sum of the weights before the k-th symbol.
 Bound = Callable[[int], int]
@@ -63,15 +61,10 @@ class Located(NamedTuple):
         """The number of symbols that have parameters."""
         return len(self.scales)
 
-    def part(self, which: slice) -> Located:
-        """Returns the parameters of a slice of the symbols."""
-        if which == slice(0, len(self.scales)):
-            return self
-        return self._replace(locations=self.locations[which], scales=self.scales[which])
-
-    def lent(self) -> tuple[Any, ...]:
-        """Returns the arguments for C functions."""
-        return self.family, self.least, self.greatest, *listed(self.locations), *listed(self.scales)
+    def lent(self, part: slice) -> tuple[Any, ...]:
+        """Returns the arguments for C functions, with the parameters of a part of the symbols."""
+        start, count = part.start, part.stop - part.start
+        return self.family, self.least, self.greatest, lent(self.locations, start), count, lent(self.scales, start), count
 
 
 class Model:
@@ -80,6 +73,8 @@ class Model:
     The state of a model consists of plain values, so a model can be copied and pickled.
     """
 
+    #: The size of the coders' words. It determines the sum of the weights.
+    words: Size = LARGE
     #: The least symbol.
     first: int = 0
     #: The names of the parameters that callers pass for each symbol. There are none if the model has all parameters.
@@ -90,11 +85,31 @@ class Model:
     has_rows = False
     _fixed: array[int] | None = None
 
+    #: The number of symbols, if it is known without a table.
+    _count: int | None = None
     _often: tuple[int, Any, Any] | None = None
     _uses = 0
+    #: The same model for words of the other size, or None before its first use.
+    _twin: Model | None = None
 
     def __getstate__(self) -> dict[str, Any]:
-        return {name: it for name, it in vars(self).items() if name not in ("_often", "_uses")}
+        return {name: it for name, it in vars(self).items() if name not in ("_often", "_uses", "_twin")}
+
+    def at(self, words: Size) -> Model:
+        """Returns the same model for coders with words of this size."""
+        if words is self.words:
+            return self
+        if self._twin is None:
+            twin = copy(self)
+            twin.words, twin._fixed = words, self._refixed(words)
+            if twin._count is not None:
+                sized(twin._count, words)
+            self._twin = twin
+        return self._twin
+
+    def _refixed(self, words: Size) -> array[int] | None:
+        """Returns the weights for words of this size, if the caller passed them. Otherwise returns None."""
+        return None
 
     def _said(self) -> str:
         """Returns the model's arguments, for ``repr``."""
@@ -118,7 +133,7 @@ class Model:
     @property
     def size(self) -> int:
         """The number of symbols of a model that has all its parameters."""
-        return len(self.table())
+        return len(self.table()) if self._count is None else self._count
 
     @property
     def complete(self) -> bool:
@@ -136,7 +151,7 @@ class Model:
         weights = list(map(int.__sub__, ends[1:], ends))
         if min(weights) < 1:
             raise ValueError(FALLS)
-        return array(WORD, weights)
+        return array(self.words.code, weights)
 
     def _interval(self, symbol: int, parameters: tuple[Any, ...]) -> tuple[int, int]:
         """Returns the sum of the weights before a symbol, and the symbol's weight."""
@@ -155,7 +170,8 @@ class Model:
         These are the sum of the weights before the symbol, the symbol's weight, and the sum of the weights after it.
         """
         count, bound = self._bounds(parameters)
-        low, high, left, end = 0, count, 0, TOTAL
+        total = self.words.total
+        low, high, left, end = 0, count, 0, total
         while high - low > 1:
             middle = (low + high) // 2
             at = bound(middle)
@@ -165,7 +181,7 @@ class Model:
                 low, left = middle, at
             else:
                 high, end = middle, at
-        return low, array(WORD, (left, end - left, TOTAL - end))
+        return low, array(self.words.code, (left, end - left, total - end))
 
     def table(self) -> array[int]:
         """Returns the weights of a model that has all its parameters. No caller writes to them."""
@@ -197,7 +213,7 @@ class Model:
             self._uses += 1
             return self._seldom()
         table = self.table()
-        if len(table) > _MOST_ENDS or sum(table) != TOTAL:
+        if len(table) > _MOST_ENDS or sum(table) != self.words.total:
             return None
         self._often = ENDS, list(accumulate(table)), None
         return self._often
@@ -232,7 +248,7 @@ class Model:
             raise WrongLengthError(
                 f"expected as many sets of parameters as symbols, got {len(sets)} sets of parameters and {len(listed)} symbols"
             )
-        lefts, ps = array(WORD), array(WORD)
+        lefts, ps = array(self.words.code), array(self.words.code)
         for place, (symbol, parameters) in enumerate(zip(listed, sets)):
             try:
                 left, p = self._interval(symbol, parameters)
@@ -275,18 +291,18 @@ def shown_range(first: int, count: int, **parameters: float | None) -> str:
     return ", ".join([str(first), str(first + count - 1), *given])
 
 
-def spread(count: int, share: Callable[[int], float]) -> Bound:
-    """Returns a function for the sums of weights of ``count`` symbols.
+def spread(count: int, total: int, share: Callable[[int], float]) -> Bound:
+    """Returns a function for the sums of weights of ``count`` symbols, which add up to ``total``.
 
     Each symbol gets a weight of 1, and ``share``, which grows from 0 to 1, shares out the rest.
     """
-    free = TOTAL - count
+    free = total - count
 
     def bound(place: int) -> int:
         if place <= 0:
             return 0
         if place >= count:
-            return TOTAL
+            return total
         below = share(place)
         if below != below:
             raise ValueError(f"expected a number from the cumulative distribution function, got {below}")
@@ -295,10 +311,10 @@ def spread(count: int, share: Callable[[int], float]) -> Bound:
     return bound
 
 
-def sized(count: int) -> int:
+def sized(count: int, words: Size = LARGE) -> int:
     """Returns ``count``. Raises ValueError if weights can't be shared out to that number of symbols."""
-    if not 1 <= count <= TOTAL:
-        raise ValueError(f"expected a model of 1 to 2^24 symbols, got {shown(count)}")
+    if not 1 <= count <= words.total:
+        raise ValueError(f"expected a model of 1 to 2^{words.precision} symbols, got {shown(count)}")
     return count
 
 

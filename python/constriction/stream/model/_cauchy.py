@@ -28,6 +28,8 @@ class QuantizedCauchy(Model):
     [1, 0, 87]
     """
 
+    _count: int
+
     def __init__(
         self,
         min_symbol_inclusive: SupportsIndex,
@@ -57,4 +59,4 @@ class QuantizedCauchy(Model):
         if not (math.isfinite(location) and 0 < scale < math.inf):
             raise ValueError(f"expected a finite loc and a positive and finite scale, got {location} and {scale}")
         start = self.first - 0.5 - location
-        return self._count, spread(self._count, lambda place: 0.5 + math.atan((start + place) / scale) / math.pi)
+        return self._count, spread(self._count, self.words.total, lambda place: 0.5 + math.atan((start + place) / scale) / math.pi)

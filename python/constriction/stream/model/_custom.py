@@ -27,6 +27,8 @@ class CustomModel(Model):
     [3, 0, 12]
     """
 
+    _count: int
+
     def __init__(
         self,
         cdf: Callable[..., Any],
@@ -55,7 +57,7 @@ class CustomModel(Model):
 
     def _bounds(self, parameters: tuple[Any, ...]) -> tuple[int, Bound]:
         cdf, start = self._cdf, self.first - 0.5
-        return self._count, spread(self._count, lambda place: real(cdf(start + place, *parameters)))
+        return self._count, spread(self._count, self.words.total, lambda place: real(cdf(start + place, *parameters)))
 
     def _interval(self, symbol: int, parameters: tuple[Any, ...]) -> tuple[int, int]:
         """Returns the interval of a symbol.

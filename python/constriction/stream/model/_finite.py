@@ -8,11 +8,12 @@ from collections.abc import Iterator, Sequence
 from itertools import accumulate
 from typing import Any, SupportsIndex
 
-from ..._buffers import NUMBER, WORD, Real, numpy_module, room
+from ..._buffers import NUMBER, Real, numpy_module, room
 from ..._numbers import floats_of, is_one, real, whole
+from ..._sizes import LARGE, SMALL, Size
 from ..._units import parts_of
 from ...errors import shown
-from ._base import ROW, TOTAL, Bound, Model, sized, spread
+from ._base import ROW, Bound, Model, sized, spread
 from ._table import ROWS_AT_A_TIME, Rows
 
 __all__ = ["Bernoulli", "Binomial", "Uniform"]
@@ -23,8 +24,8 @@ class Bernoulli(Rows):
 
     If ``p`` is missing, pass a list of probabilities to the coder's calls. ``perfect`` is ignored.
 
-    The weight of 1 is ``p`` rounded once to a multiple of 2^-24, half to even, and at least 1 and at most 2^24 - 1.
-    Raises ValueError if ``p`` isn't between 0 and 1.
+    The weight of 1 is ``p`` rounded once to a multiple of 2^-24, half to even, and at least 1 and at most 2^24 - 1. For
+    words of 16 bits, 12 stands for 24. Raises ValueError if ``p`` isn't between 0 and 1.
 
     >>> Bernoulli(0.25).table().tolist() == [3 * 2**22, 2**22]
     True
@@ -37,13 +38,20 @@ class Bernoulli(Rows):
 
         If you leave ``p`` out, pass a list of probabilities to the coder's calls.
         """
+        self._p = None if p is None else real(p)
         if p is None:
             self.missing = ("p",)
         else:
-            self._fixed = _pairs(parts_of(array(NUMBER, (real(p),))))
+            self._fixed = self._weights(())
+
+    def _weights(self, parameters: tuple[Any, ...]) -> array[int]:
+        return _pairs(parts_of(array(NUMBER, (self._p,)), self.words), self.words)  # type: ignore[arg-type]
+
+    def _compared(self) -> dict[str, Any]:
+        return {"tables": () if self._p is None else (self.at(LARGE).table(), self.at(SMALL).table())}
 
     def _said(self) -> str:
-        return "" if self._fixed is None else repr(self._fixed[1] / TOTAL)
+        return "" if self._fixed is None else repr(self._fixed[1] / self.words.total)
 
     def is_single(self, given: Sequence[Any]) -> bool:
         return all(map(is_one, given))
@@ -51,34 +59,35 @@ class Bernoulli(Rows):
     def _alone_by(self, given: tuple[Any, ...]) -> tuple[int, Any, Any] | None:
         if len(given) != 1 or not self.missing or not is_one(given[0]):
             return None
-        one = parts_of(array(NUMBER, (real(given[0]),)))[0]
-        return ROW, array(WORD, (TOTAL - one, one)), None
+        one = parts_of(array(NUMBER, (real(given[0]),)), self.words)[0]
+        return ROW, array(self.words.code, (self.words.total - one, one)), None
 
     def rows(self, given: Sequence[Any]) -> Iterator[tuple[array[int], int, int]]:
         """Yields two weights for each symbol, several symbols at a time."""
         self._known(given)
-        ones = parts_of(floats_of(given[0]))
+        ones = parts_of(floats_of(given[0]), self.words)
         for start in range(0, len(ones), ROWS_AT_A_TIME // 2):
             some = ones[start : start + ROWS_AT_A_TIME // 2]
-            yield _pairs(some), 2, len(some)
+            yield _pairs(some, self.words), 2, len(some)
 
 
-def _pairs(ones: array[int]) -> array[int]:
+def _pairs(ones: array[int], words: Size) -> array[int]:
     """Returns the weights of 0 and 1, alternately, from the weights of 1."""
-    weights, numpy = room(WORD, 2 * len(ones)), numpy_module()
+    weights, numpy = room(words.code, 2 * len(ones), array), numpy_module()
     if numpy is not None and len(ones):
-        table = numpy.frombuffer(weights, dtype="uint32").reshape(-1, 2)
-        table[:, 1] = numpy.frombuffer(ones, dtype="uint32")
-        table[:, 0] = TOTAL - table[:, 1]
+        table = numpy.frombuffer(weights, dtype=words.code).reshape(-1, 2)
+        table[:, 1] = numpy.frombuffer(ones, dtype=words.code)
+        table[:, 0] = words.total - table[:, 1]
     else:
-        weights[0::2], weights[1::2] = array(WORD, map(TOTAL.__sub__, ones)), ones
+        weights[0::2], weights[1::2] = array(words.code, map(words.total.__sub__, ones)), ones
     return weights
 
 
 class Uniform(Model):
     """A model of the symbols 0 .. size - 1 with equal weights.
 
-    Each weight is 2^24 / size, rounded down. The last symbol's weight is greater by the remainder.
+    Each weight is 2^24 / size (2^12 / size for words of 16 bits), rounded down. The last symbol's weight is greater by
+    the remainder.
 
     If ``size`` is missing, pass a list of sizes to the coder's calls. Raises ValueError if a size isn't between 1 and
     2^24.
@@ -92,23 +101,23 @@ class Uniform(Model):
 
         If you leave ``size`` out, pass a list of sizes to the coder's calls.
         """
-        self._size = None if size is None else sized(whole(size))
+        self._count = None if size is None else sized(whole(size))
         if size is None:
             self.missing = ("size",)
 
     def _said(self) -> str:
-        return "" if self._size is None else str(self._size)
+        return "" if self._count is None else str(self._count)
 
     def _bounds(self, parameters: tuple[Any, ...]) -> tuple[int, Bound]:
-        given = parameters[0] if parameters else self._size
-        size = sized(_whole_float(given, "a size"))
-        each = TOTAL // size
-        return size, lambda place: place * each if place < size else TOTAL
+        given, total = parameters[0] if parameters else self._count, self.words.total
+        size = sized(_whole_float(given, "a size"), self.words)
+        each = total // size
+        return size, lambda place: place * each if place < size else total
 
     def _weights(self, parameters: tuple[Any, ...]) -> array[int]:
         size, bound = self._bounds(parameters)
-        weights = array(WORD, (bound(1),)) * size
-        weights[-1] = TOTAL - bound(size - 1)
+        weights = array(self.words.code, (bound(1),)) * size
+        weights[-1] = self.words.total - bound(size - 1)
         return weights
 
 
@@ -153,9 +162,9 @@ class Binomial(Model):
         p = next(given) if self._p is None else self._p
         if not 0 <= p <= 1:
             raise ValueError(f"expected a probability between 0 and 1, got {p}")
-        sized(n + 1)
+        sized(n + 1, self.words)
         sums = array("d", accumulate((_chance(n, k, p) for k in range(n + 1)), initial=0.0))
-        return n + 1, spread(n + 1, lambda place: sums[place])
+        return n + 1, spread(n + 1, self.words.total, lambda place: sums[place])
 
 
 def _chance(n: int, k: int, p: float) -> float:

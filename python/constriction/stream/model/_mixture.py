@@ -6,7 +6,7 @@ from array import array
 from collections.abc import Sequence
 from typing import Any, NamedTuple
 
-from ..._buffers import listed
+from ..._buffers import lent
 from ..._numbers import grid_of, is_row
 from ..._units import (
     FARTHEST, MOST_WEIGHT, NARROWEST, SHARES, UNITS_OF_ONE, WIDEST, component_weights_of, locations_of, moved, scales_of, units_of,
@@ -43,21 +43,11 @@ class Mixed(NamedTuple):
         """The number of symbols that have parameters."""
         return len(self.scales) // self.width
 
-    def part(self, which: slice) -> Mixed:
-        """Returns the parameters of a slice of the symbols."""
-        if which == slice(0, self.symbols):
-            return self
-        rows = slice(which.start * self.width, which.stop * self.width)
-        return self._replace(
-            weights=self.weights[rows], locations=self.locations[rows], scales=self.scales[rows]
-        )  # fmt: skip
-
-    def lent(self) -> tuple[Any, ...]:
-        """Returns the arguments for C functions."""
-        return (
-            self.family, self.least, self.greatest, self.width,
-            *listed(self.weights), *listed(self.locations), *listed(self.scales),
-        )  # fmt: skip
+    def lent(self, part: slice) -> tuple[Any, ...]:
+        """Returns the arguments for C functions, with the parameters of a part of the symbols."""
+        start, count = part.start * self.width, (part.stop - part.start) * self.width
+        lists = (lent(self.weights, start), count, lent(self.locations, start), count, lent(self.scales, start), count)
+        return self.family, self.least, self.greatest, self.width, *lists
 
 
 class QuantizedMixture(Model):
@@ -94,17 +84,12 @@ class QuantizedMixture(Model):
                 f" got {components!r}"
             )
         self._components = components
-        self.first = components.first
+        self.first, self._count = components.first, components.size
         self.missing = ("weight", *components._names)
 
     def _said(self) -> str:
         kind, of = type(self._components).__name__, self._components
         return f"{kind}({shown_range(of.first, of.size)})"
-
-    @property
-    def size(self) -> int:
-        """The number of symbols."""
-        return self._components.size
 
     def is_single(self, given: Sequence[Any]) -> bool:
         """Returns whether these are the parameters of a single symbol."""

@@ -10,10 +10,9 @@ from collections.abc import Sequence
 from typing import Any, SupportsIndex
 
 from ..._buffers import NUMBER, SYMBOL, WORD, Real, listed, room
-from ..._library import call
 from ..._numbers import floats_of, real
 from ..._units import FARTHEST, NARROWEST, UNITS_OF_ONE, WIDEST, locations_of, moved, scales_of, unit_of
-from ._base import TOTAL, UNITS, Bound, Located, Model, equally_long, ranged, shown_range
+from ._base import UNITS, Bound, Located, Model, equally_long, ranged, shown_range
 
 __all__ = ["QuantizedGaussian", "QuantizedLaplace", "QuantizedLogistic"]
 
@@ -33,6 +32,7 @@ class _Quantized(Model):
     once. A scale is at least 1 and at most 2^32 - 1 units. One of 2^32 units or more is refused.
     """
 
+    _count: int
     _family: int
     _names: tuple[str, str]
     _own_location: int | None
@@ -82,11 +82,6 @@ class _Quantized(Model):
         scales = scales_of(other, lists.pop(0)) if self._own_scale is None else array(WORD, (self._own_scale,)) * count
         return Located(self._family, self._least, self._least + self._count - 1, locations, scales)
 
-    @property
-    def size(self) -> int:
-        """The number of symbols."""
-        return self._count
-
     def _seldom(self) -> tuple[int, Any, Any] | None:
         return (
             (UNITS, self._own_location, self._own_scale)
@@ -121,19 +116,19 @@ class _Quantized(Model):
         The C functions make the tables of models with more symbols.
         """
         assert self._count == 1
-        return 1, lambda place: TOTAL if place else 0
+        return 1, lambda place: self.words.total if place else 0
 
     def _weights(self, parameters: tuple[Any, ...]) -> array[int]:
         it = self._located(parameters)
         if self._count == 1:
-            return array(WORD, (TOTAL,))
-        weights = array(WORD)
+            return array(self.words.code, (self.words.total,))
+        weights = array(self.words.code)
         for start in range(0, self._count, _WEIGHTS_AT_A_TIME):
             places = array(SYMBOL, range(start, min(start + _WEIGHTS_AT_A_TIME, self._count)))
             count = len(places)
             alike = it._replace(locations=it.locations * count, scales=it.scales * count)
-            lefts, ps = room(WORD, count), room(WORD, count)
-            call("quantized_intervals", *alike.lent(), *listed(places), *listed(lefts), *listed(ps))
+            lefts, ps = room(self.words.code, count, array), room(self.words.code, count, array)
+            self.words.call("quantized_intervals", *alike.lent(slice(0, count)), *listed(places), *listed(lefts), *listed(ps))
             weights += ps
         return weights
 

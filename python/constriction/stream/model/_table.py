@@ -7,11 +7,11 @@ from collections.abc import Iterator, Sequence
 from operator import index
 from typing import Any
 
-from ..._buffers import WORD, List, Reals, addressed, room
-from ..._library import call
+from ..._buffers import List, Reals, addressed, room
 from ..._numbers import as_numpy, is_one, is_row, plain_of, reals_of, rows_of, sequence_of, table_of, wholes_of, words_of
 from ..._units import counts_of, counts_of_row, counts_of_rows, counts_of_wholes
-from ...errors import WrongWeightsError
+from ..._sizes import LARGE, SMALL, Size
+from ...errors import WrongWeightsError, wrong_weights
 from ._base import ROW, Model, sized
 
 __all__ = ["ROWS_AT_A_TIME", "Categorical", "Rows", "WeightTable"]
@@ -33,9 +33,10 @@ class Rows(Model):
 
     def _said(self) -> str:
         """Returns the weights of the symbols as text."""
-        if self._fixed is None:
+        if self.missing:
             return ""
-        return str(self._fixed.tolist()) if len(self._fixed) <= 8 else f"<{len(self._fixed)} weights>"
+        table = self.table()
+        return str(table.tolist()) if len(table) <= 8 else f"<{len(table)} weights>"
 
     def _row(self, numbers: Any) -> array[int]:
         """Returns the weights that a list of parameters stands for."""
@@ -57,12 +58,12 @@ class Rows(Model):
 
     def _packed(self, rows: Any, start: int) -> Iterator[tuple[array[int], int, int]]:
         """Does the same as ``rows``, for rows of which the first is number ``start``."""
-        packed: array[int] = array(WORD)
+        packed: array[int] = array(self.words.code)
         width = 0
         for row in self._listed(rows, start):
             if packed and (len(row) != width or len(packed) + width > ROWS_AT_A_TIME):
                 yield packed, width, len(packed) // width
-                packed = array(WORD)
+                packed = array(self.words.code)
             width = len(row)
             if not width:
                 yield row, 1, 1  # A row without weights. The C function refuses it.
@@ -88,8 +89,8 @@ class Rows(Model):
 class WeightTable(Rows):
     """A model with the caller's weights: symbol 0 has the first weight, symbol 1 the next, and so on.
 
-    The weights are whole numbers that add up to 2^24. The model copies them. If the weights are missing, pass a row of
-    weights for each symbol to the coder's calls.
+    The weights are whole numbers that add up to 2^24, or to 2^12 for coders with words of 16 bits. The model copies
+    them. If the weights are missing, pass a row of weights for each symbol to the coder's calls.
 
     >>> from constriction.stream.stack import AnsCoder
     >>> coder, model = AnsCoder(), WeightTable([3, 2, 16777211])
@@ -99,7 +100,7 @@ class WeightTable(Rows):
     """
 
     def __init__(self, weights: List | None = None) -> None:
-        """Creates a model with these weights: whole numbers that add up to 2^24.
+        """Creates a model with these weights: whole numbers that add up to 2^24, or to 2^12 for words of 16 bits.
 
         If you leave them out, pass a row of weights for each symbol to the coder's calls.
         """
@@ -111,11 +112,18 @@ class WeightTable(Rows):
     def _row(self, numbers: Any) -> array[int]:
         if type(numbers) is list and _INT.issuperset(map(type, numbers)):
             try:
-                return array(WORD, numbers)
+                return array(self.words.code, numbers)
             except OverflowError:
                 pass  # `words_of` raises an exception that names the weight.
-        return words_of(numbers, "weight", WrongWeightsError)
+        return words_of(numbers, "weight", WrongWeightsError, self.words.code)
 
+    def _refixed(self, words: Size) -> array[int] | None:
+        if self._fixed is None:
+            return None
+        total = sum(self._fixed)
+        if total != words.total:
+            raise WrongWeightsError(f"{wrong_weights(words.total)}, got a sum of {total}")
+        return array(words.code, self._fixed)
 
     def rows(self, given: Sequence[Any]) -> Iterator[tuple[array[int], int, int]]:
         """Does the same as ``Rows.rows``. Copies the rows of a numpy array together."""
@@ -129,7 +137,7 @@ class WeightTable(Rows):
         for start in range(0, len(table), size):
             some = table[start : start + size]
             try:
-                yield wholes_of(WORD, some.ravel()), width, len(some)
+                yield wholes_of(self.words.code, some.ravel()), width, len(some)
             except OverflowError:
                 yield from self._packed(some, start)  # This raises an exception that names the weight.
 
@@ -142,7 +150,8 @@ class Categorical(Rows):
     too. A count of 0 gets an equally small share.
 
     All later computations are in whole numbers. Each symbol gets a weight of at least 1, and the others share the rest
-    of 2^24 in proportion. Shares are rounded by the largest remainders, and ties go to the first symbol.
+    of 2^24 in proportion (of 2^12 for words of 16 bits). Shares are rounded by the largest remainders, and ties go to
+    the first symbol.
 
     Raises ValueError if no probability is above 0, if a probability is negative or not finite, or if there are more
     than 2^24 probabilities.
@@ -163,12 +172,40 @@ class Categorical(Rows):
 
         If you leave them out, pass a row for each symbol to the coder's calls. ``perfect`` and ``lazy`` are ignored.
         """
+        self._counts: array[int] | None = None
         if probabilities is None:
             self.missing = ("probabilities",)
         else:
-            self._fixed = self._row(probabilities)
+            self._counts = self._counted(probabilities)
+            self._fixed = self._weights(())
+
+    def _compared(self) -> dict[str, Any]:
+        """Returns the weights for words of both sizes."""
+        tables = () if self._counts is None else tuple(self.at(it).table() for it in self._sizes())
+        return {"missing": self.missing, "tables": tables}
+
+    def _sizes(self) -> tuple[Size, ...]:
+        """Returns the sizes of words for which there are weights."""
+        return (LARGE, SMALL) if self._counts is not None and len(self._counts) <= SMALL.total else (LARGE,)
+
+    def __getstate__(self) -> dict[str, Any]:
+        return {name: it for name, it in super().__getstate__().items() if name != "_fixed"}
+
+    def _weights(self, parameters: tuple[Any, ...]) -> array[int]:
+        return self._shared(self._counts)  # type: ignore[arg-type]
+
+    def _shared(self, counts: array[int]) -> array[int]:
+        """Returns weights in proportion to the counts."""
+        sized(len(counts), self.words)
+        weights = room(self.words.code, len(counts), array)
+        self.words.call("weights_of_counts", *addressed(counts), *addressed(weights))
+        return weights
 
     def _row(self, numbers: Any) -> array[int]:
+        return self._shared(self._counted(numbers))
+
+    def _counted(self, numbers: Any) -> array[int]:
+        """Returns the counts that probabilities or counts stand for."""
         counts = counts_of_row(numbers)
         if counts is None:
             if is_one(numbers):
@@ -177,10 +214,7 @@ class Categorical(Rows):
             sized(len(given))
             wholes = _wholes(given)
             counts = counts_of(reals_of(given)) if wholes is None else counts_of_wholes(wholes)
-        sized(len(counts))
-        weights = room(WORD, len(counts), array)
-        call("weights_of_counts", *addressed(counts), *addressed(weights))
-        return weights
+        return counts
 
     def rows(self, given: Sequence[Any]) -> Iterator[tuple[array[int], int, int]]:
         """Does the same as ``Rows.rows``. Rounds the rows of a numpy array together."""
@@ -188,7 +222,7 @@ class Categorical(Rows):
         if table is None or not self.missing:
             yield from super().rows(given)
             return
-        width = sized(table.shape[1])
+        width = sized(table.shape[1], self.words)
         size = max(ROWS_AT_A_TIME // width, 1)
         for start in range(0, len(table), size):
             some = table[start : start + size]
@@ -196,10 +230,10 @@ class Categorical(Rows):
             if counts is None:
                 yield from self._packed(some, start)  # This raises an exception that names the probability.
                 continue
-            weights = room(WORD, len(counts))
+            weights = room(self.words.code, len(counts), array)
             at, to = counts.buffer_info()[0], weights.buffer_info()[0]
             for i in range(0, len(counts), width):
-                call("weights_of_counts", at + counts.itemsize * i, width, to + weights.itemsize * i, width)
+                self.words.call("weights_of_counts", at + counts.itemsize * i, width, to + weights.itemsize * i, width)
             yield weights, width, len(some)
 
 
