@@ -15,7 +15,7 @@ from typing import TYPE_CHECKING, Any, SupportsFloat, SupportsIndex, TypeVar, Un
 
 __all__ = [
     "ANSWER", "BYTE", "NUMBER", "SHORT", "SYMBOL", "WORD", "Amount", "Answer", "Array", "List", "Numbers", "Parameter", "Real", "Reals", "Symbols",
-    "addressed", "answered", "lent", "listed", "numpy_for_answers", "numpy_module", "room",
+    "answered", "answered_alone", "lent", "listed", "numpy_for_answers", "numpy_module", "room",
 ]  # fmt: skip
 
 #: A list of whole numbers, as words or symbols: a list, a tuple, an ``array.array``, a numpy array.
@@ -143,14 +143,9 @@ def listed(memory: Any) -> tuple[Any, int]:
     return lent(memory), len(memory)
 
 
-def addressed(memory: array[Any]) -> tuple[int, int]:
-    """Returns the address of the memory of an array, and the number of items. The memory must stay as it is meanwhile.
-    """
-    return memory.buffer_info()
-
-
-#: Zeros that ``room`` copies.
+#: Zeros that ``room`` copies, and the number of bytes of an item.
 _ZEROS = bytes(1 << 16)
+_SIZES = {code: array(code).itemsize for code in "BHIQqd"}
 
 
 @overload
@@ -176,12 +171,12 @@ def room(code: str, count: int, kind: Any = Numbers) -> Any:
         if numpy is not None:
             return numpy.empty(count, dtype=_KINDS[code])
         kind = Numbers
-    numbers = kind(code)
-    at_a_time = len(_ZEROS) // numbers.itemsize
-    if count >= at_a_time:
-        numbers.frombytes(_ZEROS)
-        numbers *= count // at_a_time
-    numbers.frombytes(_ZEROS[: count % at_a_time * numbers.itemsize])
+    at_a_time = len(_ZEROS) // _SIZES[code]
+    if count <= at_a_time:
+        return kind(code, _ZEROS[: count * _SIZES[code]])
+    numbers = kind(code, _ZEROS)
+    numbers *= count // at_a_time
+    numbers.frombytes(_ZEROS[: count % at_a_time * _SIZES[code]])
     return numbers
 
 
@@ -206,6 +201,12 @@ def numpy_for_answers() -> Any:
         except ImportError:
             pass
     return numpy_module()
+
+
+def answered_alone(symbol: int) -> Any:
+    """Returns a list of one symbol as a caller gets it."""
+    numpy = numpy_for_answers()
+    return Numbers(SYMBOL, (symbol,)) if numpy is None else numpy.array((symbol,), "int64")
 
 
 def answered(numbers: Any) -> Any:

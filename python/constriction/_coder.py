@@ -8,7 +8,7 @@ from operator import index
 from threading import RLock
 from typing import Any, TypeVar
 
-from ._buffers import SYMBOL, Numbers, answered
+from ._buffers import answered_alone
 from ._numbers import is_one
 from ._single import Lane
 from .stream.model._base import Model
@@ -85,7 +85,7 @@ class Coder:
         symbol = (self._lane or self._made_lane()).decode(self, model, given)
         if symbol is None or not given or model.core or all(isinstance(it, float) or is_one(it) for it in given):
             return symbol
-        return answered(Numbers(SYMBOL, (symbol,)))
+        return answered_alone(symbol)
 
     def _compared(self, state: Any) -> Any:
         """Returns a value that is equal for equal coders."""

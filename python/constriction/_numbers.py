@@ -39,7 +39,8 @@ def is_row(numbers: Any) -> bool:
     """Returns whether these are a list of numbers that isn't empty, and no list of rows."""
     kind = type(numbers)
     if (kind is list or kind is tuple) and numbers:
-        return type(numbers[0]) is float or is_one(numbers[0])
+        first = type(numbers[0])
+        return first is float or first is int or is_one(numbers[0])
     dimensions = getattr(numbers, "ndim", None)
     if dimensions is not None:
         return bool(dimensions == 1 and len(numbers))

@@ -143,8 +143,6 @@ class Lane:
                     model = model.at(self.size)
                 order = None if given else model._often
                 if order is None:
-                    if given and model.core and not model.is_single(given):
-                        return None
                     order = model.alone(given)
                     if order is None:
                         return None

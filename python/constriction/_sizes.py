@@ -6,7 +6,8 @@ from ctypes import c_uint32, c_uint64
 from typing import Any
 
 from ._library import (
-    ChainHeads, RangeDecoderState, RangeEncoderState, SmallChainHeads, SmallRangeDecoderState, SmallRangeEncoderState, call, plain_function,
+    ChainHeads, RangeDecoderState, RangeEncoderState, SmallChainHeads, SmallRangeDecoderState, SmallRangeEncoderState, bound, call,
+    plain_function,
 )  # fmt: skip
 
 __all__ = ["LARGE", "SMALL", "Size"]
@@ -25,6 +26,8 @@ class Size:
         #: The types of the numbers of coders in C.
         self.head, self.encoder, self.decoder, self.heads = head, encoder, decoder, heads
         self.end = f"_u{bits}"
+        #: The C function that computes weights from counts. It gets two addresses, each with a number of items.
+        self.share_out = bound(f"weights_of_counts_u{bits}")
 
     def __reduce__(self) -> str:
         return "SMALL" if self.bits == 16 else "LARGE"

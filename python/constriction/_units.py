@@ -112,9 +112,9 @@ def unit_of(number: Any, origin: float, least: float, greatest: float) -> int | 
 
     Returns None for a float outside the bounds, and for a list, unless it is a list of one float.
     """
+    if type(number) is not float and hasattr(number, "__len__"):
+        number = _only(number)
     if type(number) is not float:
-        if hasattr(number, "__len__"):
-            number = _only(number)
         if not hasattr(number, "__float__") and type(number) is not int:
             return None
         number = real(number)
@@ -142,8 +142,7 @@ def units_of(floats: Any, unit: float, origin: float, within: Ends) -> array[int
             listed = [it - origin for it in listed]
         if not (within[0] <= min(listed) and max(listed) <= within[1]):
             return None
-        nearest: Callable[[float], int] = round
-        return array(SYMBOL if within[0] < 0 else WORD, map(nearest, map(unit.__mul__, listed)))
+        return array(SYMBOL if within[0] < 0 else WORD, [round(it * unit) for it in listed])
     except (TypeError, ValueError, OverflowError):
         return None
 
@@ -219,7 +218,7 @@ def counts_of_row(row: Any) -> array[int] | None:
             return None
         least, greatest, total = min(row), max(row), sum(row)
     elif numpy is not None and type(row) is numpy.ndarray and row.ndim == 1 and row.dtype.char == "d" and len(row):
-        least, greatest = numpy.minimum.reduce(row), float(numpy.maximum.reduce(row))
+        least, greatest = row.item(row.argmin()), row.item(row.argmax())
         total = greatest
     else:
         return None

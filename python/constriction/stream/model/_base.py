@@ -227,10 +227,6 @@ class Model:
         self._known(given)
         return list(zip(*equally_long([floats_of(it) for it in given])))
 
-    def is_single(self, given: Sequence[Any]) -> bool:
-        """Returns whether these are the parameters of a single symbol."""
-        return all(map(is_one, given))
-
     def explained(self, refused: Refusal, given: Sequence[Any]) -> Refusal:
         """Returns the exception of a C function. Subclasses add the parameters at fault to its text."""
         return refused

@@ -53,9 +53,6 @@ class Bernoulli(Rows):
     def _said(self) -> str:
         return "" if self._fixed is None else repr(self._fixed[1] / self.words.total)
 
-    def is_single(self, given: Sequence[Any]) -> bool:
-        return all(map(is_one, given))
-
     def _alone_by(self, given: tuple[Any, ...]) -> tuple[int, Any, Any] | None:
         if len(given) != 1 or not self.missing or not is_one(given[0]):
             return None

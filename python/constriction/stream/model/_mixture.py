@@ -91,10 +91,6 @@ class QuantizedMixture(Model):
         kind, of = type(self._components).__name__, self._components
         return f"{kind}({shown_range(of.first, of.size)})"
 
-    def is_single(self, given: Sequence[Any]) -> bool:
-        """Returns whether these are the parameters of a single symbol."""
-        return all(map(is_row, given))
-
     def _alone_by(self, given: tuple[Any, ...]) -> tuple[int, Any, Any] | None:
         if len(given) != 3 or not all(map(is_row, given)):
             return None

@@ -7,7 +7,7 @@ from collections.abc import Iterator, Sequence
 from operator import index
 from typing import Any
 
-from ..._buffers import List, Reals, addressed, room
+from ..._buffers import List, Reals, room
 from ..._numbers import as_numpy, is_one, is_row, plain_of, reals_of, rows_of, sequence_of, table_of, wholes_of, words_of
 from ..._units import counts_of, counts_of_row, counts_of_rows, counts_of_wholes
 from ..._sizes import LARGE, SMALL, Size
@@ -42,11 +42,8 @@ class Rows(Model):
         """Returns the weights that a list of parameters stands for."""
         raise NotImplementedError
 
-    def is_single(self, given: Sequence[Any]) -> bool:
-        return len(given) == 1 and is_row(given[0])
-
     def _alone_by(self, given: tuple[Any, ...]) -> tuple[int, Any, Any] | None:
-        if len(given) != 1 or not self.missing or not hasattr(given[0], "__len__") or is_one(given[0]):
+        if len(given) != 1 or not self.missing or not is_row(given[0]):
             return None
         row = self._row(given[0])
         return (ROW, row, None) if len(row) else None
@@ -198,7 +195,7 @@ class Categorical(Rows):
         """Returns weights in proportion to the counts."""
         sized(len(counts), self.words)
         weights = room(self.words.code, len(counts), array)
-        self.words.call("weights_of_counts", *addressed(counts), *addressed(weights))
+        self.words.share_out(*counts.buffer_info(), *weights.buffer_info())
         return weights
 
     def _row(self, numbers: Any) -> array[int]:
@@ -233,7 +230,7 @@ class Categorical(Rows):
             weights = room(self.words.code, len(counts), array)
             at, to = counts.buffer_info()[0], weights.buffer_info()[0]
             for i in range(0, len(counts), width):
-                self.words.call("weights_of_counts", at + counts.itemsize * i, width, to + weights.itemsize * i, width)
+                self.words.share_out(at + counts.itemsize * i, width, to + weights.itemsize * i, width)
             yield weights, width, len(some)
 
 
