@@ -14,7 +14,7 @@ from importlib import import_module
 from typing import TYPE_CHECKING, Any, SupportsFloat, SupportsIndex, TypeVar, Union, overload
 
 __all__ = [
-    "ANSWER", "BYTE", "NUMBER", "SHORT", "SYMBOL", "WORD", "Amount", "Answer", "Array", "List", "Numbers", "Parameter", "Real", "Reals", "Symbols",
+    "ANSWER", "BYTE", "NUMBER", "SHORT", "SYMBOL", "WORD", "Amount", "Answer", "Array", "Compressed", "List", "Numbers", "Parameter", "Real", "Reals", "Symbols",
     "answered", "answered_alone", "lent", "listed", "numpy_for_answers", "numpy_module", "room",
 ]  # fmt: skip
 
@@ -28,6 +28,9 @@ Real = Union[SupportsFloat, SupportsIndex]
 Reals = Union[Iterable[Real], memoryview]
 #: One parameter, a list with one for each symbol, or a row for each symbol.
 Parameter = Union[Real, Reals, Iterable[Reals]]
+
+#: Words, or the pair of words and a number of bits that ``get_compressed`` of a coder of codewords returns.
+Compressed = Union[List, "tuple[List, SupportsIndex]"]
 
 #: A number of symbols, or the shape of an array of them.
 Amount = Union[SupportsIndex, "tuple[SupportsIndex, ...]"]

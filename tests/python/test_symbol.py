@@ -3,6 +3,7 @@
 from __future__ import annotations
 
 import doctest
+import pickle
 import random
 import time
 import unittest
@@ -140,6 +141,76 @@ class Codewords(unittest.TestCase):
             with self.assertRaises(errors.ImpossibleSymbolError):
                 encoder.encode(symbols, tree)
         self.assertEqual(encoder.get_compressed(), (words, bits))
+
+    def test_canonical_trees(self) -> None:
+        """The codewords are those of the definition: numbers that count up, shorter ones first, then by symbol."""
+        dice = random.Random(13)
+        for _ in range(200):
+            weights = [dice.randrange(1, dice.choice((2, 9, 1 << 12))) for _ in range(dice.randrange(1, 60))]
+            tree = EncoderHuffmanTree(weights)
+            lengths = tree.code_lengths().tolist()
+            self.assertEqual(lengths, [len(it) for it in definitions.huffman_codewords(weights)])
+            wanted, number, before = [""] * len(lengths), 0, 0
+            for length, symbol in sorted(zip(lengths, range(len(lengths)))):
+                number, before = number << length - before, length
+                wanted[symbol] = format(number, f"0{length}b") if length else ""
+                number += 1
+            canonical = EncoderHuffmanTree.from_lengths(tree.code_lengths())
+            self.assertIs(type(canonical), EncoderHuffmanTree)
+            self.assertEqual(canonical.code_lengths().tolist(), lengths)
+            encoder, symbols = QueueEncoder(), [dice.randrange(len(weights)) for _ in range(dice.choice((3, 90)))]
+            encoder.encode(symbols, canonical)
+            bits = "".join(wanted[it] for it in symbols)
+            self.assertEqual(encoder.get_compressed(), (definitions.queue_words(bits), len(bits)))
+            found = QueueDecoder(encoder.get_compressed()).decode(DecoderHuffmanTree.from_lengths(lengths), len(symbols))
+            self.assertEqual(found.tolist(), symbols)
+        deep = DecoderHuffmanTree.from_lengths([*range(1, 32), 31])
+        self.assertEqual(deep.code_lengths().tolist(), [*range(1, 32), 31])
+        for wrong in ([], [1], [1, 2], [1, 1, 1], [0, 1], [2, 2, 2], [-1], [32, 32], [*range(1, 33), 32]):
+            self.assertRaises(errors.WrongWeightsError, EncoderHuffmanTree.from_lengths, wrong)
+        self.assertRaises(TypeError, EncoderHuffmanTree.from_lengths, [1.0, 1.0])
+
+    def test_positions(self) -> None:
+        """Each recorded position is found again, in any order, and a refused one changes nothing."""
+        dice, tree = random.Random(14), EncoderHuffmanTree([2, 2, 4, 1, 1])
+        encoder, kept = QueueEncoder(), []
+        for _ in range(60):
+            book, symbols = dice.choice(((tree, [4, 0, 2]), (ExpGolomb(), [dice.randrange(1 << 32)]), (tree, [1] * 80)))
+            kept.append((encoder.pos(), book, symbols))
+            encoder.encode(symbols, book)
+        decoder = QueueDecoder(encoder.get_compressed())
+        self.assertEqual(decoder.pos(), 0)
+        for place, book, symbols in dice.choices(kept, k=200):
+            decoder.seek(place)
+            self.assertEqual((decoder.pos(), decoder.decode(book, len(symbols)).tolist()), (place, symbols))
+        decoder.seek(encoder.pos())
+        for wrong in (-1, encoder.pos() + 1, 1 << 70):
+            before = pickle.dumps(decoder)
+            self.assertRaises(errors.WrongLengthError, decoder.seek, wrong)
+            self.assertEqual(pickle.dumps(decoder), before)
+        self.assertRaises(TypeError, decoder.seek, 1.0)
+        self.assertRaises(errors.OutOfDataError, decoder.decode, tree)
+        for twin in (decoder.clone(), pickle.loads(pickle.dumps(decoder))):
+            self.assertEqual((twin, twin.pos()), (decoder, encoder.pos()))
+            self.assertRaises(errors.OutOfDataError, twin.decode, tree)
+
+    def test_pairs(self) -> None:
+        """The pair that an encoder returns ends where its codewords end, and the words alone end after the last word."""
+        tree, encoder, stack = DecoderHuffmanTree([1, 1]), QueueEncoder(), StackCoder()
+        encoder.encode([1, 0, 0], tree), stack.encode_reverse([1, 0, 0], tree)
+        for given, count in ((encoder.get_compressed(), 3), (encoder.get_compressed()[0], 32), ([1], 32), ((1, 1), 64), ([1, 1], 64)):
+            decoder = QueueDecoder(given)  # type: ignore[arg-type]
+            self.assertEqual(decoder.decode(tree, count)[:3].tolist(), [1, 0, 0])
+            self.assertEqual(decoder.pos(), count)
+            self.assertRaises(errors.OutOfDataError, decoder.decode, tree)
+        for long in (65, 200):
+            pair = array("I", [1, 0]), 63
+            self.assertRaises(errors.OutOfDataError, QueueDecoder(pair).decode, tree, long)
+            self.assertEqual(QueueDecoder(pair).decode(tree, 63).tolist(), [1] + [0] * 62)
+        self.assertRaises(errors.WrongLengthError, QueueDecoder, ([1], 33))
+        self.assertRaises(ValueError, QueueDecoder, ([1], -1))
+        self.assertEqual(StackCoder(stack.get_compressed()), stack)
+        self.assertRaises(errors.InvalidDataError, StackCoder, (stack.get_compressed()[0], 4))
 
     def test_a_symbol_at_a_time_is_linear(self) -> None:
         def seconds(count: int) -> float:

@@ -4,7 +4,7 @@ from __future__ import annotations
 
 from array import array
 from ctypes import byref, c_size_t, c_uint32
-from typing import Any, NamedTuple, SupportsIndex, Union, overload
+from typing import Any, NamedTuple, SupportsIndex, TypeVar, Union, overload
 
 from .. import errors
 from .._buffers import Amount, Answer, List, Numbers, Parameter, Reals, Symbols, answered, lent
@@ -19,6 +19,7 @@ from .model import Categorical, Model, QuantizedMixture, WeightTable
 
 __all__ = ["RangeDecoder", "RangeEncoder", "SmallRangeDecoder", "SmallRangeEncoder"]
 
+Self = TypeVar("Self", bound="RangeDecoder")
 #: The models whose parameters are rows.
 RowModel = Union[Categorical, WeightTable, QuantizedMixture]
 
@@ -234,7 +235,7 @@ class RangeDecoder(Coder):
         self._begin(_reading(words, it))
 
     @classmethod
-    def from_bytes(cls, data: Any) -> RangeDecoder:
+    def from_bytes(cls: type[Self], data: Any) -> Self:
         """Creates a decoder of bytes that the encoder's ``to_bytes`` returned.
 
         Raises :class:`InvalidDataError` if these aren't whole words.

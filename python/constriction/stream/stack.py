@@ -4,7 +4,7 @@ from __future__ import annotations
 
 from array import array
 from ctypes import byref, c_size_t
-from typing import Any, NamedTuple, SupportsIndex, Union, overload
+from typing import Any, NamedTuple, SupportsIndex, TypeVar, Union, overload
 
 from .. import errors
 from .._buffers import Amount, Answer, List, Numbers, Parameter, Reals, Symbols, answered, lent
@@ -19,6 +19,7 @@ from .model import Categorical, Model, QuantizedMixture, WeightTable
 
 __all__ = ["AnsCoder", "SmallAnsCoder"]
 
+Self = TypeVar("Self", bound="AnsCoder")
 #: The models whose parameters are rows.
 RowModel = Union[Categorical, WeightTable, QuantizedMixture]
 
@@ -244,7 +245,7 @@ class AnsCoder(Coder):
         return bytes_of(self._exported("ans_into_binary" if unseal else "ans_into_compressed"))
 
     @classmethod
-    def from_bytes(cls, data: Any, seal: bool = False) -> AnsCoder:
+    def from_bytes(cls: type[Self], data: Any, seal: bool = False) -> Self:
         """Imports a coder from bytes that ``to_bytes`` returned, or from any words with ``seal``.
 
         Raises :class:`InvalidDataError` if these aren't whole words, and as the constructor does.

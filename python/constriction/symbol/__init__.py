@@ -7,8 +7,7 @@ tree with those of the C functions. Python code keeps the positions of the codew
 >>> tree = EncoderHuffmanTree([2, 2, 4, 1, 1])
 >>> encoder = QueueEncoder()
 >>> encoder.encode([3, 0, 2], tree)
->>> words, bits = encoder.get_compressed()
->>> QueueDecoder(words).decode(DecoderHuffmanTree([2, 2, 4, 1, 1]), 3).tolist()
+>>> QueueDecoder(encoder.get_compressed()).decode(DecoderHuffmanTree([2, 2, 4, 1, 1]), 3).tolist()
 [3, 0, 2]
 """
 

@@ -6,7 +6,7 @@ from collections.abc import Callable
 from typing import Any, NamedTuple, SupportsIndex, overload
 
 from .. import errors
-from .._buffers import SYMBOL, Answer, List, Numbers, Symbols, answered, room
+from .._buffers import SYMBOL, Answer, Compressed, Numbers, Symbols, answered, room
 from .._coder import Coder
 from .._numbers import count_of, is_one, sequence_of, whole, words_of
 from ._bits import Bits, bits_of, words_with
@@ -29,6 +29,13 @@ def _all_or_nothing(coder: Coder, given: Any, codebook: Codebook, change: Callab
         coder._changed(change)
     except errors.ImpossibleSymbolError:
         raise codebook.impossible(given) from None
+
+
+def _parts_of(compressed: Any) -> tuple[Any, int | None]:
+    """Returns words and a number of bits, or None for the number if there are only words."""
+    if isinstance(compressed, tuple) and len(compressed) == 2 and not is_one(compressed[0]):
+        return compressed[0], count_of(compressed[1])
+    return compressed, None
 
 
 class _Place(NamedTuple):
@@ -87,6 +94,10 @@ class QueueEncoder(Coder):
         words, count = self._asked(lambda bits: (words_with(bits.part(0, bits.length), bits.length), bits.length))
         return answered(words), count
 
+    def pos(self) -> int:
+        """Returns the position, for a decoder's ``seek``: the number of bits of all codewords so far."""
+        return self._state.length  # type: ignore[no-any-return]
+
     def get_decoder(self) -> QueueDecoder:
         """Returns a decoder of the symbols that were encoded so far."""
         return QueueDecoder(self._asked(lambda bits: words_with(bits.part(0, bits.length), bits.length)))
@@ -104,14 +115,48 @@ class QueueEncoder(Coder):
 class QueueDecoder(Coder):
     """Decodes codewords in the order of encoding. Each symbol can have a codebook of its own.
 
-    >>> from constriction.symbol import ExpGolomb
-    >>> QueueDecoder([537]).decode(ExpGolomb(), 3).tolist()
-    [0, 5, 7]
+    >>> from constriction.symbol import ExpGolomb, QueueEncoder
+    >>> encoder = QueueEncoder()
+    >>> encoder.encode([0, 5], ExpGolomb())
+    >>> place = encoder.pos()
+    >>> encoder.encode(7, ExpGolomb())
+    >>> decoder = QueueDecoder(encoder.get_compressed())
+    >>> decoder.seek(place)
+    >>> decoder.decode(ExpGolomb())
+    7
     """
 
-    def __init__(self, compressed: List) -> None:
-        """Creates a decoder at the beginning of ``compressed``. The decoder copies the words."""
-        self._begin(_Place(bits_of(compressed), 0))
+    def __init__(self, compressed: Compressed) -> None:
+        """Creates a decoder at the beginning of ``compressed``, words or the pair that ``get_compressed`` returned.
+
+        The decoder copies the words. After a pair's number of bits, the data end. Without a number, they end after the
+        last word, so a decoder may read zeros that fill it.
+
+        Raises :class:`WrongLengthError` if the words have fewer bits than the number.
+        """
+        words, count = _parts_of(compressed)
+        bits = bits_of(words)
+        if count is not None and count > bits.length:
+            raise errors.WrongLengthError(f"expected words with {count} bits, got words with {bits.length} bits")
+        self._begin(_Place(bits if count is None else Bits(bits.memory, count), 0))
+
+    def pos(self) -> int:
+        """Returns the position, for ``seek``: the number of bits that were read."""
+        return self._state.place  # type: ignore[no-any-return]
+
+    def seek(self, position: SupportsIndex) -> None:
+        """Moves the decoder to a position that ``pos`` returned, of this decoder or of the encoder.
+
+        Raises :class:`WrongLengthError` if the position is past the end of the data.
+        """
+        place = whole(position)
+
+        def go(now: _Place) -> tuple[_Place, None]:
+            if not 0 <= place <= now.bits.length:
+                raise errors.WrongLengthError(errors.NO_SUCH_POSITION)
+            return _Place(now.bits, place), None
+
+        self._changed(go)
 
     @overload
     def decode(self, codebook: Codebook, amt: None = None) -> int:
@@ -143,10 +188,10 @@ class QueueDecoder(Coder):
         return f"at bit {state.place} of {state.bits.length}"
 
     def _plain(self, state: _Place) -> tuple[Any, ...]:
-        return bytes(state.bits.memory), state.place
+        return bytes(state.bits.clone().memory), state.bits.length, state.place
 
     def _unplain(self, plain: tuple[Any, ...]) -> _Place:
-        return _Place(Bits(bytearray(plain[0]), 8 * len(plain[0])), plain[1])
+        return _Place(Bits(bytearray(plain[0]), plain[1]), plain[2])
 
 
 def _read(state: _Place, codebook: Codebook) -> tuple[_Place, int]:
@@ -210,17 +255,21 @@ class StackCoder(Coder):
     [0, 5, 7]
     """
 
-    def __init__(self, compressed: List | None = None) -> None:
-        """Creates an empty stack, or imports a stack from ``compressed``: words that ``get_compressed`` returned.
+    def __init__(self, compressed: Compressed | None = None) -> None:
+        """Creates an empty stack, or imports a stack from ``compressed``: words, or the pair of ``get_compressed``.
 
-        The coder copies the words. Raises :class:`InvalidDataError` if the last word is 0.
+        The coder copies the words. Raises :class:`InvalidDataError` if the last word is 0, or if a pair's number isn't
+        the stack's number of bits.
         """
-        words = words_of(() if compressed is None else compressed)
+        given, count = _parts_of(() if compressed is None else compressed)
+        words = words_of(given)
         if len(words) and not words[-1]:
             raise errors.InvalidDataError(errors.NOT_ENOUGH_WORDS)
         bits = bits_of(words)
         # The highest bit 1 ends the stack.
         length = 32 * (len(words) - 1) + words[-1].bit_length() - 1 if len(words) else 0
+        if count not in (None, length):
+            raise errors.InvalidDataError(f"expected {length} bits, as the words have, got {count}")
         self._begin(Bits(bits.memory, length))
 
     def encode_reverse(self, symbols: Symbols, codebook: Codebook) -> None:

@@ -7,10 +7,10 @@ from array import array
 from collections.abc import Callable
 from ctypes import byref, c_size_t
 from heapq import heapify, heappop, heappush
-from typing import Any
+from typing import Any, TypeVar
 
 from .. import errors
-from .._buffers import SYMBOL, WORD, List, Numbers, lent, room
+from .._buffers import SYMBOL, WORD, Answer, List, Numbers, answered, lent, room
 from .._numbers import floats_of, is_one, listed_of, sequence_of, whole, wholes_of
 from .._sizes import LARGE
 from .._words import Words
@@ -19,8 +19,12 @@ from ._codebook import Codebook
 
 __all__ = ["DecoderHuffmanTree", "EncoderHuffmanTree"]
 
+Self = TypeVar("Self", bound="_Tree")
+
 #: The sum of the weights for floats, before rounding down. It is below 2^32.
 _SHARES = 1 << 31
+#: The greatest length of a codeword of a canonical tree. Its weights have a sum below 2^32.
+_LONGEST = 31
 _TOO_LARGE = "expected weights with a sum below 2^32, got a greater sum"
 
 
@@ -66,6 +70,32 @@ class _Tree(Codebook):
         self._grown: tuple[list[tuple[int, int]], list[tuple[int, int]]] | None = None
         # Encodes no symbols: this only checks the weights.
         self.encoded(array(SYMBOL), False)
+
+    @classmethod
+    def from_lengths(cls: type[Self], lengths: List) -> Self:
+        """Creates the canonical tree of these code lengths: the bits of the codeword of each symbol.
+
+        The lengths alone determine the codewords, as in the DEFLATE format: in the order of strings, the shorter
+        codewords come first, and those of one length in the order of their symbols. They are the codewords of the tree
+        with the weights ``2^-length``.
+
+        Raises :class:`WrongWeightsError` if no codewords have these lengths, if others would be left over, or if a length is
+        above 31.
+        """
+        given = wholes_of(SYMBOL, sequence_of(lengths))
+        for place, length in enumerate(given):
+            if not 0 <= length <= _LONGEST:
+                raise errors.WrongWeightsError(f"expected a length between 0 and {_LONGEST}, got {length} at place {place}")
+        longest = max(given, default=0)
+        weights = [1 << longest - length for length in given]
+        if sum(weights) != 1 << longest:
+            raise errors.WrongWeightsError(f"expected lengths that fill a tree, got a share of {sum(weights) / (1 << longest):.6g}")
+        return cls(weights)
+
+    def code_lengths(self) -> Answer:
+        """Returns the bits of the codeword of each symbol. ``from_lengths`` makes the canonical tree of them."""
+        found: Answer = answered(Numbers(SYMBOL, (count for _, count in self._tree()[0])))
+        return found
 
     def num_symbols(self) -> int:
         """Returns the number of symbols."""
@@ -159,14 +189,15 @@ def _merged(weights: array[int]) -> tuple[list[tuple[int, int]], list[tuple[int,
 class EncoderHuffmanTree(_Tree):
     """The Huffman tree of a list of weights, for encoding.
 
-    >>> EncoderHuffmanTree([2, 2, 4, 1, 1]).num_symbols()
-    5
+    >>> tree = EncoderHuffmanTree([2, 2, 4, 1, 1])
+    >>> tree.code_lengths().tolist()
+    [2, 2, 2, 3, 3]
     """
 
 
 class DecoderHuffmanTree(_Tree):
     """The Huffman tree of a list of weights, for decoding.
 
-    >>> DecoderHuffmanTree([2, 2, 4, 1, 1]).num_symbols()
+    >>> DecoderHuffmanTree.from_lengths([2, 2, 2, 3, 3]).num_symbols()
     5
     """

@@ -5,7 +5,7 @@ from array import array
 from constriction.stream.chain import ChainCoder
 from constriction.stream.model import Categorical, QuantizedGaussian, QuantizedMixture, Uniform, WeightTable
 from constriction.stream.queue import RangeEncoder
-from constriction.stream.stack import AnsCoder
+from constriction.stream.stack import AnsCoder, SmallAnsCoder
 from constriction.symbol import EncoderHuffmanTree, QueueDecoder, QueueEncoder
 
 model, family = Uniform(4), QuantizedGaussian(-9, 9)
@@ -32,6 +32,9 @@ AnsCoder("words")  # refused
 ChainCoder([0.5])  # refused
 QueueEncoder().encode(1, model)  # refused
 name: str = QueueDecoder([1]).decode(tree)  # refused
+SmallAnsCoder("words")  # refused
+EncoderHuffmanTree.from_lengths("23")  # refused
+QueueDecoder([1]).seek((1, 2))  # refused
 
 one: int = coder.decode(model)
 some: list[int] = coder.decode(model, 3).tolist()
@@ -49,3 +52,8 @@ row: int = coder.decode(Categorical(), [0.5, 0.5])
 mixed: int = coder.decode(QuantizedMixture(family), [0.5, 0.5], (1.0, 2.0), array("d", [2.0, 1.0]))
 rows: list[int] = coder.decode(WeightTable(), [[1, 2], [3, 4]]).tolist()
 also: list[int] = coder.decode(model, amt=(2, 3)).tolist()
+small: SmallAnsCoder = SmallAnsCoder.from_bytes(b"12")
+small.encode_reverse([1, 2], model)
+into: list[int] = small.decode(model, 3, out=None).tolist()
+place: int = QueueDecoder(QueueEncoder().get_compressed()).pos()
+again: EncoderHuffmanTree = EncoderHuffmanTree.from_lengths(tree.code_lengths())
