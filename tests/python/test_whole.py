@@ -21,13 +21,13 @@ from unittest import mock
 
 import definitions as by
 from constriction import _buffers, _coding, errors
-from constriction.stream.chain import ChainCoder
+from constriction.stream.chain import ChainCoder, SmallChainCoder
 from constriction.stream.model import (
     Bernoulli, Categorical, CustomModel, Model, QuantizedGaussian, QuantizedLaplace, QuantizedLogistic, QuantizedMixture, Uniform, WeightTable,
 )  # fmt: skip
 from constriction.stream.model import _finite, _table
-from constriction.stream.queue import RangeDecoder, RangeEncoder
-from constriction.stream.stack import AnsCoder
+from constriction.stream.queue import RangeEncoder, SmallRangeEncoder
+from constriction.stream.stack import AnsCoder, SmallAnsCoder
 from constriction.symbol import EncoderHuffmanTree, ExpGolomb, QueueDecoder, QueueEncoder, StackCoder
 
 #: The number of calls that are refused, interrupted, or made from inside another call.
@@ -117,6 +117,12 @@ class Number:
         return float(self.of)
 
 
+def narrow(symbols: Any) -> Any:
+    """Returns symbols as an array of 8 bits, or of 16 bits, if they fit."""
+    code = "B" if len(symbols) % 2 else "H"
+    return array(code, symbols) if all(0 <= it < 256 for it in symbols) else list(symbols)
+
+
 class Case:
     """Random models, symbols and changes of one kind of coders."""
 
@@ -124,7 +130,7 @@ class Case:
     encode, decode = "encode_reverse", "decode"
     kinds: tuple[Any, ...] = (QuantizedGaussian, QuantizedLaplace, QuantizedLogistic)
     #: The forms of lists of symbols, and those of lists of parameters.
-    forms: tuple[Callable[[Any], Any], ...] = (list, list, tuple, iter, lambda it: array("q", it))
+    forms: tuple[Callable[[Any], Any], ...] = (list, list, tuple, iter, lambda it: array("q", it), narrow)
     forms_of_parameters: tuple[Callable[[Any], Any], ...] = (list, list, tuple, iter)
 
     def __init__(self, dice: random.Random) -> None:
@@ -214,7 +220,7 @@ class Case:
             return lambda it: getattr(it, name)(0, WeightTable([5]))
         many = dice.randrange(1, 9)
         if which == 6:  # The last part that is encoded is refused. The first has rows of another width.
-            rows = [[1 << 24], *[[1 << 23, 1 << 23]] * many, [1 << 24]]
+            rows = [[by.PRECISION], *[[by.PRECISION // 2] * 2] * many, [by.PRECISION]]
             return lambda it: getattr(it, name)([9, *[1] * many, 9], WeightTable(), rows)
 
         def ends() -> Iterator[int]:
@@ -262,8 +268,10 @@ class Case:
 
 
 class Ans(Case):
+    make: Any = AnsCoder
+
     def made(self) -> Any:
-        coder = AnsCoder([self.dice.randrange(1, 1 << 32) for _ in range(self.dice.randrange(1, 40))])
+        coder = self.make([self.dice.randrange(1, by.WORD) for _ in range(self.dice.randrange(1, 40))])
         #: Positions that the coder promises, and the words of the coder there.
         self.positions: list[tuple[tuple[int, int], list[int]]] = []
         self.recorded(coder, 0)
@@ -285,10 +293,10 @@ class Ans(Case):
 
 
 class Encoder(Case):
-    encode = "encode"
+    encode, make = "encode", RangeEncoder
 
     def made(self) -> Any:
-        coder = RangeEncoder()
+        coder = self.make()
         coder.encode([self.dice.randrange(300) for _ in range(self.dice.randrange(60))], Uniform(300))
         return coder
 
@@ -299,7 +307,7 @@ class Encoder(Case):
         while True:
             change = super().refused()
             try:
-                change(RangeEncoder())
+                change(self.make())
             except AttributeError:
                 continue  # A decode.
             except Exception:
@@ -309,15 +317,17 @@ class Encoder(Case):
         while True:
             using, plain = super().from_inside(inner)
             try:
-                plain(RangeEncoder())
+                plain(self.make())
                 return using, plain
             except AttributeError:
                 pass  # A decode.
 
 
 class Decoder(Case):
+    make: Any = RangeEncoder
+
     def made(self) -> Any:
-        encoder, dice = RangeEncoder(), self.dice
+        encoder, dice = self.make(), self.dice
         symbols, self.positions = [dice.randrange(300) for _ in range(90)], []
         for i in range(0, 90, 9):
             self.positions.append((encoder.pos(), symbols[i : i + 9]))
@@ -346,17 +356,35 @@ class Decoder(Case):
         while True:
             using, plain = super().from_inside(inner)
             try:
-                plain(RangeDecoder([]))
+                plain(self.make().get_decoder())
                 return using, plain
             except AttributeError:
                 pass  # An encode.
 
 
 class Chain(Case):
+    make: Any = ChainCoder
+
     def made(self) -> Any:
-        coder = ChainCoder([self.dice.randrange(1, 1 << 32) for _ in range(40)])
+        coder = self.make([self.dice.randrange(1, by.WORD) for _ in range(40)])
         coder.decode(Uniform(300), 20)
         return coder
+
+
+class SmallAns(Ans):
+    make = SmallAnsCoder
+
+
+class SmallEncoder(Encoder):
+    make = SmallRangeEncoder
+
+
+class SmallDecoder(Decoder):
+    make = SmallRangeEncoder
+
+
+class SmallChain(Chain):
+    make = SmallChainCoder
 
 
 class Bits(Case):
@@ -393,6 +421,26 @@ class Queue(Bits):
         return super().change(True)
 
 
+class QueueRead(Bits):
+    def made(self) -> Any:
+        encoder = QueueEncoder()
+        encoder.encode([self.dice.randrange(50) for _ in range(self.dice.randrange(60))], ExpGolomb())
+        coder = QueueDecoder(encoder.get_compressed())
+        coder.seek(self.dice.randrange(encoder.pos() + 1))
+        return coder
+
+    def change(self, encodes: bool) -> Change:
+        place = self.dice.randrange(3)
+        return (lambda it: it.seek(place)) if encodes else super().change(False)
+
+    def refused(self) -> Change:
+        book, dice = self.model()[0], self.dice
+        changes: list[Change] = [
+            lambda it: it.seek(-1), lambda it: it.seek(it._state.bits.length + 1), lambda it: it.decode(book, -1), lambda it: it.decode(ExpGolomb(), 300),
+        ]  # fmt: skip
+        return dice.choice(changes)
+
+
 class Stack(Bits):
     def made(self) -> Any:
         coder = StackCoder()
@@ -405,7 +453,7 @@ class Whole(unittest.TestCase):
     calls = CALLS
 
     def setUp(self) -> None:
-        self.kinds = Ans, Ans, Ans, Encoder, Decoder, Chain, Queue, Stack
+        self.kinds = self.kinds or (Ans, Ans, Ans, Encoder, Decoder, Chain, Queue, QueueRead, Stack)
         # Short lists have several parts then.
         for module, name, size in (
             (_coding, "_SYMBOLS_AT_A_TIME", 3), (_coding, "_WEIGHTS_AT_A_TIME", 0), (_table, "ROWS_AT_A_TIME", 4), (_finite, "ROWS_AT_A_TIME", 4),
@@ -607,6 +655,17 @@ class Whole(unittest.TestCase):
         if found is not twin and isinstance(case, Ans):
             case.positions = []
             case.recorded(coder, before)
+
+
+class SmallWhole(Whole):
+    """The same for words of 16 bits."""
+
+    kinds, calls, test_each_event = (SmallAns, SmallAns, SmallEncoder, SmallDecoder, SmallChain), CALLS // 10, None  # type: ignore[assignment]
+
+    def setUp(self) -> None:
+        super().setUp()
+        by.at_size(16, 12)
+        self.addCleanup(by.at_size, 32, 24)
 
 
 @unittest.skipUnless(hasattr(signal, "setitimer"), "the system has no timer for a process")

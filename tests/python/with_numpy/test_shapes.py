@@ -5,8 +5,11 @@ from __future__ import annotations
 import random
 import unittest
 from array import array
+from importlib import import_module
+from importlib.util import find_spec
 from itertools import product
 from typing import Any
+from unittest import mock
 
 np: Any
 try:
@@ -15,11 +18,12 @@ except ImportError:
     raise unittest.SkipTest("numpy is not there") from None
 
 from constriction import errors
+from constriction._sizes import Size
 from constriction.stream.chain import ChainCoder
 from constriction.stream.model import (
     Bernoulli, Binomial, Categorical, CustomModel, Model, QuantizedCauchy, QuantizedGaussian, QuantizedLaplace, QuantizedMixture, Uniform, WeightTable,
 )  # fmt: skip
-from constriction.stream.queue import RangeEncoder
+from constriction.stream.queue import RangeDecoder, RangeEncoder
 from constriction.stream.stack import AnsCoder
 
 
@@ -166,6 +170,89 @@ class Shapes(unittest.TestCase):
         self.assertEqual(AnsCoder([5]).decode(Uniform(9), amt=(0, 2), dtype="uint8").shape, (0, 2))  # type: ignore[attr-defined]
         self.assertIs(type(ChainCoder([5, 6, 7, 8]).decode(Uniform(9), dtype="uint8")), int)  # type: ignore[call-overload]
         self.assertRaisesRegex(TypeError, "^expected an integer type, got float64$", AnsCoder([5]).decode, Uniform(9), 3, dtype="float64")
+
+    def test_the_callers_own_array(self) -> None:
+        """``out`` gets the symbols, whatever its type and the order of its memory."""
+        family, symbols, means = QuantizedGaussian(-9, 9), np.array([[-3, 7, 1], [9, 0, 2]]), np.array([[-2.5, 6.5, 0.0], [8.0, 0.5, 2.0]])
+        rows = np.random.default_rng(3).random((2, 3, 19))
+        for kind, (model, given) in product(("int8", "int64", ">i4"), ((family, (means, 2.0)), (Categorical(), (rows,)), (Uniform(19), ()))):
+            shift = 0 if model is family else 9
+            for out in orders(np.zeros((2, 3), dtype=kind)):
+                coder: Any = AnsCoder()
+                coder.encode_reverse(symbols + shift, model, *given)
+                found = coder.decode(model, *given, out=out) if given else coder.decode(model, amt=(2, 3), out=out)
+                self.assertIs(found, out)
+                np.testing.assert_array_equal(out, symbols + shift)
+        own = np.zeros(4, dtype="uint8")
+        coder = AnsCoder()
+        coder.encode_reverse([1, 255, 0, 7], Uniform(256))
+        self.assertEqual(coder.decode(Uniform(256), 4, out=own).tolist(), [1, 255, 0, 7])
+
+    def test_refusals_of_the_callers_own_array(self) -> None:
+        """Neither the array nor the coder changes."""
+        still = np.zeros(3, dtype="int64")
+        still.flags.writeable = False
+        for kind, message, out, more in (
+            (TypeError, "got list", [0, 0, 0], {}), (TypeError, "got float64", np.zeros(3), {}), (ValueError, "writeable", still, {}),
+            (errors.WrongLengthError, r"of shape \(3,\), got \(2,\)", np.zeros(2, dtype="int64"), {}), (errors.WrongLengthError, r"\(3,\)", np.zeros((3, 1), dtype="int64"), {}),
+            (TypeError, "got both", np.zeros(3, dtype="int8"), {"dtype": "int8"}), (ValueError, "that fit int8, got 300", np.full(3, 5, dtype="int8"), {}),
+        ):  # fmt: skip
+            coder, chain = AnsCoder([5, 6, 7]), ChainCoder([5, 6, 7, 8])
+            coder.encode_reverse([1, 300, 2], Uniform(301))
+            encoder = RangeEncoder()
+            encoder.encode([1, 300, 2], Uniform(301))
+            decoders: list[Any] = [coder, encoder.get_decoder()] + [chain] * ("fit" not in message)
+            for decoder in decoders:
+                before, kept = decoder.clone(), np.array(out)
+                self.assertRaisesRegex(kind, message, lambda: decoder.decode(Uniform(301), 3, out=out, **more))
+                self.assertEqual(decoder, before)
+                np.testing.assert_array_equal(out, kept)
+        coder, one = AnsCoder([5, 6, 7]), np.zeros((), dtype="int64")
+        self.assertRaisesRegex(TypeError, "for an array of symbols", lambda: coder.decode(Uniform(301), out=one))  # type: ignore[call-overload]
+        wrong, some = RangeDecoder([(1 << 32) - 1] * 3), np.full(70_000, 7)
+        before = wrong.clone()
+        self.assertRaises(errors.InvalidDataError, lambda: wrong.decode(WeightTable([1, (1 << 24) - 1]), 70_000, out=some))
+        self.assertEqual((wrong, set(some.tolist())), (before, {7}))
+
+    def test_types_of_symbols(self) -> None:
+        """Arrays of 8 and of 16 bits go to the C functions of their type, and others to those of 64 bits."""
+        model, symbols = WeightTable([1 << 16] * 256), self.dice.integers(0, 256, 70_000)
+        for kind, of in (("uint8", "_bytes"), ("uint16", "_shorts"), ("int64", ""), ("int8", ""), (">u2", ""), ("uint32", "")):
+            some = symbols.astype(kind) if kind != "int8" else (symbols % 128).astype(kind)
+            coder, encoder, chain = AnsCoder(), RangeEncoder(), ChainCoder(np.arange(5, 90_000, dtype="uint32"))
+            called: list[str] = []
+            original = Size.call
+
+            def call(self: Size, name: str, *given: Any, **texts: Any) -> None:
+                called.append(name)
+                original(self, name, *given, **texts)
+
+            with mock.patch.object(Size, "call", call):
+                coder.encode_reverse(some, model), encoder.encode(some, model)
+                chain.decode(model, 70_000), chain.encode_reverse(some, model)
+                narrow = coder.decode(model, 70_000, dtype=kind), encoder.get_decoder().decode(model, 70_000, dtype=kind)
+            for found in narrow:
+                np.testing.assert_array_equal(found, some)
+                self.assertEqual(found.dtype, np.dtype(kind))
+            for name in ("ans_encode{}_reverse", "range_encode{}", "chain_encode{}_reverse", "ans_decode{}", "range_decode{}"):
+                self.assertIn(name.format(of), called)
+
+    @unittest.skipUnless(find_spec("torch"), "Debian's python3-torch isn't there")
+    def test_torch(self) -> None:
+        torch: Any = import_module("torch")
+        family, symbols = QuantizedGaussian(-9, 9), torch.tensor([[1, -2, 3], [4, 0, 9]])
+        means, stds, coder = torch.tensor([[1.5, -2.0, 2.5], [3.0, 0.5, 8.0]]), torch.tensor(2.0), AnsCoder()
+        coder.encode_reverse(symbols, family, means, stds)
+        coder.encode_reverse(symbols[0].to(torch.uint8) % 3, Categorical(), torch.rand(3, 4, generator=torch.manual_seed(1)))
+        self.assertEqual(coder.decode(Categorical(), torch.rand(3, 4, generator=torch.manual_seed(1))).tolist(), (symbols[0].to(torch.uint8) % 3).tolist())
+        found: Any = coder.decode(family, means, stds)
+        np.testing.assert_array_equal(found, symbols.numpy())
+        self.assertTrue(torch.equal(torch.from_numpy(found), symbols))
+        coder.encode_reverse(symbols, family, means, stds)
+        into = torch.zeros(2, 3, dtype=torch.int16)
+        coder.decode(family, means, stds, out=into.numpy())
+        self.assertTrue(torch.equal(into, symbols.to(torch.int16)))
+        self.assertEqual(Categorical(torch.tensor([0.25, 0.5, 0.25])).table(), Categorical([0.25, 0.5, 0.25]).table())
 
     def test_refusals(self) -> None:
         family, zeros, ones = QuantizedGaussian(-9, 9), np.zeros((2, 3)), np.ones((2, 3))
