@@ -1,4 +1,5 @@
 pub mod Asking
+pub mod CountTables
 pub mod FamilyCounts
 pub mod FamilyTables
 pub mod IntervalPlaces

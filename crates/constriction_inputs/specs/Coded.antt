@@ -6,7 +6,7 @@ use Rattle.constriction_inputs.specs.declared.refusal.Refusal.{Refusal}
 use Rattle.constriction_inputs.specs.declared.refusal.Refusal.TheVariants.{WrongInterval, WrongLength, WrongWeights}
 
 -- The symbols with their models, and the requirements on the arguments. Each form of models defines its own value of
--- this type: `by_weights`, `by_rows`, `as_intervals`, `by_family` and `by_mixture`.
+-- this type: `by_weights`, `by_rows`, `by_counts`, `as_intervals`, `by_family` and `by_mixture`.
 pub record Coded : Type 1 where
   -- The symbols with their models, at a precision.
   pub items_at : ℕ → List (Item ℕ)
@@ -14,8 +14,8 @@ pub record Coded : Type 1 where
   pub lengths_fit : Type 0
   -- Each interval lies below 2 ^ precision, and a range has at least two and at most 2 ^ precision symbols.
   pub intervals_fit : ℕ → Type 0
-  -- Weights add up to 2 ^ precision, a family has the caller's family number, and scales are above 0. The weights of a
-  -- mixture add up to at least 1 and at most 2 ^ 32.
+  -- Weights add up to 2 ^ precision, rows of counts have tables, a family has the caller's family number, and scales are
+  -- above 0. The weights of a mixture add up to at least 1 and at most 2 ^ 32.
   pub weights_fit : ℕ → Type 0
 
 -- The symbols with their models, at a precision.

@@ -1,5 +1,6 @@
 pub mod Buffers
 pub mod Coded
+pub mod Counts
 pub mod Intervals
 pub mod Items
 pub mod Mixtures

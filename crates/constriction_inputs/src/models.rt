@@ -2,9 +2,11 @@
 //!
 //! - [`Weights`]: one table of weights for all symbols.
 //! - [`Rows`]: a row of weights for each symbol.
+//! - [`Counts`]: a row of counts for each symbol.
 //! - [`Families`]: a family of distributions, with a location and a scale for each symbol.
 //! - [`Mixtures`]: a row of distributions of one family for each symbol, and a weight for each distribution.
 
+mod counts;
 mod families;
 mod lone;
 mod mixtures;
@@ -25,6 +27,7 @@ use crate::refusal::Refusal;
 use crate::symbol::Symbol;
 use constriction_base::model::{DecoderModel, EncoderModel, EntropyModel};
 use constriction_words::{BitArray, Reciprocal};
+pub use counts::Counts;
 pub use families::Families;
 pub use mixtures::Mixtures;
 pub use rows::Rows;

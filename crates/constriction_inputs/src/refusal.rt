@@ -20,6 +20,8 @@ pub enum Refusal {
     /// - No family has the caller's family number, or a scale is 0.
     /// - The weights of a mixture add up to 0 or to more than `2^32`, or mixtures have no components.
     /// - No count is above 0, or more than `2 ^ PRECISION` counts are above 0.
+    /// - A row of [`Counts`](crate::models::Counts) has `2 ^ PRECISION` counts or more, or its counts add up to 0 or to
+    ///   `2^40` or more.
     /// - A Huffman tree has no weights, or the sum of its weights doesn't fit their type.
     /// - A Huffman tree has more than `2^62 - 1` weights for encoding, or more than `2^63 - 1` weights for decoding.
     #[error("wrong weights")]

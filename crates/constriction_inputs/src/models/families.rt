@@ -305,7 +305,7 @@ fn count_of<'a>(given: &Families<'a>) -> usize
 }
 
 /// Returns whether the number of each symbol is below `count`.
-fn are_below<S: Symbol>(symbols: &[S], count: usize) -> bool
+pub(super) fn are_below<S: Symbol>(symbols: &[S], count: usize) -> bool
     ensures { IsTrue result ↔ AllByRecursion (λ symbol. symbol < count) (S.numbers symbols.now) }
 {
     for i in 0..symbols.len() {
