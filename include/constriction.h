@@ -25,7 +25,7 @@
 
    MODELS. A model is a list of weights: symbol 0 has the first weight, symbol 1 the next, and so on. The weights add
    up to 2^24 (2^12 for .._u16). A symbol is impossible if its weight is 0, or if the symbol is past the end of the
-   list. There are five ways to pass models:
+   list. There are six ways to pass models:
    - `weights`, `weight_count`: the same weights for all symbols.
    - .._each: a row of `width` weights for each symbol, one row after another, so weight_count is width *
      symbol_count.
@@ -35,6 +35,8 @@
    - .._quantized: a family of distributions, with a location and a scale for each symbol. See constriction_models.h.
    - .._mixture: a family of distributions, with a row of components for each symbol. Each component has a weight, a
      location and a scale. See constriction_models.h.
+   - .._counts: a row of `width` counts for each symbol. The weights are in proportion to the counts, and each is at
+     least 1. See constriction_models.h.
    constriction_weights_of_counts computes weights from counts.
 
    SYMBOLS are numbers 0, 1, .. of type size_t. The functions .._bytes and .._shorts have symbols of type uint8_t and
@@ -107,8 +109,9 @@ enum constriction_result {
     /* A model has no entry for its symbol: the symbol's weight is 0, or the symbol is past the end of the weights. */
     CONSTRICTION_IMPOSSIBLE_SYMBOL = 1,
     /* Weights don't add up to 2^24 (2^12). For a Huffman tree: there are no weights, or their sum doesn't fit their
-       type. For a family: a scale is 0, or the family doesn't exist. For counts: no count is above 0, or more than
-       2^24 (2^12) counts are above 0. */
+       type. For a family: a scale is 0, or the family doesn't exist. For constriction_weights_of_counts: no
+       count is above 0, or more than 2^24 (2^12) counts are above 0. For .._counts: a row has 2^24 (2^12) counts or
+       more, or its counts add up to 0 or to 2^40 or more. */
     CONSTRICTION_WRONG_WEIGHTS = 2,
     /* An interval is empty or ends past 2^24 (2^12). For a family: the range has fewer than 2 symbols, or more than
        2^24 (2^12) symbols. */

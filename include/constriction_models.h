@@ -28,6 +28,12 @@
    components' distribution functions. The weights of a row are whole numbers that add up to at least 1 and at most
    2^32. A weight may be 0. If you have floats, round each float once: llrint(2147483648 * weight).
 
+   COUNTS. The functions .._counts have a row of `width` counts for each symbol, and need no other model. Each symbol
+   below `width` has a weight of 1, and the counts share the rest of 2^24 (2^12): symbol i begins at
+   before * (2^24 - width) / total + i (with 2^12 for .._u16), rounded down, where `before` is the sum of the counts
+   before symbol i and `total` is the sum of the row. A count may be 0. If you have probabilities as floats, round each
+   float once: llrint(2147483648 * probability).
+
    ERRORS. The functions .._quantized take one location and one scale for each symbol. If several errors apply, a call
    returns the first of these: WRONG_LENGTH (another number of locations or scales, or as in constriction.h);
    WRONG_INTERVAL (the range); WRONG_WEIGHTS (a scale is 0, the family doesn't exist, width is 0, or the weights of a
@@ -168,6 +174,37 @@ uint32_t constriction_chain_decode_mixture_u32(struct constriction_chain_heads_u
                                                const uint32_t *scales, size_t scale_count,
                                                size_t *symbols, size_t symbol_count, size_t *needed);
 
+/* Rows of counts: a row of `width` counts for each symbol, one row after another, so count_count is width *
+   symbol_count. If several errors apply, a call returns the first of these: WRONG_LENGTH (another number of counts, or
+   as in constriction.h); WRONG_WEIGHTS (2^24 counts or more in a row, or a row adds up to 0 or to 2^40 or more);
+   INVALID_DATA for the state; IMPOSSIBLE_SYMBOL (a symbol is width or above); the other errors of constriction.h. */
+uint32_t constriction_ans_encode_counts_reverse_u32(uint64_t *head, uint32_t *words, size_t capacity, size_t *len,
+                                                    const uint32_t *counts, size_t count_count, size_t width,
+                                                    const size_t *symbols, size_t symbol_count, size_t *needed);
+uint32_t constriction_ans_decode_counts_u32(uint64_t *head, const uint32_t *words, size_t word_count, size_t *len,
+                                            const uint32_t *counts, size_t count_count, size_t width,
+                                            size_t *symbols, size_t symbol_count);
+uint32_t constriction_range_encode_counts_u32(struct constriction_range_encoder_state_u32 *encoder,
+                                              uint32_t *words, size_t capacity, size_t *len,
+                                              const uint32_t *counts, size_t count_count, size_t width,
+                                              const size_t *symbols, size_t symbol_count, size_t *needed);
+uint32_t constriction_range_decode_counts_u32(struct constriction_range_decoder_state_u32 *decoder,
+                                              const uint32_t *words, size_t word_count,
+                                              const uint32_t *counts, size_t count_count, size_t width,
+                                              size_t *symbols, size_t symbol_count);
+uint32_t constriction_chain_encode_counts_reverse_u32(struct constriction_chain_heads_u32 *heads,
+                                                      uint32_t *compressed, size_t capacity, size_t *compressed_len,
+                                                      const uint32_t *remainders, size_t remainders_count,
+                                                      size_t *remainders_len,
+                                                      const uint32_t *counts, size_t count_count, size_t width,
+                                                      const size_t *symbols, size_t symbol_count, size_t *needed);
+uint32_t constriction_chain_decode_counts_u32(struct constriction_chain_heads_u32 *heads,
+                                              const uint32_t *compressed, size_t compressed_count,
+                                              size_t *compressed_len,
+                                              uint32_t *remainders, size_t capacity, size_t *remainders_len,
+                                              const uint32_t *counts, size_t count_count, size_t width,
+                                              size_t *symbols, size_t symbol_count, size_t *needed);
+
 /* Writes the interval of each symbol, for the functions .._intervals. Writes the sum of the weights before the symbol
    to lefts[i], and the symbol's weight to ps[i]. With the same location and scale for all symbols 0 to max - min, ps
    is a whole table, which can be passed as `weights`.
@@ -273,6 +310,32 @@ uint32_t constriction_chain_decode_mixture_u16(struct constriction_chain_heads_u
                                                const int64_t *locations, size_t location_count,
                                                const uint32_t *scales, size_t scale_count,
                                                size_t *symbols, size_t symbol_count, size_t *needed);
+uint32_t constriction_ans_encode_counts_reverse_u16(uint32_t *head, uint16_t *words, size_t capacity, size_t *len,
+                                                    const uint32_t *counts, size_t count_count, size_t width,
+                                                    const size_t *symbols, size_t symbol_count, size_t *needed);
+uint32_t constriction_ans_decode_counts_u16(uint32_t *head, const uint16_t *words, size_t word_count, size_t *len,
+                                            const uint32_t *counts, size_t count_count, size_t width,
+                                            size_t *symbols, size_t symbol_count);
+uint32_t constriction_range_encode_counts_u16(struct constriction_range_encoder_state_u16 *encoder,
+                                              uint16_t *words, size_t capacity, size_t *len,
+                                              const uint32_t *counts, size_t count_count, size_t width,
+                                              const size_t *symbols, size_t symbol_count, size_t *needed);
+uint32_t constriction_range_decode_counts_u16(struct constriction_range_decoder_state_u16 *decoder,
+                                              const uint16_t *words, size_t word_count,
+                                              const uint32_t *counts, size_t count_count, size_t width,
+                                              size_t *symbols, size_t symbol_count);
+uint32_t constriction_chain_encode_counts_reverse_u16(struct constriction_chain_heads_u16 *heads,
+                                                      uint16_t *compressed, size_t capacity, size_t *compressed_len,
+                                                      const uint16_t *remainders, size_t remainders_count,
+                                                      size_t *remainders_len,
+                                                      const uint32_t *counts, size_t count_count, size_t width,
+                                                      const size_t *symbols, size_t symbol_count, size_t *needed);
+uint32_t constriction_chain_decode_counts_u16(struct constriction_chain_heads_u16 *heads,
+                                              const uint16_t *compressed, size_t compressed_count,
+                                              size_t *compressed_len,
+                                              uint16_t *remainders, size_t capacity, size_t *remainders_len,
+                                              const uint32_t *counts, size_t count_count, size_t width,
+                                              size_t *symbols, size_t symbol_count, size_t *needed);
 uint32_t constriction_quantized_intervals_u16(uint32_t family, int32_t min, int32_t max,
                                               const int64_t *locations, size_t location_count,
                                               const uint32_t *scales, size_t scale_count,

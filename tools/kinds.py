@@ -40,6 +40,10 @@ EACH = of_models(
     "each", r"\1 with a row of `width` weights for each symbol", "weights: &[u32], width: usize",
     "by_rows width (map (lowest 32) weights.now)", "let models = Rows { weights, width }",
 )
+COUNTS = of_models(
+    "counts", r"\1 with a row of `width` counts for each symbol ([`Counts`])", "counts: &[u32], width: usize",
+    "by_counts 32 width counts.now", "let models = Counts { counts, width }",
+)
 QUANTIZED = of_models(
     "quantized", ", each with the model of its own location and scale ([`Families`])",
     "family: u32, min: i32, max: i32, locations: &[i64], scales: &[u32]", "in_family family min max locations.now scales.now",
@@ -90,7 +94,8 @@ HUFFMAN = {
 
 # The changes of each module, with the ending of the names that they apply to. A function is from large.rt, or an earlier
 # change has written it.
-CODED = [("(encode|decode)(_reverse)?_u32", EACH), ("encode(_reverse)?_u32", INTERVALS),
+CODED = [("(encode|decode)(_reverse)?_u32", EACH), ("(encode|decode)(_reverse)?_u32", COUNTS),
+         ("encode(_reverse)?_u32", INTERVALS),
          ("(encode|decode)(_reverse)?_u32", QUANTIZED), ("(encode|decode)(_reverse)?_u32", MIXTURE),
          ("(encode|decode)(_reverse)?_u32", BYTES), ("(encode|decode)(_reverse)?_u32", SHORTS)]
 KINDS = {
@@ -106,6 +111,7 @@ ghost use Rattle.constriction_calls.specs.AnsCalls.{AreBinary, HasBinary};
 ghost use Rattle.constriction_calls.specs.ChainWords.{InBinary, InRemainders};
 ghost use Rattle.constriction_calls.specs.RangeCalls.{IsSelfSealed};
 ghost use Rattle.constriction_calls.specs.SymbolCalls.{AsStack, OfWeights};
+ghost use Rattle.constriction_inputs.specs.Counts.{by_counts};
 ghost use Rattle.constriction_inputs.specs.Mixtures.{in_mixture};
 ghost use Rattle.constriction_inputs.specs.Quantized.{in_family};
 ghost use Rattle.constriction_inputs.specs.Rows.{by_rows};
@@ -119,7 +125,7 @@ use constriction_calls::range::parts::{DecoderParts, EncoderParts};
 use constriction_calls::range::words::into_self_delimited;
 use constriction_calls::symbol::{Tree, decode_stack, encode_stack};
 use constriction_inputs::intervals::Intervals;
-use constriction_inputs::models::{Families, Mixtures, Rows};
+use constriction_inputs::models::{Counts, Families, Mixtures, Rows};
 """
 
 # For each struct: the type of constriction_calls with the same fields, and the definition that converts the struct to it.

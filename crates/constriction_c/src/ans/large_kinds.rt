@@ -4,6 +4,7 @@
 ghost use Rattle.constriction_c.specs.Large.{AnsExportsU32, AnsPutsU32, AnsTakesU32, intervals_from_u32, narrow_from_u32};
 ghost use Rattle.constriction_c.specs.Words.{lowest};
 ghost use Rattle.constriction_calls.specs.AnsCalls.{AreBinary, HasBinary};
+ghost use Rattle.constriction_inputs.specs.Counts.{by_counts};
 ghost use Rattle.constriction_inputs.specs.Mixtures.{in_mixture};
 ghost use Rattle.constriction_inputs.specs.Quantized.{in_family};
 ghost use Rattle.constriction_inputs.specs.Rows.{by_rows};
@@ -15,7 +16,7 @@ use constriction_calls::ans::decoding::{decode, decode_narrow};
 use constriction_calls::ans::encoding::encode_reverse;
 use constriction_calls::ans::words::into_binary;
 use constriction_inputs::intervals::Intervals;
-use constriction_inputs::models::{Families, Mixtures, Rows, Weights};
+use constriction_inputs::models::{Counts, Families, Mixtures, Rows, Weights};
 use constriction_inputs::symbols::Symbols;
 use std::alloc::Global;
 
@@ -59,6 +60,50 @@ pub extern "C" fn constriction_ans_decode_each_u32(
         len.new symbols.old symbols.new }
 {
     let models = Rows { weights, width };
+    let answer = decode::<_, _, u32, _, 24>(alloc, head, words, len, &models, symbols);
+    code_without_space(answer)
+}
+
+/// Encodes symbols from the last to the first, with a row of `width` counts for each symbol ([`Counts`]).
+///
+/// Calls [`encode_reverse`] and returns the code of its result ([`code_of`]).
+#[unsafe(no_mangle)]
+pub extern "C" fn constriction_ans_encode_counts_reverse_u32(
+    alloc: Global,
+    head: &mut u64,
+    words: &mut [u32],
+    len: &mut usize,
+    counts: &[u32],
+    width: usize,
+    symbols: &[usize],
+    needed: &mut usize,
+) -> u32
+    ensures { AnsPutsU32 result needed.old needed.new (by_counts 32 width counts.now symbols.now) head.old words.old
+        len.old head.new words.new len.new }
+{
+    let models = Counts { counts, width };
+    let items = Symbols { models, symbols };
+    let answer = encode_reverse::<_, _, u32, _, 24>(alloc, head, words, len, &items);
+    code_of(answer, needed)
+}
+
+/// Decodes symbols into `symbols`, with a row of `width` counts for each symbol ([`Counts`]).
+///
+/// Calls [`decode`] and returns the code of its result ([`code_of`]).
+#[unsafe(no_mangle)]
+pub extern "C" fn constriction_ans_decode_counts_u32(
+    alloc: Global,
+    head: &mut u64,
+    words: &[u32],
+    len: &mut usize,
+    counts: &[u32],
+    width: usize,
+    symbols: &mut [usize],
+) -> u32
+    ensures { AnsTakesU32 result (by_counts 32 width counts.now) words.now head.old len.old head.new len.new symbols.old
+        symbols.new }
+{
+    let models = Counts { counts, width };
     let answer = decode::<_, _, u32, _, 24>(alloc, head, words, len, &models, symbols);
     code_without_space(answer)
 }

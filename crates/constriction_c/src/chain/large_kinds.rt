@@ -4,6 +4,7 @@
 ghost use Rattle.constriction_c.specs.Large.{ChainBeginsU32, ChainEndsU32, ChainPutsU32, ChainTakesU32, intervals_from_u32, large_chain, narrow_from_u32};
 ghost use Rattle.constriction_c.specs.Words.{lowest};
 ghost use Rattle.constriction_calls.specs.ChainWords.{InBinary, InRemainders};
+ghost use Rattle.constriction_inputs.specs.Counts.{by_counts};
 ghost use Rattle.constriction_inputs.specs.Mixtures.{in_mixture};
 ghost use Rattle.constriction_inputs.specs.Quantized.{in_family};
 ghost use Rattle.constriction_inputs.specs.Rows.{by_rows};
@@ -17,7 +18,7 @@ use constriction_calls::chain::{
     into_remainders,
 };
 use constriction_inputs::intervals::Intervals;
-use constriction_inputs::models::{Families, Mixtures, Rows, Weights};
+use constriction_inputs::models::{Counts, Families, Mixtures, Rows, Weights};
 use constriction_inputs::symbols::Symbols;
 use std::alloc::Global;
 
@@ -71,6 +72,65 @@ pub extern "C" fn constriction_chain_encode_each_reverse_u32(
         (large_chain heads.new compressed.new count.new remainders.now rest.new) }
 {
     let models = Rows { weights, width };
+    let items = Symbols { models, symbols };
+    let mut both = heads.parts();
+    let answer = encode_reverse::<_, _, u32, _, 24>(
+        alloc, &mut both, compressed, count, remainders, rest, &items,
+    );
+    *heads = ChainHeadsU32::of(both);
+    code_of(answer, needed)
+}
+
+/// Decodes symbols into `symbols`, with a row of `width` counts for each symbol ([`Counts`]).
+///
+/// Calls [`decode`] and returns the code of its result ([`code_of`]).
+#[unsafe(no_mangle)]
+pub extern "C" fn constriction_chain_decode_counts_u32(
+    alloc: Global,
+    heads: &mut ChainHeadsU32,
+    compressed: &[u32],
+    count: &mut usize,
+    remainders: &mut [u32],
+    rest: &mut usize,
+    counts: &[u32],
+    width: usize,
+    symbols: &mut [usize],
+    needed: &mut usize,
+) -> u32
+    ensures { ChainTakesU32 result needed.old needed.new (by_counts 32 width counts.now)
+        (large_chain heads.old compressed.now count.old remainders.old rest.old)
+        (large_chain heads.new compressed.now count.new remainders.new rest.new) symbols.old symbols.new }
+{
+    let models = Counts { counts, width };
+    let mut both = heads.parts();
+    let answer = decode::<_, _, u32, _, 24>(
+        alloc, &mut both, compressed, count, remainders, rest, &models, symbols,
+    );
+    *heads = ChainHeadsU32::of(both);
+    code_of(answer, needed)
+}
+
+/// Encodes symbols from the last to the first, with a row of `width` counts for each symbol ([`Counts`]).
+///
+/// Calls [`encode_reverse`] and returns the code of its result ([`code_of`]).
+#[unsafe(no_mangle)]
+pub extern "C" fn constriction_chain_encode_counts_reverse_u32(
+    alloc: Global,
+    heads: &mut ChainHeadsU32,
+    compressed: &mut [u32],
+    count: &mut usize,
+    remainders: &[u32],
+    rest: &mut usize,
+    counts: &[u32],
+    width: usize,
+    symbols: &[usize],
+    needed: &mut usize,
+) -> u32
+    ensures { ChainPutsU32 result needed.old needed.new (by_counts 32 width counts.now symbols.now)
+        (large_chain heads.old compressed.old count.old remainders.now rest.old)
+        (large_chain heads.new compressed.new count.new remainders.now rest.new) }
+{
+    let models = Counts { counts, width };
     let items = Symbols { models, symbols };
     let mut both = heads.parts();
     let answer = encode_reverse::<_, _, u32, _, 24>(

@@ -4,6 +4,7 @@
 ghost use Rattle.constriction_c.specs.Large.{RangeEndsU32, RangePutsU32, RangeTakesU32, intervals_from_u32, narrow_from_u32};
 ghost use Rattle.constriction_c.specs.Words.{lowest};
 ghost use Rattle.constriction_calls.specs.RangeCalls.{IsSelfSealed, RangeSeals};
+ghost use Rattle.constriction_inputs.specs.Counts.{by_counts};
 ghost use Rattle.constriction_inputs.specs.Mixtures.{in_mixture};
 ghost use Rattle.constriction_inputs.specs.Quantized.{in_family};
 ghost use Rattle.constriction_inputs.specs.Rows.{by_rows};
@@ -16,7 +17,7 @@ use constriction_calls::range::decoding::{decode, decode_narrow};
 use constriction_calls::range::encoding::encode;
 use constriction_calls::range::words::into_self_delimited;
 use constriction_inputs::intervals::Intervals;
-use constriction_inputs::models::{Families, Mixtures, Rows, Weights};
+use constriction_inputs::models::{Counts, Families, Mixtures, Rows, Weights};
 use constriction_inputs::symbols::Symbols;
 use std::alloc::Global;
 
@@ -61,6 +62,53 @@ pub extern "C" fn constriction_range_decode_each_u32(
         symbols.old symbols.new }
 {
     let models = Rows { weights, width };
+    let mut parts = decoder.parts();
+    let answer = decode::<_, _, u32, _, 24>(alloc, &mut parts, words, &models, symbols);
+    *decoder = RangeDecoderU32::of(parts);
+    code_without_space(answer)
+}
+
+/// Encodes symbols in order, with a row of `width` counts for each symbol ([`Counts`]).
+///
+/// Calls [`encode`] and returns the code of its result ([`code_of`]).
+#[unsafe(no_mangle)]
+pub extern "C" fn constriction_range_encode_counts_u32(
+    alloc: Global,
+    encoder: &mut RangeEncoderU32,
+    words: &mut [u32],
+    len: &mut usize,
+    counts: &[u32],
+    width: usize,
+    symbols: &[usize],
+    needed: &mut usize,
+) -> u32
+    ensures { RangePutsU32 result needed.old needed.new (by_counts 32 width counts.now symbols.now) (length symbols.now)
+        encoder.old words.old len.old encoder.new words.new len.new }
+{
+    let models = Counts { counts, width };
+    let items = Symbols { models, symbols };
+    let mut parts = encoder.parts();
+    let answer = encode::<_, _, u32, _, 24>(alloc, &mut parts, words, len, &items);
+    *encoder = RangeEncoderU32::of(parts);
+    code_of(answer, needed)
+}
+
+/// Decodes symbols into `symbols`, in order, with a row of `width` counts for each symbol ([`Counts`]).
+///
+/// Calls [`decode`] and returns the code of its result ([`code_of`]).
+#[unsafe(no_mangle)]
+pub extern "C" fn constriction_range_decode_counts_u32(
+    alloc: Global,
+    decoder: &mut RangeDecoderU32,
+    words: &[u32],
+    counts: &[u32],
+    width: usize,
+    symbols: &mut [usize],
+) -> u32
+    ensures { RangeTakesU32 result (by_counts 32 width counts.now) words.now decoder.old decoder.new symbols.old
+        symbols.new }
+{
+    let models = Counts { counts, width };
     let mut parts = decoder.parts();
     let answer = decode::<_, _, u32, _, 24>(alloc, &mut parts, words, &models, symbols);
     *decoder = RangeDecoderU32::of(parts);
