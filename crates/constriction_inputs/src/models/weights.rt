@@ -120,7 +120,7 @@ impl<'a, P: BitArray, const PRECISION: usize> DecoderModels<P, PRECISION> for We
 /// rows can't be made if there is no memory for them, or if a symbol above 65535 has a weight above 0. Without rows the
 /// model is a table without reciprocals. The call returns `None` if the weights don't add up to `2 ^ PRECISION`, or if
 /// there is no memory for the table.
-fn decoder_by<P: BitArray, const PRECISION: usize>(
+pub fn decoder_by<P: BitArray, const PRECISION: usize>(
     alloc: Global,
     weights: &[P],
     count: usize,
