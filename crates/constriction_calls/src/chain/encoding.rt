@@ -159,11 +159,9 @@ fn encode_list<
 
 /// Encodes items as [`encode_list`] does, and collects the new words in the buffer `room`.
 ///
-/// The caller proves that `room` has a word for each item. An item writes at most one word.
-///
 /// # Errors
 ///
-/// The call returns the errors of [`encode_list`].
+/// The call returns the errors of [`encode_list`]. It also returns `NoMemory` if `room` is too short for the new words.
 #[inline]
 fn encode_within<
     Word: WordOf<State>,
@@ -182,7 +180,6 @@ fn encode_within<
     list: &mut L,
 ) -> Result<(), Refusal>
     requires fits { CoderFits Word.row State.row }
-    requires room { length (L.list_items list.now) ≤ length room.now }
     requires heads { both ≡ (heads.now.compressed, heads.now.remainders) }
     requires compressed { compressed_len.now ≤ length compressed.now }
     requires remainders { remainders_len.now ≤ length remainders.now }
