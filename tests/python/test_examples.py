@@ -14,7 +14,9 @@ from constriction import _library
 
 TOP = Path(__file__).resolve().parents[2]
 FOLDER = TOP / "examples/python"
-SCRIPTS = ("adaptive_text", "image", "mixture_image", "bits_back", "records", "sampled_latent")
+SCRIPTS = (
+    "adaptive_text", "image", "mixture_image", "hyperprior", "lockstep", "bits_back", "records", "bit_stream", "sampled_latent",
+)  # fmt: skip
 ENVIRONMENT = {
     **os.environ,
     "PYTHONPATH": str(Path(_library.__file__).parents[1]),
