@@ -239,10 +239,9 @@ def _wholes(numbers: Any) -> Any:
 
     Returns None for other numbers.
     """
-    kind = getattr(numbers, "dtype", None)
-    if kind is not None:
-        whole = getattr(kind, "kind", "") in "iub" and getattr(numbers, "ndim", 0) == 1
-        return plain_of(numbers) if whole else None
+    table = as_numpy(numbers)
+    if table is not None:
+        return table if table.dtype.kind in "iub" and table.ndim == 1 else None
     if isinstance(numbers, (array, memoryview)):
         format = numbers.typecode if isinstance(numbers, array) else numbers.format
         return plain_of(numbers) if format in _WHOLE_FORMATS else None
