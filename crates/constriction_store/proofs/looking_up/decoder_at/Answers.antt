@@ -38,5 +38,8 @@ returns-clause-decoder g c =
 
 pub returns-clause-buffer : goal.returns-clause-buffer
 returns-clause-buffer g c =
-    let kept = cursor_keeps Infallible g.Word.BitArray.number (λ v. v.now) _ _ _ c.new_at_write_end.result c.in-Ok.decoder.bulk c.in-Ok.ensures.reads.2 in
-    ap (λ b. b.buf.now) c.in-Ok-seek.ensures.ok.2.1 ∙ ap (λ v. v.now) (kept ∙ ap (λ cursor. cursor.buf) c.new_at_write_end.ensures)
+    let number = g.Word.BitArray.number in
+    let sought = c.in-Ok-seek.ensures.ok in
+    let kept = cursor_keeps Infallible number (λ v. v.now) _ _ _ c.new_at_write_end.result c.in-Ok.decoder.bulk c.in-Ok.ensures.reads.2 in
+    let read = cursor_keeps Infallible number (λ v. v.now) _ _ _ sought.2.0 c.seek.new.self.bulk sought.2.3 in
+    ap (λ v. v.now) read ∙ (ap (λ b. b.buf.now) sought.2.1 ∙ ap (λ v. v.now) (kept ∙ ap (λ cursor. cursor.buf) c.new_at_write_end.ensures))
