@@ -33,9 +33,5 @@ fn main(rt: HostRuntime) -> Result<()> {
     programs::huffman::run(&rt, alloc)?;
     programs::models::run(&rt, alloc)?;
     any_backend::run(&rt, alloc)?;
-    calls::stack::run(&rt, alloc)?;
-    calls::chain::run(&rt, alloc)?;
-    calls::queue::run(&rt, alloc)?;
-    calls::symbol::run(&rt, alloc)?;
-    Ok(())
+    calls::run(&rt, alloc)
 }

@@ -13,8 +13,7 @@ type Table = WeightTable<u32, 24>;
 ///
 /// The last list begins with a symbol and ends with an error. So encoding this list must fail.
 fn put_from_the_end(coder: &mut DefaultChainCoder, table: &Table) -> Result<()> {
-    coder.encode_symbols_reverse([(&1usize, table), (&2, table)])?;
-    coder.encode_iid_symbols_reverse([0usize, 2].as_slice(), table)?;
+    coder.encode_symbols_reverse([(&0usize, table), (&2, table), (&1, table), (&2, table)])?;
     if coder
         .try_encode_symbols_reverse([Ok((&0usize, table)), Err(7u8)])
         .is_ok()

@@ -6,7 +6,7 @@
 
 use anyhow::{Result, bail};
 use constriction::stream::model::WeightTable;
-use constriction::stream::queue::{DefaultRangeDecoder, DefaultRangeEncoder};
+use constriction::stream::queue::{DefaultRangeDecoder, DefaultRangeEncoder, RangeCoderState};
 use constriction::stream::{Decode, Encode};
 use constriction::{Pos, Seek};
 use std::alloc::Global;
@@ -14,17 +14,11 @@ use std::iter;
 
 type Table = WeightTable<u32, 24>;
 
-/// Encodes a list of symbols with one model. Fails if the encoder can't encode that many symbols.
-fn put(encoder: &mut DefaultRangeEncoder, symbols: &[usize], table: &Table) -> Result<()> {
-    if Encode::<24>::symbols_left(encoder) < symbols.len() {
-        bail!("too many words are held back");
-    }
-    encoder.encode_iid_symbols(symbols, table)?;
-    Ok(())
-}
+/// A position of a range coder: a number of words, and the coder's interval.
+type Position = (usize, RangeCoderState<u32, u64>);
 
 /// Encodes two symbols, each paired with its model. Fails if the encoder can't encode two symbols.
-fn put_pairs(encoder: &mut DefaultRangeEncoder, table: &Table) -> Result<()> {
+fn put(encoder: &mut DefaultRangeEncoder, table: &Table) -> Result<()> {
     if Encode::<24>::symbols_left(encoder) < 2 {
         bail!("too many words are held back");
     }
@@ -32,12 +26,17 @@ fn put_pairs(encoder: &mut DefaultRangeEncoder, table: &Table) -> Result<()> {
     Ok(())
 }
 
-/// Decodes two symbols with one model, then one symbol with its own model, and prints all three.
+/// Decodes two symbols with one model, and prints them.
 fn take(rt: &impl Print, decoder: &mut DefaultRangeDecoder, table: &Table) -> Result<()> {
     for symbol in decoder.decode_iid_symbols(2, table) {
         let symbol = symbol?;
         println!(rt; "{symbol}")?;
     }
+    Ok(())
+}
+
+/// Decodes one symbol with its own model, and prints it.
+fn take_next(rt: &impl Print, decoder: &mut DefaultRangeDecoder, table: &Table) -> Result<()> {
     for symbol in decoder.decode_symbols(iter::repeat_n(table, 1)) {
         let symbol = symbol?;
         println!(rt; "{symbol}")?;
@@ -63,31 +62,36 @@ fn show(rt: &impl Print, encoder: &mut DefaultRangeEncoder, table: &Table) -> Re
     Ok(())
 }
 
-/// Encodes four symbols, decodes the first three, seeks back to a recorded position, and decodes from there.
+/// Encodes four symbols. Returns the words, and the position of the third symbol.
 ///
-/// Prints the symbols decoded, and whether the list of words that a guard lends is empty.
-pub fn run(rt: &impl Print, alloc: Global) -> Result<()> {
-    let table = WeightTable::<u32, 24>::new(alloc, &[3, 2, 16777211])?;
+/// Prints whether a guard lends no words after the second symbol, and the first symbol that a decoder returns there.
+fn encoded(rt: &impl Print, alloc: Global, table: &Table) -> Result<(Vec<u32>, Position)> {
     let mut encoder = DefaultRangeEncoder::new(alloc);
-    put(&mut encoder, &[2, 1], &table)?;
-    show(rt, &mut encoder, &table)?;
+    put(&mut encoder, table)?;
+    show(rt, &mut encoder, table)?;
     if !encoder.pos_fits() {
         bail!("a position past what can be counted");
     }
     let position = encoder.pos();
-    put_pairs(&mut encoder, &table)?;
+    put(&mut encoder, table)?;
     let Ok(words) = encoder.into_compressed() else {
         bail!("no memory for the words");
     };
+    Ok((words, position))
+}
+
+/// Encodes four symbols, decodes the first three, seeks back to the third, and decodes from there.
+///
+/// Prints the symbols decoded, and whether the list of words that a guard lends is empty.
+pub fn run(rt: &impl Print, alloc: Global, table: &Table) -> Result<()> {
+    let (words, position) = encoded(rt, alloc, table)?;
     let mut decoder = DefaultRangeDecoder::from_compressed(words)?;
-    take(rt, &mut decoder, &table)?;
+    take(rt, &mut decoder, table)?;
+    take_next(rt, &mut decoder, table)?;
     if decoder.seek(position).is_err() {
         bail!("no position of these words");
     }
-    let symbol = decoder.decode_symbol(&table)?;
-    println!(rt; "{symbol}")?;
-    let symbol = decoder.decode_symbol(&table)?;
-    println!(rt; "{symbol}")?;
+    take(rt, &mut decoder, table)?;
     if !Decode::<24>::maybe_exhausted(&decoder) {
         bail!("words are left");
     }

@@ -1,5 +1,6 @@
 //! Calls of the stack coder with concrete types: words of 32 or 16 bits, and tables of weights.
 
+use crate::uses::words_so_far;
 use anyhow::{Result, bail};
 use constriction::stream::model::WeightTable;
 use constriction::stream::stack::{DefaultAnsCoder, SmallAnsCoder};
@@ -54,12 +55,12 @@ fn take(rt: &impl Print, coder: &mut DefaultAnsCoder, table: &Table) -> Result<(
     Ok(())
 }
 
-/// Records a position, encodes a symbol, and seeks back to the position with a decoder over the coder's words.
+/// Records a position, encodes symbols, and seeks back to the position with a decoder over the coder's words.
 ///
 /// Prints the symbol that the decoder returns there: the symbol on top of the coder when it recorded the position.
 fn seek(rt: &impl Print, coder: &mut DefaultAnsCoder, table: &Table) -> Result<()> {
     let position = coder.pos();
-    coder.encode_symbol(&1, table)?;
+    put_from_the_end(coder, table)?;
     let mut decoder = coder.as_seekable_decoder();
     if decoder.seek(position).is_err() {
         bail!("no position of these words");
@@ -71,26 +72,24 @@ fn seek(rt: &impl Print, coder: &mut DefaultAnsCoder, table: &Table) -> Result<(
 
 /// Prints whether a coder's head is above 0, whether the coder is empty, and whether two ways to export words agree.
 ///
-/// The two ways are an iterator over the words, and a guard that lends the words. The call compares only the first
-/// word of each.
-fn show(rt: &impl Print, coder: &mut DefaultAnsCoder) -> Result<()> {
+/// The two ways are an iterator over the words, and a copy of the words that a guard lends. The call compares only the
+/// first word of each.
+fn show(rt: &impl Print, alloc: Global, coder: &mut DefaultAnsCoder) -> Result<()> {
     let is_some = coder.state() > 0;
     println!(rt; "{is_some} {}", coder.is_empty())?; // true false
     let first = coder.iter_compressed().next();
-    let Ok(guard) = coder.get_compressed() else {
+    let Some(words) = words_so_far(alloc, coder) else {
         bail!("no memory for the words");
     };
-    println!(rt; "{}", guard.backend().first() == first.as_ref())?; // true
+    println!(rt; "{}", words.first() == first.as_ref())?; // true
     Ok(())
 }
 
-/// Decodes a symbol with each of three kinds of decoders, and imports and exports words in binary form.
+/// Decodes a symbol with each of three kinds of decoders, and prints the symbols.
 ///
 /// The first decoder borrows a coder. The second decoder is created from the coder. The third decoder borrows a list
-/// of words. The call prints each symbol and the exported words.
-fn hand_on(rt: &impl Print, alloc: Global, table: &Table) -> Result<()> {
-    let mut coder = DefaultAnsCoder::new(alloc);
-    coder.encode_symbol(&1, table)?;
+/// of words.
+fn hand_on(rt: &impl Print, mut coder: DefaultAnsCoder, table: &Table) -> Result<()> {
     let symbol = coder.as_decoder().decode_symbol(table)?;
     println!(rt; "{symbol}")?;
     let symbol = coder.into_decoder().decode_symbol(table)?;
@@ -102,11 +101,6 @@ fn hand_on(rt: &impl Print, alloc: Global, table: &Table) -> Result<()> {
     };
     let symbol = borrowed.decode_symbol(table)?;
     println!(rt; "{symbol}")?;
-    let binary = DefaultAnsCoder::from_binary(words.to_vec(alloc)?)?;
-    let Ok(words) = binary.into_binary() else {
-        bail!("no whole words");
-    };
-    println!(rt; "{words:?}")?;
     Ok(())
 }
 
@@ -125,14 +119,13 @@ fn small(rt: &impl Print, alloc: Global) -> Result<()> {
 }
 
 /// Runs all functions of this file, and prints the results.
-pub fn run(rt: &impl Print, alloc: Global) -> Result<()> {
-    let table = WeightTable::<u32, 24>::new(alloc, &[3, 2, 16777211])?;
+pub fn run(rt: &impl Print, alloc: Global, table: &Table) -> Result<()> {
     let mut coder = DefaultAnsCoder::new(alloc);
-    put_from_the_end(&mut coder, &table)?;
-    put_forth(&mut coder, &table)?;
-    take(rt, &mut coder, &table)?;
-    seek(rt, &mut coder, &table)?;
-    show(rt, &mut coder)?;
-    hand_on(rt, alloc, &table)?;
+    put_from_the_end(&mut coder, table)?;
+    put_forth(&mut coder, table)?;
+    take(rt, &mut coder, table)?;
+    seek(rt, &mut coder, table)?;
+    show(rt, alloc, &mut coder)?;
+    hand_on(rt, coder, table)?;
     small(rt, alloc)
 }

@@ -40,19 +40,18 @@ fn stack(rt: &impl Print, alloc: Global, golomb: &ExpGolomb<u32>) -> Result<()> 
 }
 
 /// Builds a store of two chunks, looks up the second chunk, and prints its symbols.
-fn store(rt: &impl Print, alloc: Global) -> Result<()> {
-    let table = WeightTable::<u32, 24>::new(alloc, &[3, 2, 16777211])?;
+fn store(rt: &impl Print, alloc: Global, table: &WeightTable<u32, 24>) -> Result<()> {
     let chunks = [[2usize, 1].to_vec(alloc)?, [0, 2, 2].to_vec(alloc)?];
-    let store = Store::<u32, u64, _, 24>::build(alloc, chunks.as_slice(), &table)?;
+    let store = Store::<u32, u64, _, 24>::build(alloc, chunks.as_slice(), table)?;
     let chunk = store.chunk(alloc, 1)?;
     println!(rt; "{chunk:?}")?;
     Ok(())
 }
 
 /// Runs all functions of this file, and prints the results.
-pub fn run(rt: &impl Print, alloc: Global) -> Result<()> {
+pub fn run(rt: &impl Print, alloc: Global, table: &WeightTable<u32, 24>) -> Result<()> {
     let golomb = ExpGolomb::<u32>::new();
     queue(rt, alloc, &golomb)?;
     stack(rt, alloc, &golomb)?;
-    store(rt, alloc)
+    store(rt, alloc, table)
 }
