@@ -1,25 +1,25 @@
 #!/usr/bin/env python3
-"""Nanoseconds a symbol of encodes and decodes from Python: lines `name ns_per_symbol`, each the least of some runs.
+"""usage: PYTHONPATH=python bench/python.py [PART_OF_A_NAME]
 
-usage: PYTHONPATH=python bench/python.py [PART_OF_A_NAME]
+Prints nanoseconds per symbol of encodes and decodes from Python: lines `name ns_per_symbol`, each the least of several runs.
+With PART_OF_A_NAME, it runs only the cases with this text in their name.
 
-The million symbols and their weights are those of bench/driver, so its lines `ans_encode_u32u64p24_table` and the
-like stand beside these. `array`: symbols come and go as array('Q'); `numpy`: as numpy arrays, where numpy is there;
-`list`: as a list of Python's. An encode begins with a new coder and ends with its words as an array; a decode begins
-with such words. A case begins with the model made. Cases of `gaussian` have a mean and a deviation for each symbol
-of -100 .. 100, as bench/models.c has; in those of `array` the package doesn't see numpy, and all comes as array('d')
-and array('q').
+The million symbols and their weights are those of bench/driver, so the times are comparable with its lines, such as
+`ans_encode_u32u64p24_table`. Symbols are in array('Q') (`array`), in numpy arrays if numpy can be imported (`numpy`), or in
+a list (`list`). An encode begins with a new coder and ends with its words as an array. A decode begins with such words. The
+model exists before a case begins. Cases of `gaussian` have a mean and a deviation for each symbol of -100 .. 100, as in
+bench/models.c. In their cases of `array`, the package can't import numpy, and all values are in array('d') and array('q').
 
-Cases of `one` are a symbol a call, 20,000 of them, in nanoseconds a call: `table` under a fixed model of 256
-symbols, `gaussian` with a mean and a deviation of its own over -100 .. 100, `row` by a row of 16 weights. Where numpy
-is there, `numpy256` is by a row of 256 probabilities, `slice` by a mean and a deviation as parts of arrays with one
-number, and `mixture` by five logistic distributions over -100 .. 100. `bare` is a call of the C function alone, ans_decode of one symbol under
-three weights, by ctypes with all its arguments made before.
+Cases of `one` code one symbol per call, 20,000 times, in nanoseconds per call: `table` with a fixed model of 256 symbols,
+`gaussian` with a mean and a deviation of its own over -100 .. 100, `row` with a row of 16 weights. With numpy, `numpy256` has a
+row of 256 probabilities, `slice` has a mean and a deviation as slices with one number, and `mixture` has five logistic
+distributions over -100 .. 100. `bare` only calls the C function ans_decode for one symbol with three weights, by ctypes, with
+arguments that exist before.
 
-Cases of `mixture` have five logistic distributions for each of 100,000 symbols of -128 .. 127, in arrays of numpy.
+Cases of `mixture` have five logistic distributions for each of 100,000 symbols of -128 .. 127, in numpy arrays.
 
-Cases of `_categorical_` make a model of so many probabilities, in nanoseconds a model, and encode a symbol under each
-row of 256 probabilities, in nanoseconds a symbol.
+Cases of `_categorical_` make a model of the named number of probabilities, in nanoseconds per model, and encode a symbol with
+each row of 256 probabilities, in nanoseconds per symbol.
 """
 
 from __future__ import annotations
@@ -44,14 +44,14 @@ from constriction.stream.queue import RangeDecoder, RangeEncoder
 from constriction.stream.stack import AnsCoder
 
 COUNT, RUNS, PRECISION = 1_000_000, 11, 24
-#: So many symbols are under mixtures.
+#: The number of symbols with mixtures.
 MIXED = 100_000
-#: So many calls of one symbol are timed together.
+#: The number of calls of one symbol that are timed together.
 CALLS = 20_000
 
 
 def random_numbers(x: int, count: int) -> list[int]:
-    """The driver's generator: xorshift with 64 bits of state."""
+    """Returns numbers of the driver's generator: xorshift with 64 bits of state."""
     found = []
     for _ in range(count):
         x ^= x << 13 & 0xFFFFFFFFFFFFFFFF
@@ -62,8 +62,7 @@ def random_numbers(x: int, count: int) -> list[int]:
 
 
 def driver_weights() -> list[int]:
-    """The driver's weights: near to 1 / ((i + 4) * (i + 16)), each 1 at least, and the first takes what rounding
-    leaves."""
+    """Returns the driver's weights: about 1 / ((i + 4) * (i + 16)), each at least 1. The first one takes the rest."""
     shares = [1_000_000_000 // ((i + 4) * (i + 16)) for i in range(256)]
     weights = [1 + share * ((1 << PRECISION) - 256) // sum(shares) for share in shares]
     weights[0] += (1 << PRECISION) - sum(weights)
@@ -71,13 +70,13 @@ def driver_weights() -> list[int]:
 
 
 def driver_symbols(weights: list[int]) -> array[int]:
-    """The driver's symbols, drawn by these weights."""
+    """Returns the driver's symbols, drawn by these weights."""
     ends = list(accumulate(weights))
     return array("Q", (bisect_right(ends, x >> 40) for x in random_numbers(0x123456789ABCDEF1, COUNT)))
 
 
 def least(run: Callable[[], Any], count: int = COUNT) -> float:
-    """The least time of a run, in nanoseconds a symbol. What a run answered is dropped behind its time."""
+    """Returns the least time of a run, in nanoseconds per symbol. The result of a run is dropped after its time."""
     times = []
     for _ in range(RUNS):
         start = perf_counter_ns()
@@ -88,7 +87,7 @@ def least(run: Callable[[], Any], count: int = COUNT) -> float:
 
 
 def encoded(symbols: Any, model: Model, coder: str, *given: Any) -> Any:
-    """The words of a new coder after these symbols."""
+    """Returns the words of a new coder after these symbols."""
     if coder == "ans":
         stack = AnsCoder()
         stack.encode_reverse(symbols, model, *given)
@@ -102,7 +101,7 @@ Case = tuple[str, Callable[[], Any]]
 
 
 def without_numpy(run: Callable[[], Any]) -> Callable[[], Any]:
-    """The same where the package finds no numpy."""
+    """Returns the same run without numpy in the package."""
 
     def blind() -> Any:
         with mock.patch.dict(sys.modules, numpy=None):
@@ -112,7 +111,7 @@ def without_numpy(run: Callable[[], Any]) -> Callable[[], Any]:
 
 
 def gaussian_cases(numpy: Any) -> list[Case]:
-    """Encodes and decodes with a mean and a deviation for each symbol."""
+    """Returns encodes and decodes with a mean and a deviation for each symbol."""
     dice, model = random.Random(1), QuantizedGaussian(-100, 100)
     means = array("d", (dice.uniform(-30, 30) for _ in range(COUNT)))
     stds = array("d", (dice.uniform(0.3, 20.3) for _ in range(COUNT)))
@@ -139,7 +138,7 @@ def gaussian_cases(numpy: Any) -> list[Case]:
 
 
 def mixture_cases(numpy: Any) -> list[Case]:
-    """Encodes and decodes under five logistic distributions for each symbol, over 256 symbols, from numpy."""
+    """Returns encodes and decodes with five logistic distributions for each symbol, over 256 symbols, from numpy."""
     dice, model = numpy.random.default_rng(1), QuantizedMixture(QuantizedLogistic(-128, 127))
     weights = numpy.full((MIXED, 5), 0.2)
     means, scales = dice.uniform(-30, 30, (MIXED, 5)), dice.uniform(0.3, 20.3, (MIXED, 5))
@@ -155,7 +154,7 @@ def mixture_cases(numpy: Any) -> list[Case]:
 
 
 def bare() -> None:
-    """Calls of the C function alone, each of which decodes one symbol; the head is brought back before each."""
+    """Calls only the C function, which decodes one symbol. The head is restored before each call."""
     words, head, length, place = (c_uint32 * 8)(), c_uint64(), c_size_t(0), c_int64()
     weights, one, three, eight = (
         (c_uint32 * 3)(5, 1 << 20, (1 << 24) - 5 - (1 << 20)),
@@ -171,7 +170,7 @@ def bare() -> None:
 
 
 def single_rows(numpy: Any, dice: random.Random) -> list[tuple[str, Model, list[Any]]]:
-    """Models with the parameters of each call in arrays of numpy."""
+    """Returns models with the parameters of each call in numpy arrays."""
     if not numpy:
         return []
     row = numpy.array([dice.random() for _ in range(256)])
@@ -186,7 +185,7 @@ def single_rows(numpy: Any, dice: random.Random) -> list[tuple[str, Model, list[
 
 
 def single_cases(weights: list[int], numpy: Any) -> list[Case]:
-    """One symbol a call."""
+    """Returns cases with one symbol per call."""
     dice, table, family, given = random.Random(2), WeightTable(weights), QuantizedGaussian(-100, 100), WeightTable()
     places = dice.choices(range(256), weights, k=CALLS)
     means, stds = [dice.uniform(-30, 30) for _ in places], [dice.uniform(0.3, 20.3) for _ in places]
@@ -257,7 +256,7 @@ def single_cases(weights: list[int], numpy: Any) -> list[Case]:
 
 
 def categorical_cases(numpy: Any) -> list[tuple[str, Callable[[], Any], int]]:
-    """Models of probabilities, and rows of them; each with how many there are of what is counted."""
+    """Returns cases that make models of probabilities, and encodes with rows of them, each with its count."""
     dice = random.Random(3)
     cases: list[tuple[str, Callable[[], Any], int]] = []
     for size in (256, 50_257, 65_536):
@@ -294,7 +293,7 @@ def main() -> None:
         import numpy
     except ImportError:
         numpy = None
-        print("numpy is not there, so nothing of it is measured", file=sys.stderr)
+        print("numpy can't be imported, so its cases are skipped", file=sys.stderr)
     if "_one_" in wanted:
         for name, run in single_cases(weights, numpy):
             if wanted in name:

@@ -1,4 +1,4 @@
-"""Trials of edits by checks of the edited functions alone, over the libraries that a run of the gate left in out/."""
+"""Tries edits by checks of the edited functions alone, over the libraries in out/ from a run of the gate."""
 
 import os
 import shutil
@@ -15,23 +15,23 @@ from toolchain import words_of_check
 
 
 def places():
-    """Returns how many checks the processors and the memory have room for; a check takes up to 3 GB."""
+    """Returns how many checks can run in parallel, by processors and memory. A check takes up to 3 GB."""
     memory = os.sysconf("SC_PAGE_SIZE") * os.sysconf("SC_PHYS_PAGES")
     return max(1, min(os.cpu_count() or 1, memory // 3_000_000_000))
 
 
 def ask(edit):
-    """Sets the ends of the names that the checker has for the function of an edit's heading."""
+    """Sets the last parts of the checker's names for the function of an edit's heading."""
     edit.asked = name_of(edit.folder, edit.path, edit.function)
 
 
 def is_apart(one, other):
-    """Returns whether one check can judge both: they change other functions, in places that do not meet."""
+    """Returns whether one check can judge both edits: they change different functions, in separate places."""
     return not set(one.asked) & set(other.asked) and not one.meets(other)
 
 
 def bring_up_to_date(kit, crates):
-    """Has `rt lib` see that the libraries below some crates are of the files that stand there, where it built them. Those of the gate have no stamp of it."""
+    """Runs `rt lib` for the libraries below some crates, if it built them. Libraries of the gate have no stamp of `rt lib`."""
     for crate in dict.fromkeys(it for crate in crates for it in crate.below()):
         if os.path.exists(f"{crate.folder}/out/rlib/stamp"):
             ran = Ran([f"{kit.kit}/bin/rt", "lib"], crate.folder)
@@ -40,7 +40,7 @@ def bring_up_to_date(kit, crates):
 
 
 class AloneTrial:
-    """The trial of a crate's edits, whose functions `ask` has named: each check starts from nothing, and proves the edited functions alone."""
+    """A trial of a crate's edits, after `ask`. Each check starts from nothing, and proves only the edited functions."""
 
     def __init__(self, kit, crate, edits, logs):
         self.crate, self.folder, self.edits, self.logs = crate.name, crate.folder, edits, logs
@@ -48,7 +48,7 @@ class AloneTrial:
         self.words = [*words_of_check(kit.kit, crate), "--jobs", "1"]
 
     def run(self, batch):
-        """Tries edits in one check, and returns the processor seconds that it took."""
+        """Tries edits in one check, and returns its processor seconds."""
         with tempfile.TemporaryDirectory(prefix="edits-alone-") as room:
             for part in ("src", "specs", "proofs"):
                 if os.path.isdir(f"{self.folder}/{part}"):
@@ -61,13 +61,13 @@ class AloneTrial:
         found = blames(ran.lines) if ran.verdict == "refused" else []
         for edit in batch:
             judge(edit, found, ran)
-        if not ran.verdict and len(batch) > 1:  # one of them may keep the others from being judged
+        if not ran.verdict and len(batch) > 1:  # one of them may hide the others
             half = len(batch) // 2
             return ran.seconds + self.run(batch[:half]) + self.run(batch[half:])
         return ran.seconds
 
     def note(self, batch, ran):
-        """Keeps what a check printed, where a folder for logs is given."""
+        """Writes the output of a check to the folder for logs, if there is one."""
         if self.logs:
             os.makedirs(self.logs, exist_ok=True)
             with open(f"{self.logs}/{self.crate}-{batch[0].function}-{len(batch)}-{id(batch)}.log", "w", encoding="utf-8") as out:
@@ -75,7 +75,7 @@ class AloneTrial:
 
 
 def judge(edit, found, ran):
-    """Sets whether a check refused an edit's own function, and what it says of it."""
+    """Sets whether a check refused an edit's own function, and keeps its output on it."""
     ends = tuple(f"::{name}" for name in edit.asked)
     of_edit = sorted((it for it in found if f"::{'::'.join(it.path)}".endswith(ends)), key=lambda it: not it.is_own)
     edit.is_refused = bool(of_edit) and of_edit[0].is_own

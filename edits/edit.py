@@ -1,11 +1,11 @@
-"""Edits: blocks of a file of edits that say how to change a source for the worse."""
+"""Edits: blocks of a file of edits, each of which makes a source wrong."""
 
 import collections
 import os
 import re
 
 HEADING = re.compile(r"## (\w+)(, harmless)?: (\S.*)")
-# The line of a function or of a constant; a const parameter on a line of its own is neither.
+# The first line of a function or of a constant, but not a const parameter on a line of its own.
 DECLARATION = re.compile(r"( *)(?:[a-z]+(?:\([^)]*\))? |extern \"C\" )*(?:fn|const) (\w+)\b(?!: \w+[,>]?$)")
 MEMBER = re.compile(r" *ghost (\w+) =")
 
@@ -16,7 +16,7 @@ def read(path):
 
 
 def function_at(lines, number):
-    """Returns the name of the function or constant that holds this line of a formatted source, or '' outside of them."""
+    """Returns the name of the function or constant with this line of a formatted source, or '' outside of them."""
     indent = len(lines[number]) - len(lines[number].lstrip())
     for at in range(number, -1, -1):
         found = DECLARATION.match(lines[at])
@@ -32,13 +32,15 @@ class BadEdit(ValueError):
 
 
 class Edit:
-    """A block of `edits/PATH.edits`: the functions that it changes in `src/PATH.rt`, and for each source the span that differs and its
-    new text. Where it changes what a function of `src/PATH.rt` shows, as a static of another file, that function is the one to be refused.
+    """A block of `edits/PATH.edits`: the functions that it changes in `src/PATH.rt`, and the changed span of each file with its new text.
 
-    `is_apart` where it changes what no function holds, as an impl's header, a ghost member or a definition: then no line of the checker is
-    about it alone. A ghost member counts among the functions."""
+    If the edit changes something that a function of `src/PATH.rt` returns, such as a static of another file, the prover has
+    to refuse that function. A ghost member counts as a function. `is_apart` is true if the edit changes a text outside of
+    functions, such as an impl's header, a ghost member or a definition. Then the checker has no line about this edit alone.
+    """
 
     def __init__(self, crate_folder, path, lines):
+        """Reads a block, and fails if it can't be applied."""
         heading = HEADING.fullmatch(lines[0])
         self.folder, self.path, self.lines = crate_folder, path, lines[1:]
         self.name = f"{path} {lines[0].removeprefix('## ')}"
@@ -46,7 +48,7 @@ class Edit:
             raise BadEdit(f"{self.name}: a heading is '## FUNCTION: WHAT IS WRONG', or '## FUNCTION, harmless: WHAT IT CHANGES'")
         self.function, self.is_harmless = heading[1], bool(heading[2])
         self.functions, self.spans, self.is_apart = set(), {}, False
-        self.said, self.is_settled = "", False  # what the last check said of the edit, and whether another could say more
+        self.said, self.is_settled = "", False  # the last check's output on the edit, and whether another check is useless
         for file, text in self.edited_texts().items():
             self.spans[file] = difference(read(f"{crate_folder}/{file}"), text)
         if f"src/{path}.rt" not in self.spans and re.search(rf"\bfn {self.function}\b", read(f"{crate_folder}/src/{path}.rt")):
@@ -55,7 +57,7 @@ class Edit:
             raise BadEdit(f"{self.name}: its heading must begin with a function or ghost member that it changes: {', '.join(sorted(self.functions))}")
 
     def edited_texts(self):
-        """Returns the texts of the files that it changes, after all its pairs of lines."""
+        """Returns the texts of the changed files, after all pairs of lines."""
         file, old, texts = f"src/{self.path}.rt", "", {}
         for line in filter(None, self.lines):
             if line.startswith("file: "):
@@ -72,16 +74,16 @@ class Edit:
         return texts
 
     def replace(self, texts, file, old, new):
-        """Applies one pair to the texts so far."""
+        """Applies one pair to the texts."""
         if not re.match(r"(src|specs|proofs)/", file) or ".." in file or not os.path.isfile(f"{self.folder}/{file}"):
             raise BadEdit(f"{self.name}: there is no {file} in src/, specs/ or proofs/")
         text = texts.get(file) or read(f"{self.folder}/{file}")
         lines = text.split("\n")
         starts = [it.start() for it in re.finditer(re.escape(old), text)] if old else []
-        if len(starts) > 1:  # then it has to be in the heading's function once
+        if len(starts) > 1:  # then the text has to be in the heading's function once
             starts = [it for it in starts if function_at(lines, text[:it].count("\n")) == self.function]
         if len(starts) != 1:
-            raise BadEdit(f"{self.name}: an 'old:' text is in {file} {text.count(old) if old else 0} times, and not once in it or in the function")
+            raise BadEdit(f"{self.name}: an 'old:' text is in {file} {text.count(old) if old else 0} times, but has to be once in it or in the function")
         number = text[: starts[0]].count("\n")
         function = function_at(lines, number) if file.startswith("src/") else ""
         member = MEMBER.match(lines[number])
@@ -90,23 +92,23 @@ class Edit:
         texts[file] = text[: starts[0]] + new + text[starts[0] + len(old) :]
 
     def fits(self, other):
-        """Returns whether one check can judge both: they change functions of different names, in places that do not meet."""
+        """Returns whether one check can judge both edits: they change different functions, in separate places."""
         return not (self.is_apart or other.is_apart or self.functions & other.functions or self.meets(other))
 
     def meets(self, other):
-        """Returns whether both change one place."""
+        """Returns whether both edits change the same place."""
         both = self.spans.keys() & other.spans.keys()
         return any(self.spans[it][1] >= other.spans[it][0] and other.spans[it][1] >= self.spans[it][0] for it in both)
 
 
 def edits_of(folder):
-    """Returns the edits of a crate, by its folder, and what is wrong with those that cannot be applied and with other files among them."""
+    """Returns the edits of a crate, and faults: edits that can't be applied, and files that aren't files of edits."""
     found, faults, names = [], [], collections.Counter()
     for at, _, files in sorted(os.walk(f"{folder}/edits")):
         for file in sorted(files):
             path = os.path.relpath(f"{at}/{file}", f"{folder}/edits")
             if not path.endswith(".edits"):
-                faults.append(f"{path}: it is no file of edits, whose name ends in .edits")
+                faults.append(f"{path}: it is no file of edits: its name doesn't end in .edits")
                 continue
             for block in blocks(read(f"{at}/{file}")):
                 try:
@@ -119,7 +121,7 @@ def edits_of(folder):
 
 
 def blocks(text):
-    """Returns the lines of each block of a file of edits, whose first one is its heading; of what stands above the first heading too."""
+    """Returns the lines of each block of a file of edits. A block begins with its heading, except lines above the first one."""
     found = []
     for line in text.rstrip("\n").split("\n"):
         if line.startswith("#") or not found:
@@ -129,14 +131,14 @@ def blocks(text):
 
 
 def difference(before, after):
-    """Returns where the span of a text begins and ends that differs from another text, and what stands there in the other."""
+    """Returns the begin and end of the span in which a text differs from another one, and the other one's span."""
     start = shared(before, after)
     same = shared(before[start:][::-1], after[start:][::-1])
     return start, len(before) - same, after[start : len(after) - same]
 
 
 def shared(one, other):
-    """Returns how many characters two texts begin with together."""
+    """Returns the length of the common beginning of two texts."""
     low, high = 0, min(len(one), len(other))
     while low < high:
         middle = (low + high + 1) // 2
@@ -145,7 +147,7 @@ def shared(one, other):
 
 
 def apply(edits, crate_folder):
-    """Writes the edited texts into a copy of the crate, the last span of a file first, so that the places of the others still hold."""
+    """Writes the edited texts into a copy of the crate. A file's last span is written first, so other places stay valid."""
     for file, (start, end, new) in sorted((it for edit in edits for it in edit.spans.items()), reverse=True):
         text = read(f"{crate_folder}/{file}")
         os.unlink(f"{crate_folder}/{file}")  # it may be a link
@@ -154,8 +156,10 @@ def apply(edits, crate_folder):
 
 
 def in_batches(edits, size, fit=Edit.fits):
-    """Returns lists of edits, of each of which one check can judge all. Where many edits change functions of one name, these come first,
-    so that the others fill their batches."""
+    """Returns batches of edits. One check can judge a whole batch.
+
+    Edits of the most edited functions come first, and the others fill their batches.
+    """
     counts = collections.Counter(name for edit in edits for name in edit.functions)
     batches = []
     for edit in sorted(edits, key=lambda it: -max((counts[name] for name in it.functions), default=0)):

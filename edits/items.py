@@ -1,4 +1,4 @@
-"""The items of a source, as far as their layout says them: functions, types, constants, impls and traits with their members."""
+"""The items of a source, by its layout: functions, types, constants, impls and traits with their members."""
 
 import collections
 import functools
@@ -15,13 +15,13 @@ IMPLEMENTS = re.compile(r".*?\bimpl (?:(.*?) for )?(.*?)(?: where\b.*)? ?\{")
 WORD = re.compile(r"[\w']+")
 HYPHENATED = re.compile(r"[\w']+(?:-[\w']+)+")
 
-# An item: the header of the impl or trait that it is a member of, or '', its kind, its name, and what it says.
+# An item: the header of its impl or trait, or '', its kind, its name, and its text.
 Item = collections.namedtuple("Item", "head kind name text")
 
 
 @functools.lru_cache(maxsize=None)
 def items(text):
-    """Returns the items of a source but what it uses. An impl or trait is the header alone, its members are items of their own."""
+    """Returns the items of a source, without imports. An impl or trait is only its header, and its members are own items."""
     found = []
     for line, lines in parts(without_comments(text).split("\n"), ""):
         if HOLDS_MEMBERS.match(line):
@@ -35,12 +35,13 @@ def items(text):
 
 
 def item(head, line, lines):
+    """Returns the item of these lines."""
     kind, name = NAMED.search(line).groups() if NAMED.search(line) else ("", line)
     return Item(head, kind, name, said("\n".join(lines)))
 
 
 def parts(lines, indent):
-    """Returns the parts of a source that begin with an item's attributes or its first line at this indentation, each with that line."""
+    """Returns the parts of a source at this indentation. Each has an item's first line, and all its lines with attributes."""
     found, is_named = [], True
     for line in lines:
         begins = line.startswith(indent) and BEGINS.match(line[len(indent) :])
@@ -62,8 +63,10 @@ def header_and_body(lines):
 
 @functools.lru_cache(maxsize=None)
 def implemented(head):
-    """Returns the name of the trait that an impl's header implements, or '', and its type without what is in angles; of a trait's header
-    its name and ''."""
+    """Returns the trait and the type of an impl's header, without text in angle brackets. An impl without a trait has ''.
+
+    For the header of a trait, returns its name and ''.
+    """
     if found := re.search(r"\btrait (\w+)", head):
         return found[1], ""
     bare = re.sub(r"[-=]>", "", head)
@@ -80,5 +83,5 @@ def is_of_trait(it):
 
 
 def words_of(text):
-    """Returns the names in a text, and the words of those that have hyphens."""
+    """Returns the names in a text, and the words of names with hyphens."""
     return {*WORD.findall(text), *HYPHENATED.findall(text)}

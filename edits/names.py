@@ -1,5 +1,8 @@
-"""The ends of the names that the checker has for functions, by the sources: `function` where a crate has one of that name alone, or else
-`module::function`, `Type::method`, `TypeTraitArguments::method`, and `Type+ARGUMENTS::method` for methods of a type with some arguments alone."""
+"""The last parts of the checker's names for functions, by the sources.
+
+They are `function` if the crate has only one function of that name, and otherwise `module::function`, `Type::method`,
+`TypeTraitArguments::method`, or `Type+ARGUMENTS::method` for a method of a type with certain arguments.
+"""
 
 import functools
 import re
@@ -11,7 +14,7 @@ from sources import files_below
 
 HEADER = re.compile(r"(?:unsafe )?impl\b(.*?)(?: where\b.*)? ?\{\}?")
 TRAIT = re.compile(r"(?:pub(?:\([^)]*\))? )?(?:unsafe )?trait (\w+)")
-# Functions of these names the checker has also where no source shows them.
+# The checker also has functions of these names that no source shows.
 DERIVED = {"clone", "default", "drop", "eq", "fmt", "hash"}
 # A lifetime, a reference, a slice or array, or a word.
 PART = re.compile(r"'\w+|&mut\b|&|\[|\w+")
@@ -31,8 +34,10 @@ def modules(crate_folder):
 
 
 def name_of(crate_folder, path, function):
-    """Returns the end of the name of a function of `src/PATH.rt`, or more than one where the file has more functions of that name. The checker
-    takes a name that a module has too for the module's."""
+    """Returns the last part of the name of each function of `src/PATH.rt` with this name.
+
+    The checker takes the name of a module for the module.
+    """
     named = [(file, it) for file, it in functions(crate_folder) if it.name == function]
     if len(named) == 1 and function not in DERIVED and function not in modules(crate_folder):
         return [function]
@@ -42,7 +47,7 @@ def name_of(crate_folder, path, function):
 
 
 def owner(head):
-    """Returns what stands for the impl or trait of a header in a name, or nothing where there is none."""
+    """Returns the part of a name for the impl or trait of a header, or nothing without one."""
     if not head:
         return []
     if trait := TRAIT.match(head):
@@ -52,14 +57,14 @@ def owner(head):
     if of_trait in ("", "Drop"):
         name, *arguments = parts(of_type)
         return [name if set(arguments) <= own else "+".join([name, *arguments])]
-    # A trait's argument that is the type itself is not said again.
+    # The name doesn't repeat a trait's argument that is the type itself.
     of_type, of_trait = parts(of_type), parts(of_trait)
     told = [*of_type, *(it for it in of_trait if [it] != of_type)]
     return ["".join(it[0].upper() + it[1:] for it in told if it not in own)]
 
 
 def parameters(header):
-    """Returns the names of an impl's type parameters, and what stands behind them."""
+    """Returns the names of an impl's type parameters, and the text after them."""
     if not header.startswith("<"):
         return set(), header
     depth, at = 0, 0
@@ -74,7 +79,7 @@ def parameters(header):
 
 
 def parts(text):
-    """Returns the words of a type or trait as names have them, without paths and lifetimes."""
+    """Returns the words of a type or trait in a name, without paths and lifetimes."""
     signs = {"&": "ref", "&mut": "refMut", "[": "slice"}
     found = PART.findall(re.sub(r"\w+::|\w+ = ", "", text))
     return [signs.get(it, it) for it in found if not it.startswith("'")]

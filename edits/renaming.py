@@ -1,11 +1,11 @@
-"""Texts without the names that they declare themselves: of two that differ by a renaming nothing differs."""
+"""Texts without the names that they declare: two texts that differ only by a renaming become equal."""
 
 import collections
 import functools
 import re
 
 WORDS = re.compile(r"([\w']+)")
-# What a type declares beside its name: its fields, and the cases of an enum.
+# The names that a type declares besides its own: its fields, and the variants of an enum.
 TYPE = re.compile(r"\b(struct|enum|union|type|const|static) (\w+)")
 FIELD = re.compile(r"[{,(] ?(?:pub(?:\([^)]*\))? )?(\w+):(?!:)")
 CASE = re.compile(r"[{,] ?([A-Z]\w*)")
@@ -31,8 +31,11 @@ def declared_by_trait(text):
 
 
 def stand_ins(traits):
-    """Returns by name what stands for traits, and for the ghost members that they declare, where their texts are none of the texts: the methods of the
-    trait, and of a member its place in it too. Nothing stands for a trait without methods."""
+    """Returns a replacement for each trait and each of its ghost members, by name, for traits outside of the texts.
+
+    A trait's replacement has its methods, and a member's also has its place in the trait. A trait without methods has an
+    empty replacement.
+    """
     found, members = {}, collections.defaultdict(list)
     for name, text in traits.items():
         methods = " ".join(METHOD.findall(text))
@@ -43,14 +46,17 @@ def stand_ins(traits):
 
 
 def without_names(texts, names, others):
-    """Returns texts in an order that no renaming changes. In place of each of these names they have the place of its first use, and in place of each of
-    the others what stands for it, or that place where nothing does."""
+    """Returns texts in an order that no renaming changes, with places for names.
+
+    The place of a name's first use replaces the name. The other names get their replacements, or such places if these are
+    empty.
+    """
     names = names | {it for it in others if not others[it]}
     texts = [replaced(text, others.keys() - names, others.get) for text in texts]
     alike, places, found = collections.defaultdict(list), {}, []
     for text in texts:
         alike[nameless(text, names)].append(text)
-    for _, left in sorted(alike.items(), key=lambda it: (len(it[1]), it[0])):  # where texts are alike, the others tell which comes first
+    for _, left in sorted(alike.items(), key=lambda it: (len(it[1]), it[0])):  # other texts decide the order of equal ones
         left.sort()
         while left:
             text = min(left, key=lambda it: placed(it, names, dict(places))) if len(left) > 1 else left[0]
@@ -61,14 +67,17 @@ def without_names(texts, names, others):
 
 @functools.lru_cache(maxsize=None)
 def split(text):
-    """Returns the words of a text and what stands between them, in turn, and the places of the words that can be replaced. A function that is called, or
-    that is named behind its type, keeps its name, since its contract is none of the texts."""
+    """Returns a list that alternates words and the texts between them, and the places of words that can be replaced.
+
+    A called function keeps its name, as does a function after its type, because its contract isn't among the texts.
+    """
     parts = WORDS.split(text)
     places = [at for at in range(1, len(parts), 2) if parts[at][:1].isupper() or not (parts[at + 1].startswith("(") or parts[at - 1].endswith("::"))]
     return parts, places
 
 
 def nameless(text, names):
+    """Returns a text without these names."""
     return replaced(text, names, lambda name: "§")
 
 
@@ -78,6 +87,7 @@ def placed(text, names, places):
 
 
 def replaced(text, names, of_name):
+    """Returns a text in which `of_name` replaces these names."""
     parts, places = split(text)
     parts = list(parts)
     for at in places:

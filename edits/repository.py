@@ -22,16 +22,17 @@ class Crates:
         return f"{self.root}/crates/{name}"
 
     def below(self, name):
-        """Returns the crates of the repository that a crate rests on, in its own line or in theirs."""
+        """Returns the crates below a crate."""
         used = [it for it in self.said[name] if it in self.said]
         return set(used).union(*(self.below(it) for it in used))
 
     def bottom_up(self):
+        """Returns the names of all crates, each after the crates that it uses."""
         return sorted(self.said, key=lambda name: (len(self.below(name)), name))
 
 
 def copy_repository(root, to, kept):
-    """Copies a repository, and the work that earlier checks kept in out/ of these crates, which saves proving them again."""
+    """Copies a repository with the results of earlier checks in out/ of these crates, so they needn't be proved again."""
 
     def left_out(folder, names):
         return [it for it in names if it == ".git" or it == "out" and os.path.basename(folder) not in kept]
@@ -40,11 +41,12 @@ def copy_repository(root, to, kept):
 
 
 def copy_crate(folder, to):
+    """Copies the folder of a crate."""
     shutil.copytree(folder, to, symlinks=True, copy_function=copy_or_link)
 
 
 def copy_or_link(file, to):
-    """Copies a file, but links one of out/, which has some GB: rt makes new files there, and writes into none that stands."""
+    """Copies a file, or links a file of out/, which has several GB. rt makes new files there, and changes no existing one."""
     if "/out/" in file:
         try:
             os.link(file, to)

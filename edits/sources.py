@@ -1,4 +1,4 @@
-"""What a crate and those below it say, and which of it gives the words of an item their meaning."""
+"""The sources of a crate and of the crates below, and the texts that give the words of an item their meaning."""
 
 import collections
 import functools
@@ -11,12 +11,12 @@ from items import implemented, is_of_trait, items, words_of
 from layout import said_by_definitions, without_comments
 from renaming import FIELD_OF_RECORD, declared_by_trait, declared_by_type, stand_ins
 
-# A line that begins a definition, or gives one of its cases.
+# The first line of a definition, or of one of its cases.
 DEFINED = re.compile(r"(?:(?:pub|abbrev|record|data|lemma|instance) )*([\w'-]+)")
 LABEL = re.compile(r"\b(requires|ensures\*?) [\w']+ \{")
 TYPES = ("struct", "enum", "union", "type", "const", "static")
 USE = re.compile(r"^ *(?:pub(?:\([^)]*\))? |ghost )*use ([^;{\n]*)(\{[^}]*)?", re.MULTILINE)
-# A ghost member that an impl chooses, its trait, the impl's type, what it says, and its file.
+# A ghost member of an impl: its name, its trait, the impl's type, its text, and its file.
 Member = collections.namedtuple("Member", "name trait type text file")
 
 
@@ -56,11 +56,11 @@ class Sources:
         return [(file, it) for file, parts in self.files.items() for it in parts]
 
     def defined(self):
-        """Returns the names that a definition of specs/ or an item has."""
+        """Returns the names of definitions in specs/ and of items."""
         return {name for parts in self.blocks.values() for it in parts for name in names_of(it)} | {it.name for it in self.items()}
 
     def definitions(self):
-        """Returns by name the definitions of specs/, each with its file."""
+        """Returns the definitions of specs/ by name, each with its file."""
         found = collections.defaultdict(set)
         for file, block in ((file, it) for file, parts in self.blocks.items() for it in parts):
             for name in names_of(block):
@@ -68,7 +68,7 @@ class Sources:
         return found
 
     def types(self):
-        """Returns by name types, aliases and constants, types with their `impl Model`, each with its file."""
+        """Returns types, aliases and constants by name, each with its file. A type also has its `impl Model`."""
         found = collections.defaultdict(set)
         for file, it in self.items_by_file():
             of_trait, of_type = implemented(it.head)
@@ -78,7 +78,7 @@ class Sources:
         return found
 
     def traits(self):
-        """Returns by name the text of each trait, its header on the first line, and its file."""
+        """Returns the text of each trait by name, with its header on the first line, and its file."""
         texts = collections.defaultdict(list)
         for file, it in self.items_by_file():
             if is_of_trait(it):
@@ -86,7 +86,7 @@ class Sources:
         return {implemented(head)[0]: ("\n".join([head, *texts[head, file]]), file) for head, file in texts}
 
     def members(self):
-        """Returns the ghost members that impls choose and of which something is said, here or by a trait of another library."""
+        """Returns the ghost members of impls that some text cites, or whose trait another library declares."""
         texts = [it.text for it in self.items()] + [it for parts in self.blocks.values() for it in parts]
         told = collections.Counter(word for text in texts for word in words_of(text))
         ghosts = [(file, it) for file, it in self.items_by_file() if it.kind == "ghost"]
@@ -99,7 +99,7 @@ class Sources:
         return found
 
     def used_of(self, libraries):
-        """Returns the names that a file has from one of these libraries, or from a module of the prover's."""
+        """Returns the names that files import from these libraries or from modules of the prover."""
         found = set()
         for path, braces in (it for text in self.texts.values() for it in USE.findall(text)):
             first = re.split(r"[:. ]+", path.removeprefix("Rattle."))[0]
@@ -108,12 +108,12 @@ class Sources:
         return found
 
     def uses(self, file):
-        """Returns the names that a file has from elsewhere, and those of them that it may call otherwise."""
+        """Returns the names that a file imports, and the names of imports that it may rename."""
         names, others = set(), set()
         for path, braces in USE.findall(self.texts[file]):
             names |= words_of(braces)
             others |= words_of(braces) if " as " in braces else set()
-            if not braces:  # all that a module defines
+            if not braces:  # all definitions of a module
                 module = path.partition(" as ")[0].strip().removeprefix("Rattle.").replace(".", "/")
                 names |= {name for block in self.blocks.get(f"{module}.antt", ()) for name in names_of(block)}
         return names, others
@@ -125,14 +125,15 @@ def names_of(block):
 
 
 def unlabelled(text):
-    """Returns a text without what the clauses of functions are called, which is no part of what they say."""
+    """Returns a text without the labels of clauses."""
     return LABEL.sub(r"\1 {", text)
 
 
 class Meaning:
-    """What gives the words of a crate's contracts their meaning, here and in the crates below."""
+    """The texts of a crate and of the crates below that give the words of contracts their meaning."""
 
     def __init__(self, crates, name):
+        """Reads the sources of a crate and of the crates below."""
         self.sources = Sources(texts_of(crates, [name, *crates.below(name)]))
         self.definitions, self.types = self.sources.definitions(), self.sources.types()
         self.traits, self.members = self.sources.traits(), self.sources.members()
@@ -143,8 +144,11 @@ class Meaning:
         self.named = functools.lru_cache(maxsize=None)(self.named_by)
 
     def meant_by(self, it, file):
-        """Returns an item with the texts that its meaning rests on: the trait that it is of with those above it, the ghost members of types
-        that it names, where it or the trait speaks of them, and all definitions that one of these names, also by way of others."""
+        """Returns an item with all texts that its meaning depends on.
+
+        These are its trait with the supertraits, the ghost members of types that it names if it or the trait cites them, and
+        all definitions that one of these texts names, directly or through others.
+        """
         words = words_of(f"{it.head} {it.text}")
         traits = self.traits_of(implemented(it.head)[0])
         told = words | (words_of(traits[0][0]) if traits else set())
@@ -157,14 +161,14 @@ class Meaning:
         return {text for text, _ in seen}
 
     def traits_of(self, name):
-        """Returns a trait and then those that its header names, by way of others too."""
+        """Returns a trait, and then the traits that its header names, directly or through others."""
         names = [name] if name in self.traits else []
         for it in names:
             names += sorted((words_of(self.traits[it][0].partition("\n")[0]) & self.traits.keys()) - set(names))
         return [self.traits[it] for it in names]
 
     def named_by(self, text, file):
-        """Returns the types that a text names, and the definitions, which its file uses or defines."""
+        """Returns the types that a text names, and the named definitions that its file imports or has."""
         used, others = self.uses(file)
         words = words_of(text) | others
         types = (self.types[it] for it in words & self.types.keys())
@@ -174,17 +178,17 @@ class Meaning:
 
     @functools.cached_property
     def declared(self):
-        """Returns by text the names that a definition, a type or a trait declares."""
+        """Returns the names that each definition, type and trait declares, by its text."""
         found = {text: declared_by_type(text) for of_name in self.types.values() for text, _ in of_name}
         found |= {text: declared_by_trait(text) for text, _ in self.traits.values()}
         return found | {text: names_of(text) | set(FIELD_OF_RECORD.findall(text)) for of_name in self.definitions.values() for text, _ in of_name}
 
     def declared_in(self, texts):
-        """Returns the names that some of these texts declare and that no other library has."""
+        """Returns the names that some of these texts declare, without names of other libraries."""
         return set().union(*(self.declared.get(it, ()) for it in texts)) - self.foreign
 
     def others(self, names):
-        """Returns by name what stands for all other traits and their ghost members."""
+        """Returns the replacements of all other traits and their ghost members, by name."""
         beyond = self.traits.keys() - names
         found = stand_ins({name: self.traits[name][0] for name in beyond})
         return {name: found[name] for name in found.keys() - names - self.foreign}

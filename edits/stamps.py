@@ -13,14 +13,14 @@ from sources import Meaning
 STAMPS = f"{ROOT}/edits/STAMPS"
 LINE = re.compile(r"(\w+) (\S+) (\w+) ([0-9a-f]{16}) (\S+)\n")
 
-# Whose edits a stamp speaks of: those of crates/CRATE/edits/PATH.edits with a function's name in their heading.
+# The edits of a stamp: the edits of crates/CRATE/edits/PATH.edits with a function's name in their heading.
 Key = collections.namedtuple("Key", "crate path function")
-# The sum of what the trial of these edits rests on, and the kit that tried them.
+# The checksum of the texts that a trial of these edits depends on, and the kit that tried them.
 Stamp = collections.namedtuple("Stamp", "sum kit")
 
 
 def stamps_of(crates, name, edits, version):
-    """Returns by key the stamps of a crate's edits."""
+    """Returns the stamps of a crate's edits by key."""
     kit, logic = kit_and_logic(version)
     meaning, by_key = Meaning(crates, name), collections.defaultdict(list)
     for edit in edits:
@@ -29,8 +29,11 @@ def stamps_of(crates, name, edits, version):
 
 
 def texts_of_trial(meaning, crate, edits):
-    """Returns what the trial of edits rests on, but for what the definitions, types and fields in it are called: their own lines, what they change, and
-    what that means. An edit of what no function holds rests on all items of its source."""
+    """Returns the texts that a trial of edits depends on, without the names of definitions, types and fields.
+
+    These are the lines of the edits, the changed functions, and all that gives their words a meaning. An edit of a text
+    outside of functions depends on all items of its source.
+    """
     texts = {"\n".join(filter(None, it.lines)) for it in edits}
     for edit in edits:
         for file in {*edit.spans, f"src/{edit.path}.rt"}:
@@ -46,27 +49,28 @@ def texts_of_trial(meaning, crate, edits):
 
 
 def kit_and_logic(version):
-    """Returns the kit's name, which changes with each release, and the sum of its logic, of what `rt version` says: KIT logic SUM."""
+    """Returns the kit's name and the checksum of its logic, from the output KIT logic SUM of `rt version`."""
     found = re.fullmatch(r"(\S+) (logic [0-9a-f]+)", version.strip())
     if not found:
-        raise ValueError(f"rt version says '{version.strip()}', and not a kit and the sum of its logic")
+        raise ValueError(f"rt version says '{version.strip()}', not a kit and the checksum of its logic")
     return found.groups()
 
 
 def sum_of(texts):
+    """Returns the checksum of texts."""
     return hashlib.sha256("\n\n".join(texts).encode()).hexdigest()[:16]
 
 
 def kept_stamps(path=STAMPS):
-    """Returns by key the stamps that a file has."""
+    """Returns the stamps of a file by key."""
     text = read(path) if os.path.exists(path) else ""
     if LINE.sub("", text):
-        raise ValueError(f"edits/STAMPS has a line that is no stamp, as a merge leaves it: {LINE.sub('', text).split(chr(10))[0]}")
+        raise ValueError(f"edits/STAMPS has a line that is no stamp, perhaps from a merge: {LINE.sub('', text).split(chr(10))[0]}")
     return {Key(*line[:3]): Stamp(*line[3:]) for line in LINE.findall(text)}
 
 
 def put_stamps(stamps, path=STAMPS):
-    """Writes stamps by key, or takes out those that are None. The other lines are left as they stand now."""
+    """Writes stamps by key, and removes the stamps that are None. Other lines stay."""
     stamps = {**kept_stamps(path), **stamps}
     with open(path + ".new", "w", encoding="utf-8") as out:
         out.write("".join(f"{' '.join([*key, *stamps[key]])}\n" for key in sorted(stamps) if stamps[key]))

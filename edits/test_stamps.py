@@ -1,4 +1,4 @@
-"""Tests which stamps differ after which changes, on two crates in temporary folders. No checker runs."""
+"""Tests which changes make which stamps differ, on two crates in temporary folders. No checker runs."""
 
 import os
 import sys
@@ -151,7 +151,7 @@ def exchanged(one, other, *paths):
 
 
 FIRST, ALL = ["first"], ["first", "measure", "next", "second", "weigh"]
-# Of each case the changes, each a file, an old text and a new one, and the functions of which the stamps differ.
+# The changes of each case (a file, an old text and a new one), and the functions whose stamps differ.
 CASES = {
     "layout": ([(UPPER, "same(value)", "same(\n            value,\n        )"), (UPPER, "first(&self)", "first(\n        &self,\n    )")], []),
     "layout of a definition": ([(WIDE, "wide = suc size", "wide =\n    suc  size")], []),
@@ -166,7 +166,7 @@ CASES = {
     "a definition that nothing cites": ([(WIDE, "below most = most", "below most = suc most")], []),
     "a definition with the name of a local": ([(WIDE, "value = 9", "value = 8")], []),
     "a definition in another file": ([(WIDE, "abbrev pub wide : ℕ\nwide = suc size\n\n", ""), (SIZES, "-- how many\n", "abbrev pub wide : ℕ\nwide = suc size\n\n")], []),
-    "a field behind an empty line": ([(WIDE, "n < 9", "n < 10")], ["second"]),
+    "a field after an empty line": ([(WIDE, "n < 9", "n < 10")], ["second"]),
     "a definition below, by way of another": ([(SIZES, "size = 1", "size = suc 0")], FIRST),
     "a definition below that nothing cites": ([(SIZES, "other = 2", "other = 3")], []),
     "a where line": ([(UPPER, "Word: Copy", "Word: Clone")], ["first", "second"]),
@@ -184,7 +184,7 @@ CASES = {
     "a record's field of another name": (renamed("few", "most", WIDE), []),
     "records' fields with the names of each other": ([(WIDE, "any", "few "), (WIDE, "pub few :", "pub any :")], []),
     "a type of another name": (renamed("Pile", "Heap", UPPER), []),
-    "a type of another name beside one that is alike": (renamed("Left", "Start", UPPER), []),
+    "a type of another name next to a similar one": (renamed("Left", "Start", UPPER), []),
     "another type that is alike": ([(UPPER, "at: Left", "at: Right")], ["nearest"]),
     "a field of another name": (renamed("front", "head", UPPER, EDITS), []),
     "a field with the name of a function that is called": ([(UPPER, "    gap: u32", "    room: u32")], []),
@@ -202,10 +202,10 @@ CASES = {
     "an edit": ([(EDITS, "two(2)", "two(3)")], FIRST),
     "a heading": ([(EDITS, "first: one more", "first: one too many")], []),
 }
-# Texts that say the same, and those that don't.
+# Pairs of texts that are equal without layout, and pairs that aren't.
 SAME = [("{ a }", "{\n    a\n}"), ("f  a\n  b", "f a b"), ("f(\n    a,\n    b,\n)", "f(a, b)"), ("F<\n    A,\n>::new()", "F<A>::new()"), ("a\n    .b()", "a.b()")]
 OTHER = [("(a,)", "(a)"), ("a && b", "a & &b"), ('"a  b"', '"a b"'), ("f x", "fx"), ("f (a, b)", "f (a, c)"), ("-x", "- x")]
-# What stands for the headers of impls in the checker's names.
+# Headers of impls, and their parts of the checker's names.
 OWNERS = {
     "": [],
     "pub trait Decode<const P: usize>: Code {": ["Decode"],
@@ -215,12 +215,12 @@ OWNERS = {
     "impl<Word> ReadWords<Word, Stack> for &mut Vec<Word> {": ["RefMutVecReadWordsStack"],
     "impl<Inner: Drop> Drop for Guard<'_, Inner> {": ["Guard"],
 }
-# Const parameters on lines of their own are no items.
+# Const parameters on lines of their own aren't items.
 LEAST = "pub fn least<\n    Word: Copy,\n    const MOST: usize,\n>(word: Word) -> usize {\n    MOST\n}\n\npub const ROOM: usize = 7;".split("\n")
 
 
 def stamps(files, changes):
-    """Returns by function the sums of the stamps after changes of files."""
+    """Returns the checksums of the stamps after changes of files, by function."""
     files = dict(files)
     for path, old, new in changes:
         if old not in files[path]:
@@ -239,13 +239,14 @@ def stamps(files, changes):
 
 
 def main():
+    """Runs all cases, prints the faults, and returns the status."""
     before, faults = stamps(FILES, []), []
     for name, (changes, wanted) in CASES.items():
         now = stamps(FILES, changes)
         got = sorted(it for it in now if now[it] != before[it])
         faults += [] if got == wanted else [f"{name}: {got}, and not {wanted}"]
-    faults += [f"{pair} don't say the same" for pair in SAME if said(pair[0]) != said(pair[1])]
-    faults += [f"{pair} say the same" for pair in OTHER if said(pair[0]) == said(pair[1])]
+    faults += [f"{pair} differ" for pair in SAME if said(pair[0]) != said(pair[1])]
+    faults += [f"{pair} don't differ" for pair in OTHER if said(pair[0]) == said(pair[1])]
     faults += [f"{head}: {owner(head)}" for head in OWNERS if owner(head) != OWNERS[head]]
     faults += [] if [function_at(LEAST, at) for at in (4, 7)] == ["least", "ROOM"] else ["a const parameter is taken for an item"]
     print("\n".join(faults))

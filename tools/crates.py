@@ -10,6 +10,7 @@ class Crate:
     """A crate: the crates and libraries that it uses, its kinds, and the paths of its files."""
 
     def __init__(self, top, name, kinds, uses, libraries):
+        """Takes the line of a crate in crates.txt."""
         self.top, self.name, self.uses, self.libraries = top, name, uses, libraries  # the libraries belong to the toolchain
         self.folder, self.kinds = f"{top}/crates/{name}", kinds
         self.is_static = "staticlib" in kinds

@@ -104,6 +104,7 @@ class Run:
     """A run that proves some crates, except those named in `done`. It shows the unproved answer meanwhile, if one is given."""
 
     def __init__(self, toolchain, crates, done, unit, progress, answer=None):
+        """Takes the crates to prove, and the names of the crates that are done."""
         self.toolchain, self.crates, self.done, self.progress = toolchain, {it.name: it for it in crates}, set(done), progress
         self.unit = unit  # the seconds of a proof of weight 1 with one job, or None until the first proof has ended
         self.answer = [answer.said] if answer else []

@@ -27,6 +27,7 @@ class Renames:
     """Lines `OLD NEW`, or `OLD NEW MODULE..` for a name that only these files of specs/ and their users rename."""
 
     def __init__(self, path):
+        """Reads a file of renames, which may be absent."""
         self.new, self.within = {}, collections.defaultdict(dict)
         for old, new, *modules in map(self.checked, lines_of(path)):
             for names in [self.within[it] for it in modules] or [self.new]:
