@@ -122,6 +122,8 @@ def _explained(refused: Refusal, symbols: Any, model: Model, given: tuple[Any, .
 
 def _explained_weights(refused: Refusal, model: Model, given: tuple[Any, ...]) -> Refusal:
     """Returns an exception that states the sum of the first row of weights with a wrong sum."""
+    if given and model.rows_form == "_counts":
+        return refused
     for place, row in enumerate(_rows(model, given) if given else (model.table(),)):
         if not len(row):
             return type(refused)("expected at least one weight, got none" + (f" in row {place}" if given else ""))
@@ -137,7 +139,10 @@ def _rows(model: Model, given: tuple[Any, ...]) -> Iterator[Sequence[int]]:
         yield from repeat(model.table())
     elif model.has_rows:
         for weights, width, count in model.rows(given):
-            yield from (weights[i * width : (i + 1) * width] for i in range(count))
+            if model.rows_form == "_counts":  # A symbol whose count is 0 has a weight too.
+                yield from repeat(range(1, width + 1), count)
+            else:
+                yield from (weights[i * width : (i + 1) * width] for i in range(count))
     else:
         located = model.located(given)
         if located is not None:
@@ -158,7 +163,7 @@ def _encoded_under_rows(
     state = ready(state, len(places))
     for weights, width, part in reversed(parts) if backwards else parts:
         count = part.stop - part.start
-        state = encode("_each", state, count, (*listed(weights), width, lent(places, part.start), count))
+        state = encode(model.rows_form, state, count, (*listed(weights), width, lent(places, part.start), count))
     return state
 
 
@@ -187,7 +192,7 @@ def _under_rows(state: Any, model: Model, given: tuple[Any, ...], decode: Call) 
     symbols = room(SYMBOL, 0)
     for weights, width, count in model.rows(given):
         some = room(SYMBOL, count)
-        state = decode("_each", state, count, (*listed(weights), width, *listed(some)))
+        state = decode(model.rows_form, state, count, (*listed(weights), width, *listed(some)))
         symbols.extend(some)
     return state, symbols
 

@@ -97,6 +97,7 @@ _size, _list = c_size_t, c_void_p
 _length, _needed = POINTER(c_size_t), POINTER(c_size_t)
 _buffer = [_list, _size, _length]
 _table, _rows, _pairs = [_list, _size], [_list, _size, _size], [_list, _size, _list, _size]
+_counted = [_list, _size, _size]
 _located = [c_uint32, c_int32, c_int32, _list, _size, _list, _size]
 _mixed = [c_uint32, c_int32, c_int32, _size, _list, _size, _list, _size, _list, _size]
 _items = [_list, _size]
@@ -117,6 +118,7 @@ _PARAMETERS: dict[str, list[Any]] = {
     "ans_encode_bytes_reverse": [_head, *_buffer, *_table, *_items, _needed],
     "ans_encode_shorts_reverse": [_head, *_buffer, *_table, *_items, _needed],
     "ans_encode_each_reverse": [_head, *_buffer, *_rows, *_items, _needed],
+    "ans_encode_counts_reverse": [_head, *_buffer, *_counted, *_items, _needed],
     "ans_encode_intervals_reverse": [_head, *_buffer, *_pairs, _needed],
     "ans_encode_quantized_reverse": [_head, *_buffer, *_located, *_items, _needed],
     "ans_encode_mixture_reverse": [_head, *_buffer, *_mixed, *_items, _needed],
@@ -124,6 +126,7 @@ _PARAMETERS: dict[str, list[Any]] = {
     "ans_decode_bytes": [_head, *_buffer, *_table, *_items],
     "ans_decode_shorts": [_head, *_buffer, *_table, *_items],
     "ans_decode_each": [_head, *_buffer, *_rows, *_items],
+    "ans_decode_counts": [_head, *_buffer, *_counted, *_items],
     "ans_decode_quantized": [_head, *_buffer, *_located, *_items],
     "ans_decode_mixture": [_head, *_buffer, *_mixed, *_items],
     "ans_from_compressed": [*_buffer, _head],
@@ -135,6 +138,7 @@ _PARAMETERS: dict[str, list[Any]] = {
     "range_encode_bytes": [_encoder, *_buffer, *_table, *_items, _needed],
     "range_encode_shorts": [_encoder, *_buffer, *_table, *_items, _needed],
     "range_encode_each": [_encoder, *_buffer, *_rows, *_items, _needed],
+    "range_encode_counts": [_encoder, *_buffer, *_counted, *_items, _needed],
     "range_encode_intervals": [_encoder, *_buffer, *_pairs, _needed],
     "range_encode_quantized": [_encoder, *_buffer, *_located, *_items, _needed],
     "range_encode_mixture": [_encoder, *_buffer, *_mixed, *_items, _needed],
@@ -145,6 +149,7 @@ _PARAMETERS: dict[str, list[Any]] = {
     "range_decode_bytes": [_decoder, *_items, *_table, *_items],
     "range_decode_shorts": [_decoder, *_items, *_table, *_items],
     "range_decode_each": [_decoder, *_items, *_rows, *_items],
+    "range_decode_counts": [_decoder, *_items, *_counted, *_items],
     "range_decode_quantized": [_decoder, *_items, *_located, *_items],
     "range_decode_mixture": [_decoder, *_items, *_mixed, *_items],
     "range_seek": [_decoder, *_items, _size, _number, _number],
@@ -158,12 +163,14 @@ _PARAMETERS: dict[str, list[Any]] = {
     "chain_decode_bytes": [_heads, *_buffer, *_buffer, *_table, *_items, _needed],
     "chain_decode_shorts": [_heads, *_buffer, *_buffer, *_table, *_items, _needed],
     "chain_decode_each": [_heads, *_buffer, *_buffer, *_rows, *_items, _needed],
+    "chain_decode_counts": [_heads, *_buffer, *_buffer, *_counted, *_items, _needed],
     "chain_decode_quantized": [_heads, *_buffer, *_buffer, *_located, *_items, _needed],
     "chain_decode_mixture": [_heads, *_buffer, *_buffer, *_mixed, *_items, _needed],
     "chain_encode_reverse": [_heads, *_buffer, *_buffer, *_table, *_items, _needed],
     "chain_encode_bytes_reverse": [_heads, *_buffer, *_buffer, *_table, *_items, _needed],
     "chain_encode_shorts_reverse": [_heads, *_buffer, *_buffer, *_table, *_items, _needed],
     "chain_encode_each_reverse": [_heads, *_buffer, *_buffer, *_rows, *_items, _needed],
+    "chain_encode_counts_reverse": [_heads, *_buffer, *_buffer, *_counted, *_items, _needed],
     "chain_encode_intervals_reverse": [_heads, *_buffer, *_buffer, *_pairs, _needed],
     "chain_encode_quantized_reverse": [_heads, *_buffer, *_buffer, *_located, *_items, _needed],
     "chain_encode_mixture_reverse": [_heads, *_buffer, *_buffer, *_mixed, *_items, _needed],

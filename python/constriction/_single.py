@@ -17,7 +17,7 @@ from typing import Any
 
 from ._buffers import SYMBOL, Array
 from ._sizes import LARGE, Size
-from .stream.model._base import ENDS, MIXED, UNITS, Model
+from .stream.model._base import COUNTS, ENDS, MIXED, UNITS, Model
 
 __all__ = ["Buffer", "Lane", "made", "memory_of"]
 
@@ -57,10 +57,12 @@ class Lane:
         self._encode_interval = bound(encode, "_intervals", *interval, needed)
         self._encode_units = bound(encode, "_quantized", *family, *symbol, needed)
         self._encode_row = bound(encode, "", *row, *symbol, needed)
+        self._encode_counts = bound(encode, "_counts", *row, self._width, *symbol, needed)
         self._encode_mixture = bound(encode, "_mixture", *mixture, *symbol, needed)
         self._decode_three = bound(decode, "", memory_of(self._three), three, *symbol, *behind_decode)
         self._decode_units = bound(decode, "_quantized", *family, *symbol, *behind_decode)
         self._decode_row = bound(decode, "", *row, *symbol, *behind_decode)
+        self._decode_counts = bound(decode, "_counts", *row, self._width, *symbol, *behind_decode)
         self._decode_mixture = bound(decode, "_mixture", *mixture, *symbol, *behind_decode)
 
     #: The state in this memory, or None if it isn't known.
@@ -121,7 +123,7 @@ class Lane:
                 coder._busy = False
 
     def _encode_by(self, kind: int, place: int, model: Model, first: Any, second: Any) -> int:
-        """Calls the C function for a location and a scale, for a row of weights, or for a row of components."""
+        """Calls the C function for a location and a scale, or for a row of weights, of counts or of components."""
         self._place[0] = place
         if kind == UNITS:
             self._take_units(model, first, second)
@@ -130,7 +132,7 @@ class Lane:
             self._take_components(model, *first)
             return self._encode_mixture()
         self._row.value, self._width.value = first.buffer_info()
-        return self._encode_row()
+        return self._encode_counts() if kind == COUNTS else self._encode_row()
 
     def decode(self, coder: Any, model: Model, given: tuple[Any, ...]) -> int | None:
         """Decodes the next symbol. Returns None if this isn't possible, and the coder is then unchanged."""
@@ -172,7 +174,7 @@ class Lane:
                 coder._busy = False
 
     def _decode_by(self, kind: int, model: Model, first: Any, second: Any) -> int:
-        """Calls the C function for a location and a scale, for a row of weights, or for a row of components."""
+        """Calls the C function for a location and a scale, or for a row of weights, of counts or of components."""
         if kind == UNITS:
             self._take_units(model, first, second)
             return self._decode_units()
@@ -180,7 +182,7 @@ class Lane:
             self._take_components(model, *first)
             return self._decode_mixture()
         self._row.value, self._width.value = first.buffer_info()
-        return self._decode_row()
+        return self._decode_counts() if kind == COUNTS else self._decode_row()
 
     def _take_family(self, model: Any, of: Any) -> None:
         if model is not self._model:

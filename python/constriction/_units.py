@@ -14,7 +14,7 @@ from .errors import WrongWeightsError, shown
 
 __all__ = [
     "FARTHEST", "MOST_WEIGHT", "NARROWEST", "SHARES", "UNITS_OF_ONE", "WIDEST", "component_weights_of", "counts_of", "counts_of_row",
-    "counts_of_rows", "counts_of_wholes", "locations_of", "moved", "parts_of", "scales_of", "unit_of", "units_of", "wrong_row",
+    "counts_of_rows", "counts_of_wholes", "fault_of", "halved", "locations_of", "moved", "parts_of", "scales_of", "unit_of", "units_of", "wrong_row",
 ]  # fmt: skip
 
 #: The number of units in a location or a scale of 1.
@@ -67,7 +67,7 @@ def _ends(floats: Any) -> Ends:
     return (min(floats), max(floats)) if all(map(isfinite, floats)) else (nan, nan)
 
 
-def _fault(
+def fault_of(
     name: str, floats: array[float], good: Callable[[float], bool], wanted: str, width: int | None = None
 ) -> ValueError:
     """Returns the exception for the first float that isn't good.
@@ -151,7 +151,7 @@ def locations_of(name: str, floats: array[float], width: int | None = None) -> a
     """Returns locations in units of 2^-16. Raises ValueError if one isn't finite."""
     ends = _ends(floats)
     if isnan(ends[0]):
-        raise _fault(name, floats, isfinite, "that is finite", width)
+        raise fault_of(name, floats, isfinite, "that is finite", width)
     return _rounded(SYMBOL, floats, UNITS_OF_ONE, (-FARTHEST, FARTHEST), ends)
 
 
@@ -162,9 +162,9 @@ def scales_of(name: str, floats: array[float], width: int | None = None) -> arra
     """
     ends = _ends(floats)
     if not ends[0] > 0:
-        raise _fault(name, floats, lambda it: 0 < it < inf, "that is positive and finite", width)
+        raise fault_of(name, floats, lambda it: 0 < it < inf, "that is positive and finite", width)
     if ends[1] >= TOO_WIDE:
-        raise _fault(name, floats, lambda it: it < TOO_WIDE, "below 65536", width)
+        raise fault_of(name, floats, lambda it: it < TOO_WIDE, "below 65536", width)
     return _rounded(WORD, floats, UNITS_OF_ONE, (NARROWEST, WIDEST), ends)
 
 
@@ -176,7 +176,7 @@ def component_weights_of(floats: array[float], width: int) -> array[int]:
     """
     ends = _ends(floats)
     if not ends[0] >= 0:
-        raise _fault("weight", floats, lambda it: 0 <= it < inf, "that is at least 0 and finite", width)
+        raise fault_of("weight", floats, lambda it: 0 <= it < inf, "that is at least 0 and finite", width)
     if not width or ends[1] >= _MOST_SHARES:
         raise wrong_row(floats, width)
     return _rounded(WORD, floats, SHARES, (0.0, MOST_WEIGHT), ends)
@@ -202,7 +202,7 @@ def parts_of(probabilities: array[float], words: Size) -> array[int]:
     """
     ends = _ends(probabilities)
     if not (ends[0] >= 0 and ends[1] <= 1):
-        raise _fault("probability", probabilities, lambda it: 0 <= it <= 1, "between 0 and 1")
+        raise fault_of("probability", probabilities, lambda it: 0 <= it <= 1, "between 0 and 1")
     total = float(words.total)
     return _rounded(words.code, probabilities, total, (1 / total, 1 - 1 / total), ends)
 
@@ -243,7 +243,7 @@ def counts_of(probabilities: Any) -> array[int]:
     """
     least, greatest = _ends(probabilities)
     if not least >= 0:
-        raise _fault("probability", probabilities, lambda it: 0 <= it < inf, "that is at least 0 and finite")
+        raise fault_of("probability", probabilities, lambda it: 0 <= it < inf, "that is at least 0 and finite")
     if not len(probabilities) or not greatest:
         raise ValueError("expected a probability above 0, got none")
     shift = _COUNT_BITS - frexp(greatest)[1]
@@ -306,12 +306,12 @@ def counts_of_wholes(counts: Any) -> array[int]:
         raise ValueError("expected a probability above 0, got none")
     if bits > 64:
         down = bits - _COUNT_BITS
-        return array("Q", [_halved(count, down) or 1 for count in counts])
+        return array("Q", [halved(count, down) or 1 for count in counts])
     up = max(_COUNT_BITS - bits, 0)
     return array("Q", [count << up or 1 for count in counts])
 
 
-def _halved(count: int, times: int) -> int:
+def halved(count: int, times: int) -> int:
     """Returns ``count / 2^times``, rounded to the nearest whole number, half to even."""
     quotient, rest = count >> times, count & (1 << times) - 1
     middle = 1 << times - 1

@@ -151,4 +151,7 @@ def test():
     units(Page("docs/C_AND_PYTHON.md"), "means[] = " + arrays[0], "deviations[] = " + arrays[1])
     units(Page("docs/EXAMPLES.md"), "means[] = " + arrays[0], "stds[] = " + arrays[1])
     third = models.weights_of([1.0, 1.0, 1.0])
-    Page("python/README.md").has(f"get the weights {third[0]}, {third[1]} and {third[2]}")
+    quick = models.quick_weights([1.0, 1.0, 1.0])
+    readme = Page("python/README.md")
+    readme.has(f"get the weights {third[0]}, {third[1]} and {third[2]}.")
+    readme.has(f"Three equal probabilities get the weights {quick[0]}, {quick[1]} and {quick[2]}.")

@@ -101,6 +101,31 @@ def weights(counts: list[int], precision: int = 24) -> list[int]:
     return found
 
 
+def quick_counts(numbers: Iterable[float]) -> list[int]:
+    """The counts that probabilities stand for with ``perfect=False``, by exact fractions."""
+    given = list(numbers)
+    if all(isinstance(it, int) for it in given) and max(given) < 2**32 and sum(given) < 2**40:
+        return [int(it) for it in given]
+    exact, unit = [Fraction(it) for it in given], Fraction(1)
+    while max(exact) * unit >= 2**31:
+        unit /= 2
+    while max(exact) * unit < 2**30:
+        unit *= 2
+    counts = [round(it * unit) for it in exact]
+    total = Fraction(sum(counts))
+    if total < 2**40:
+        return counts
+    while total >= 2**39:
+        total, unit = total / 2, unit / 2
+    return [round(it * unit) for it in exact]
+
+
+def quick_weights(numbers: Iterable[float], precision: int = 24) -> list[int]:
+    """The weights that probabilities stand for with ``perfect=False``."""
+    starts = starts_of_counts(quick_counts(numbers), precision)
+    return [end - start for start, end in zip(starts, starts[1:])]
+
+
 def starts_of_counts(counts: list[int], precision: int = 24) -> list[int]:
     """Where the symbols of a row of counts begin, and where the last one ends: each symbol has one quantile, and the
     counts share the others, as exact fractions rounded down."""

@@ -15,6 +15,7 @@ from ..._sizes import LARGE, Size
 from ...errors import ImpossibleSymbolError, Refusal, WrongLengthError, impossible, shown
 
 __all__ = [
+    "COUNTS",
     "ENDS",
     "FALLS",
     "MIXED",
@@ -31,9 +32,9 @@ __all__ = [
     "spread",
 ]
 
-#: The forms of the model of a single symbol: the ends of the intervals, a location and a scale, a row of weights, or a
-#: row of components.
-ENDS, UNITS, ROW, MIXED = range(4)
+#: The forms of the model of a single symbol: the ends of the intervals, a location and a scale, a row of weights, a row
+#: of components, or a row of counts.
+ENDS, UNITS, ROW, MIXED, COUNTS = range(5)
 #: After ``_SELDOM`` calls with one symbol, a model of at most ``_MOST_ENDS`` symbols keeps its sums of weights.
 #: Before that, a model of at most ``_FEW_WEIGHTS`` symbols passes all weights.
 _SELDOM, _MOST_ENDS, _FEW_WEIGHTS = 2, 1 << 16, 64
@@ -81,8 +82,10 @@ class Model:
     missing: tuple[str, ...] = ()
     #: The number of dimensions of a symbol's parameter: 1 if it is a row.
     core = 0
-    #: Whether the parameters are rows of weights for the C functions.
+    #: Whether the parameters are rows of weights or counts for the C functions.
     has_rows = False
+    #: The part of the names of a coder's C functions that says what the rows have.
+    rows_form = "_each"
     _fixed: array[int] | None = None
 
     #: The number of symbols, if it is known without a table.

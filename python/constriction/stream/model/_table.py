@@ -9,10 +9,13 @@ from typing import Any
 
 from ..._buffers import List, Reals, room
 from ..._numbers import as_numpy, is_one, is_row, plain_of, reals_of, rows_of, sequence_of, table_of, wholes_of, words_of
+from ..._quick import (
+    quick_counts_of, quick_counts_of_row, quick_counts_of_rows, quick_counts_of_wholes, quick_weights,
+)  # fmt: skip
 from ..._units import counts_of, counts_of_row, counts_of_rows, counts_of_wholes
 from ..._sizes import LARGE, SMALL, Size
 from ...errors import WrongWeightsError, wrong_weights
-from ._base import ROW, Model, sized
+from ._base import COUNTS, ROW, Model, sized
 
 __all__ = ["ROWS_AT_A_TIME", "Categorical", "Rows", "WeightTable"]
 
@@ -27,6 +30,8 @@ class Rows(Model):
     """Symbols 0, 1, .. with a row of weights. The row belongs to the model, or comes with each symbol."""
 
     has_rows, core = True, 1
+    #: The form of the model of a single symbol with a row of its own.
+    _form = ROW
 
     def _compared(self) -> dict[str, Any]:
         return self.__getstate__()
@@ -46,7 +51,11 @@ class Rows(Model):
         if len(given) != 1 or not self.missing or not is_row(given[0]):
             return None
         row = self._row(given[0])
-        return (ROW, row, None) if len(row) else None
+        return (self._form, row, None) if len(row) else None
+
+    def _nothing(self) -> array[int]:
+        """Returns an empty list for the weights of rows."""
+        return array(self.words.code)
 
     def rows(self, given: Sequence[Any]) -> Iterator[tuple[array[int], int, int]]:
         """Yields several rows of equal width at a time: their weights, the width, and the number of rows."""
@@ -55,12 +64,12 @@ class Rows(Model):
 
     def _packed(self, rows: Any, start: int) -> Iterator[tuple[array[int], int, int]]:
         """Does the same as ``rows``, for rows of which the first is number ``start``."""
-        packed: array[int] = array(self.words.code)
+        packed = self._nothing()
         width = 0
         for row in self._listed(rows, start):
             if packed and (len(row) != width or len(packed) + width > ROWS_AT_A_TIME):
                 yield packed, width, len(packed) // width
-                packed = array(self.words.code)
+                packed = self._nothing()
             width = len(row)
             if not width:
                 yield row, 1, 1  # A row without weights. The C function refuses it.
@@ -150,16 +159,25 @@ class Categorical(Rows):
     of 2^24 in proportion (of 2^12 for words of 16 bits). Shares are rounded by the largest remainders, and ties go to
     the first symbol.
 
-    Raises ValueError if no probability is above 0, if a probability is negative or not finite, or if there are more
-    than 2^24 probabilities.
+    With ``perfect=False`` a long row takes less time, and the weights are rounded less closely. Each probability becomes
+    a count: it is multiplied by the row's unit and rounded once, half to even. The unit is the power of two that makes
+    the greatest count at least 2^30 and at most 2^31. If the counts then add up to 2^40 or more, the unit is divided by
+    the least power of two that brings this sum below 2^39. Whole numbers below 2^32 that add up to less than 2^40 are
+    the counts themselves. Of n symbols, symbol k begins at ``sum(counts[:k]) * (2**24 - n) // sum(counts) + k`` (with
+    ``2**12`` for words of 16 bits). So a symbol whose count is 0 has a weight of 1.
 
-    If the probabilities are missing, pass a row for each symbol to the coder's calls. ``perfect`` and ``lazy`` are
-    ignored. In the Rust crate's package they choose how to round.
+    Raises ValueError if no probability is above 0, if a probability is negative or not finite, or if there are more
+    than 2^24 probabilities (2^24 or more with ``perfect=False``).
+
+    If the probabilities are missing, pass a row for each symbol to the coder's calls. ``lazy`` is ignored. In the Rust
+    crate's package it chooses when to round.
 
     >>> Categorical([1, 2, 1]).table().tolist() == [2**22, 2**23, 2**22]
     True
     >>> Categorical([0.25, 0.5, 0.25]) == Categorical([1, 2, 1])
     True
+    >>> Categorical([0.75, 0.25, 0.0], perfect=False).table().tolist()
+    [12582910, 4194305, 1]
     """
 
     def __init__(
@@ -167,8 +185,11 @@ class Categorical(Rows):
     ) -> None:
         """Creates a model with probabilities or counts. Only their proportions matter.
 
-        If you leave them out, pass a row for each symbol to the coder's calls. ``perfect`` and ``lazy`` are ignored.
+        If you leave them out, pass a row for each symbol to the coder's calls. ``perfect=False`` rounds in less time.
+        ``lazy`` is ignored.
         """
+        if perfect is not None and not perfect:
+            self.rows_form, self._form = "_counts", COUNTS
         self._counts: array[int] | None = None
         if probabilities is None:
             self.missing = ("probabilities",)
@@ -179,11 +200,17 @@ class Categorical(Rows):
     def _compared(self) -> dict[str, Any]:
         """Returns the weights for words of both sizes."""
         tables = () if self._counts is None else tuple(self.at(it).table() for it in self._sizes())
-        return {"missing": self.missing, "tables": tables}
+        return {"missing": self.missing, "form": self._form if self.missing else ROW, "tables": tables}
+
+    def _said(self) -> str:
+        """Returns the weights of the symbols as text, and how they are rounded."""
+        said = super()._said()
+        return ", ".join(filter(None, (said, "perfect=False"))) if self._form == COUNTS else said
 
     def _sizes(self) -> tuple[Size, ...]:
         """Returns the sizes of words for which there are weights."""
-        return (LARGE, SMALL) if self._counts is not None and len(self._counts) <= SMALL.total else (LARGE,)
+        most = SMALL.total - (self._form == COUNTS)
+        return (LARGE, SMALL) if self._counts is not None and len(self._counts) <= most else (LARGE,)
 
     def __getstate__(self) -> dict[str, Any]:
         return {name: it for name, it in super().__getstate__().items() if name != "_fixed"}
@@ -193,16 +220,24 @@ class Categorical(Rows):
 
     def _shared(self, counts: array[int]) -> array[int]:
         """Returns weights in proportion to the counts."""
+        if self._form == COUNTS:
+            return quick_weights(counts, self.words)
         sized(len(counts), self.words)
         weights = room(self.words.code, len(counts), array)
         self.words.share_out(*counts.buffer_info(), *weights.buffer_info())
         return weights
 
     def _row(self, numbers: Any) -> array[int]:
-        return self._shared(self._counted(numbers))
+        counts = self._counted(numbers)
+        return counts if self._form == COUNTS else self._shared(counts)
+
+    def _nothing(self) -> array[int]:
+        return array("I") if self._form == COUNTS else super()._nothing()
 
     def _counted(self, numbers: Any) -> array[int]:
         """Returns the counts that probabilities or counts stand for."""
+        if self._form == COUNTS:
+            return self._quickly_counted(numbers)
         counts = counts_of_row(numbers)
         if counts is None:
             if is_one(numbers):
@@ -213,8 +248,46 @@ class Categorical(Rows):
             counts = counts_of(reals_of(given)) if wholes is None else counts_of_wholes(wholes)
         return counts
 
+    def _quickly_counted(self, numbers: Any) -> array[int]:
+        """Returns the counts that a row of probabilities or counts stands for with ``perfect=False``."""
+        counts = quick_counts_of_row(numbers)
+        if counts is None:
+            if is_one(numbers):
+                raise TypeError(f"expected a list of probabilities, got {type(numbers).__name__}")
+            given = sequence_of(numbers)
+            wholes = _wholes(given)
+            counts = quick_counts_of(reals_of(given)) if wholes is None else _quick_counts_of_wholes(wholes)
+        self._fewer(len(counts))
+        return counts
+
+    def _fewer(self, count: int) -> int:
+        """Returns ``count``. Raises ValueError unless that number of symbols leaves quantiles for counts to share."""
+        if not 1 <= count < self.words.total:
+            raise ValueError(f"expected a model of 1 to 2^{self.words.precision} - 1 symbols, got {count}")
+        return count
+
+    def _rows_of_counts(self, given: Sequence[Any]) -> Iterator[tuple[array[int], int, int]]:
+        """Does the same as ``rows`` with ``perfect=False``: the rows have counts."""
+        self._known(given)
+        table = as_numpy(given[0])
+        if table is None or table.ndim != 2 or table.dtype.kind not in "iubf" or not table.size:
+            yield from super().rows(given)
+            return
+        width = self._fewer(table.shape[1])
+        size = max(ROWS_AT_A_TIME // width, 1)
+        for start in range(0, len(table), size):
+            some = table[start : start + size]
+            counts = quick_counts_of_rows(some)
+            if counts is None:
+                yield from self._packed(some, start)  # This raises an exception that names the probability.
+            else:
+                yield counts, width, len(some)
+
     def rows(self, given: Sequence[Any]) -> Iterator[tuple[array[int], int, int]]:
         """Does the same as ``Rows.rows``. Rounds the rows of a numpy array together."""
+        if self._form == COUNTS:
+            yield from self._rows_of_counts(given)
+            return
         table = table_of(given[0]) if len(given) == 1 else None
         if table is None or not self.missing:
             yield from super().rows(given)
@@ -232,6 +305,12 @@ class Categorical(Rows):
             for i in range(0, len(counts), width):
                 self.words.share_out(at + counts.itemsize * i, width, to + weights.itemsize * i, width)
             yield weights, width, len(some)
+
+
+def _quick_counts_of_wholes(wholes: Any) -> array[int]:
+    """Returns the counts of a list of ints, or of a numpy array of whole numbers."""
+    found = None if isinstance(wholes, list) or not len(wholes) else quick_counts_of_rows(wholes.reshape(1, -1))
+    return quick_counts_of_wholes(list(map(int, wholes))) if found is None else found
 
 
 def _wholes(numbers: Any) -> Any:
