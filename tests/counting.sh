@@ -97,7 +97,7 @@ only_own_names() {
 # wants_named_symbols STATIC: returns whether docs/C_AND_PYTHON.md names exactly the static library's undefined symbols.
 wants_named_symbols() {
     local named wanted
-    named=$(grep '^The static library needs' "$here/docs/C_AND_PYTHON.md" | grep -o '`[a-z_0-9]*`' | tr -d '`' | sort)
+    named=$(sed -n '/^The static library needs/,/^$/p' "$here/docs/C_AND_PYTHON.md" | grep -o '`[a-z_0-9]*`' | tr -d '`' | sort)
     wanted=$(nm -u "$1" 2>/dev/null | awk '$1 == "U" { print $2 }' | grep -v '^_GLOBAL_OFFSET_TABLE_$' | sort -u)
     [ -n "$named" ] && diff <(echo "$named") <(echo "$wanted")
 }

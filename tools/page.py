@@ -3,12 +3,14 @@
 import os
 import sys
 
+from wrapping import wrapped
+
 
 def write_or_check(arguments, usage, path, page):
-    """Writes the text that `page` returns to a file, or with --check compares the file with it, and returns the status."""
+    """Writes the text that `page` returns, with wrapped prose, and returns the status. With --check it only compares."""
     if arguments not in ([], ["--check"]):
         sys.exit(usage.split("\n", 1)[0])
-    text = page()
+    text = wrapped(page())
     if not arguments:
         with open(path, "w", encoding="utf-8") as file:
             file.write(text)
