@@ -37,15 +37,18 @@ static int are(const word *found, size_t count, const struct line *wanted) {
     return 1;
 }
 
-/* ==== A case's symbols, and its models: one list of weights, or a family with parameters for each symbol ==== */
+/* ==== A case's symbols, and its models: one list of weights, or a family with parameters for each symbol, or a row of
+   components or of counts for each symbol ==== */
+
+enum models { WEIGHED, OF_FAMILY, MIXED, COUNTED };
 
 static struct {
-    int has_family;
+    enum models models;
     uint32_t family;
     int32_t first, last;
-    size_t count, weight_count, symbols[VALUES], found[VALUES];
+    size_t count, weight_count, width, row_count, symbols[VALUES], found[VALUES];
     int64_t locations[VALUES];
-    uint32_t scales[VALUES];
+    uint32_t scales[VALUES], row[VALUES];
     word weights[VALUES];
 } given;
 
@@ -54,7 +57,7 @@ static void read_family(const struct line *family) {
     while (given.family < 3 && strcmp(names[given.family], family->text)) given.family++;
     given.first = (int32_t)of("range")->values[0], given.last = (int32_t)of("range")->values[1];
     const struct line *locations = of("locations"), *scales = of("scales");
-    for (size_t i = 0; i < given.count; i++) {
+    for (size_t i = 0; i < given.count || i < locations->count; i++) {
         given.locations[i] = (int64_t)(locations->count ? locations->values[i] : of("location")->values[0]);
         given.scales[i] = (uint32_t)(scales->count ? scales->values[i] : of("scale")->values[0]);
     }
@@ -63,10 +66,16 @@ static void read_family(const struct line *family) {
 static void read_given(void) {
     memset(&given, 0, sizeof given);
     const struct line *symbols = of("symbols"), *family = of("family");
-    given.count = symbols->count, given.has_family = family->name[0] != 0;
-    if (given.has_family) read_family(family);
+    int has_family = family->name[0] != 0, has_rows = of("width")->name[0] != 0;
+    given.count = symbols->count, given.models = has_rows ? (has_family ? MIXED : COUNTED) : has_family ? OF_FAMILY : WEIGHED;
+    if (has_family) read_family(family);
     for (size_t i = 0; i < given.count; i++) given.symbols[i] = (size_t)(symbols->values[i] - (uint64_t)(int64_t)given.first);
-    if (!given.has_family) given.weight_count = put_words(given.weights, of("weights"));
+    if (given.models == WEIGHED) given.weight_count = put_words(given.weights, of("weights"));
+    if (has_rows) {
+        const struct line *rows = of(has_family ? "weights" : "counts");
+        given.width = (size_t)of("width")->values[0], given.row_count = rows->count;
+        for (size_t i = 0; i < rows->count; i++) given.row[i] = (uint32_t)rows->values[i];
+    }
     len = 0;
 }
 
@@ -75,13 +84,20 @@ static int are_found(void) { return !memcmp(given.found, given.symbols, given.co
 /* Arguments of a call: the models, the symbols, the room for decoded symbols, the buffer of words. */
 #define TABLE given.weights, given.weight_count
 #define LOCATED given.family, given.first, given.last, given.locations, given.count, given.scales, given.count
+#define ROWS given.row, given.row_count, given.width
+#define MIXTURE \
+    given.family, given.first, given.last, given.width, given.row, given.row_count, given.locations, given.row_count, given.scales, \
+        given.row_count
 #define SYMBOLS given.symbols, given.count
 #define FOUND given.found, given.count
 #define BUFFER words, VALUES, &len
 
-/* A call under the case's models: `name` if they are a list of weights, `of_family` if they are a family. */
-#define UNDER(name, of_family, ...) \
-    (given.has_family ? C(of_family)(__VA_ARGS__ LOCATED, REST) : C(name)(__VA_ARGS__ TABLE, REST))
+/* A call under the case's models. Between the two parts of its name stands the kind of the models. */
+#define UNDER(begin, end, ...) \
+    (given.models == COUNTED     ? C(GLUE(begin, _counts, end))(__VA_ARGS__ ROWS, REST) \
+     : given.models == MIXED     ? C(GLUE(begin, _mixture, end))(__VA_ARGS__ MIXTURE, REST) \
+     : given.models == OF_FAMILY ? C(GLUE(begin, _quantized, end))(__VA_ARGS__ LOCATED, REST) \
+                                 : C(GLUE(begin, , end))(__VA_ARGS__ TABLE, REST))
 
 /* ==== The kinds of cases ==== */
 
@@ -89,7 +105,7 @@ static int are_found(void) { return !memcmp(given.found, given.symbols, given.co
 
 static void ans_encode(void) {
     state head = 0;
-    CHECK("ans-encode", !UNDER(ans_encode_reverse, ans_encode_quantized_reverse, &head, BUFFER,));
+    CHECK("ans-encode", !UNDER(ans_encode, _reverse, &head, BUFFER,));
     CHECK("ans-encode: export", !C(ans_into_compressed)(head, BUFFER, &needed));
     CHECK("ans-encode: words", are(words, len, of("words")));
 }
@@ -97,7 +113,7 @@ static void ans_encode(void) {
 static void range_encode(void) {
     struct C(range_encoder_state) encoder;
     CHECK("range: new", !C(range_encoder)(&encoder));
-    CHECK("range: encode", !UNDER(range_encode, range_encode_quantized, &encoder, BUFFER,));
+    CHECK("range: encode", !UNDER(range_encode, , &encoder, BUFFER,));
     CHECK("range: export", !C(range_into_compressed)(&encoder, BUFFER, &needed));
     CHECK("range: words", are(words, len, of("words")));
 }
@@ -108,7 +124,7 @@ static void chain_encode(void) {
     size_t count = put_words(other, of("remainders")), left = 0, rest = put_words(words, of("rest"));
     len = rest;
     CHECK("chain: import remainders", !C(chain_from_remainders)(other, count, &left, &heads));
-    CHECK("chain: encode", !UNDER(chain_encode_reverse, chain_encode_quantized_reverse, &heads, BUFFER, other, count,
+    CHECK("chain: encode", !UNDER(chain_encode, _reverse, &heads, BUFFER, other, count,
         &left,));
     CHECK("chain: export", !C(chain_into_compressed)(&heads, BUFFER, &needed));
     memmove(words + rest + left, words + rest, (len - rest) * sizeof(word));
@@ -123,7 +139,7 @@ static void ans_decode(void) {
     state head;
     size_t count = put_words(words, of("words"));
     CHECK("ans-decode: import", !C(ans_from_compressed)(words, count, &len, &head));
-    CHECK("ans-decode", !UNDER(ans_decode, ans_decode_quantized, &head, words, count, &len,) && are_found());
+    CHECK("ans-decode", !UNDER(ans_decode, , &head, words, count, &len,) && are_found());
     CHECK("ans-decode: export", !C(ans_into_compressed)(head, BUFFER, &needed));
     CHECK("ans-decode: rest", are(words, len, of("rest")));
 }
@@ -132,7 +148,7 @@ static void range_decode(void) {
     struct C(range_decoder_state) decoder;
     size_t count = put_words(words, of("words"));
     CHECK("range: import", !C(range_from_compressed)(words, count, &decoder));
-    CHECK("range: decode", !UNDER(range_decode, range_decode_quantized, &decoder, words, count,) && are_found());
+    CHECK("range: decode", !UNDER(range_decode, , &decoder, words, count,) && are_found());
 }
 
 static void range(void) {
@@ -147,7 +163,7 @@ static void chain_decode(void) {
     struct C(chain_heads) heads;
     size_t count = put_words(words, of("words")), left = 0;
     CHECK("chain: import", !C(chain_from_compressed)(words, count, &left, &heads));
-    CHECK("chain: decode", !UNDER(chain_decode, chain_decode_quantized, &heads, words, count, &left, other, VALUES,
+    CHECK("chain: decode", !UNDER(chain_decode, , &heads, words, count, &left, other, VALUES,
         &len,) && are_found());
     CHECK("chain: export remainders", !C(chain_into_remainders)(&heads, other, VALUES, &len, &needed));
     CHECK("chain: rest", are(words, left, of("rest")) && are(other, len, of("remainders")));

@@ -78,7 +78,11 @@ class Given:
 
     def __init__(self, size: Size, case: dict[str, list[Any]]) -> None:
         self.first, self.kind = 0, ""
-        if "family" in case:
+        self.kept: tuple[Any, ...] = ()
+        self.model: list[Any]
+        if "width" in case:
+            self._take_rows(size, case)
+        elif "family" in case:
             self.first, self.kind = case["range"][0], "_quantized"
             count = len(case["locations"])
             locations, scales = (array(code, case[key]) for code, key in (("q", "locations"), ("I", "scales")))
@@ -89,6 +93,20 @@ class Given:
         else:
             self.model = [size.words(case["weights"]), len(case["weights"])]
         self.symbols = [symbol - self.first for symbol in case["symbols"]]
+
+    def _take_rows(self, size: Size, case: dict[str, list[Any]]) -> None:
+        """Takes a row for each symbol: of components of a family, or of counts."""
+        width = case["width"][0]
+        if "family" not in case:
+            counts = array("I", case["counts"])
+            self.kind, self.kept, self.model = "_counts", (counts,), [address(counts), len(counts), width]
+            return
+        self.first, self.kind = case["range"][0], "_mixture"
+        lists = [array(code, case[key]) for code, key in (("I", "weights"), ("q", "locations"), ("I", "scales"))]
+        family, least, greatest = FAMILIES.index(case["family"][0]), *case["range"]
+        self.kept = tuple(lists)
+        self.model = [c_uint32(family), c_int32(least), c_int32(greatest), width]
+        self.model += [it for numbers in lists for it in (address(numbers), len(numbers))]
 
     def found(self, places: Any) -> list[int]:
         return [place + self.first for place in places[: len(self.symbols)]]
