@@ -15,7 +15,7 @@ from constriction import _library
 TOP = Path(__file__).resolve().parents[2]
 FOLDER = TOP / "examples/python"
 SCRIPTS = (
-    "adaptive_text", "image", "mixture_image", "hyperprior", "lockstep", "bits_back", "records", "bit_stream", "sampled_latent",
+    "adaptive_text", "ngram", "image", "mixture_image", "hyperprior", "lockstep", "bits_back", "records", "bit_stream", "sampled_latent",
 )  # fmt: skip
 ENVIRONMENT = {
     **os.environ,
@@ -74,7 +74,7 @@ class Examples(unittest.TestCase):
                     subprocess.run(command, env=environment, capture_output=True, check=True)
                     calls = path.read_text().split("\n")
                     self.assertLessEqual({"set_title", "set_xlabel", "set_ylabel"}, set(calls))
-                    self.assertEqual("legend" in calls, name in ("adaptive_text", "bits_back"))
+                    self.assertEqual("legend" in calls, name in ("adaptive_text", "ngram", "bits_back"))
 
     def test_lengths(self) -> None:
         for path in FOLDER.glob("*.py"):
