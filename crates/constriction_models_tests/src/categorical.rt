@@ -1,7 +1,8 @@
 //! Tests of models of a row of counts.
 
-use crate::cuts::{cuts, interval_of, is_unknown};
+use constriction_base::model::{DecoderModel, EncoderModel};
 use constriction_models::categorical::{CategoricalCounts, CategoricalError};
+use constriction_words::BitArray;
 
 /// Returns whether `counts` are refused with `expected`, at a precision of 3 bits.
 fn refuses(counts: &[u32], expected: CategoricalError) -> bool {
@@ -11,16 +12,45 @@ fn refuses(counts: &[u32], expected: CategoricalError) -> bool {
     }
 }
 
+/// Returns whether `model` decodes `quantile` to `symbol`, with the interval of length `p` that begins at `left`.
+fn is_found(
+    model: &CategoricalCounts<u16, 8>,
+    quantile: u16,
+    symbol: usize,
+    left: u16,
+    p: u16,
+) -> bool {
+    if quantile >= 256 {
+        return false;
+    }
+    let (found, begins, length) = model.quantile_function(quantile);
+    found == symbol && begins == left && u16::from_nonzero(length) == p
+}
+
+/// Returns whether `symbol` has the interval of length `p` that begins at `left`, and the first and the last quantile of
+/// the interval decode to `symbol`.
+fn is_interval(model: &CategoricalCounts<u16, 8>, symbol: usize, left: u16, p: u16) -> bool {
+    let last = left.saturating_add(p).saturating_sub(1);
+    match model.left_cumulative_and_probability(&symbol) {
+        Some((begins, length)) => {
+            begins == left
+                && u16::from_nonzero(length) == p
+                && is_found(model, left, symbol, left, p)
+                && is_found(model, last, symbol, left, p)
+        }
+        None => false,
+    }
+}
+
 /// Returns whether the counts 3, 1, 0 and 4 share 252 of 256 quantiles: the symbol whose count is 0 has one quantile.
 fn four_share() -> bool {
     match CategoricalCounts::<u16, 8>::new(&[3, 1, 0, 4]) {
         Ok(model) => {
-            interval_of(&model, &0) == Some((0, 95))
-                && interval_of(&model, &1) == Some((95, 33))
-                && interval_of(&model, &2) == Some((128, 1))
-                && interval_of(&model, &3) == Some((129, 127))
-                && cuts(&model, 256, &[0, 1, 2, 3])
-                && is_unknown(&model, &4)
+            is_interval(&model, 0, 0, 95)
+                && is_interval(&model, 1, 95, 33)
+                && is_interval(&model, 2, 128, 1)
+                && is_interval(&model, 3, 129, 127)
+                && model.left_cumulative_and_probability(&4).is_none()
         }
         Err(_) => false,
     }
@@ -29,7 +59,7 @@ fn four_share() -> bool {
 /// Returns whether a single count has all quantiles.
 fn one_has_all() -> bool {
     match CategoricalCounts::<u16, 8>::new(&[7]) {
-        Ok(model) => interval_of(&model, &0) == Some((0, 256)) && cuts(&model, 256, &[0]),
+        Ok(model) => is_interval(&model, 0, 0, 256),
         Err(_) => false,
     }
 }
