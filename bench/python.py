@@ -338,7 +338,7 @@ def main() -> None:
     for name, run in mixture_cases(numpy) if numpy and ("mixture" in wanted or not wanted) else []:
         if wanted in name:
             print(f"{name} {least(run, MIXED):.0f}", flush=True)
-    for name, run in single_cases(weights):
+    for name, run in single_cases(weights, numpy):
         if wanted in name:
             print(f"{name} {least(run, CALLS):.0f}", flush=True)
 

@@ -14,8 +14,8 @@ from importlib import import_module
 from typing import TYPE_CHECKING, Any, SupportsFloat, SupportsIndex, TypeVar, Union, overload
 
 __all__ = [
-    "ANSWER", "BYTE", "NUMBER", "SHORT", "SYMBOL", "WORD", "Amount", "Answer", "Array", "Compressed", "List", "Numbers", "Parameter", "Real", "Reals", "Symbols",
-    "answered", "answered_alone", "lent", "listed", "numpy_for_answers", "numpy_module", "room",
+    "ANSWER", "BYTE", "NUMBER", "OWN", "SHORT", "SYMBOL", "WORD", "Amount", "Answer", "Array", "Compressed", "List", "Numbers", "Parameter", "Real", "Reals", "Symbols",
+    "answered", "answered_alone", "copied_part", "lent", "listed", "numpy_for_answers", "numpy_module", "room",
 ]  # fmt: skip
 
 #: A list of whole numbers, as words or symbols: a list, a tuple, an ``array.array``, a numpy array.
@@ -40,8 +40,10 @@ WORD, SYMBOL, NUMBER = "I", "q", "d"
 BYTE, SHORT = "B", "H"
 #: numpy's names of these types.
 _KINDS = {WORD: "uint32", SYMBOL: "int64", NUMBER: "float64", BYTE: "uint8", SHORT: "uint16"}
-#: What ``room`` returns for an answer: a numpy array where numpy can be imported, and otherwise ``Numbers``.
-ANSWER: Any = None
+#: Kinds of lists that ``room`` returns. For an answer this is a numpy array where numpy can be imported, and otherwise
+#: ``Numbers``. Memory of a coder is a numpy array if the program has loaded numpy, and otherwise an ``array``.
+ANSWER: Any = "an answer"
+OWN: Any = "memory of a coder"
 #: The memory of empty lists.
 _NOWHERE = (ctypes.c_uint64 * 1)()
 _Start = ctypes.c_char * 0
@@ -164,16 +166,16 @@ def room(code: str, count: int, kind: type[Held]) -> Held:
 def room(code: str, count: int, kind: Any = Numbers) -> Any:
     """Returns a list of ``count`` zeros. All lists that C functions write come from this function.
 
-    An ``array`` has quicker indexing than ``Numbers``, and no caller gets one. An ``ANSWER`` has any numbers, because a
-    C function fills it.
+    An ``array`` has quicker indexing than ``Numbers``, and no caller gets one. A numpy array has any numbers, because a C
+    function fills it.
     """
     if count < 0:
         raise ValueError(f"expected a count of at least 0, got {count}")
-    if kind is ANSWER:
-        numpy = numpy_for_answers()
+    if kind is ANSWER or kind is OWN:
+        numpy = numpy_for_answers() if kind is ANSWER else numpy_module()
         if numpy is not None:
             return numpy.empty(count, dtype=_KINDS[code])
-        kind = Numbers
+        kind = Numbers if kind is ANSWER else array
     at_a_time = len(_ZEROS) // _SIZES[code]
     if count <= at_a_time:
         return kind(code, _ZEROS[: count * _SIZES[code]])
@@ -181,6 +183,11 @@ def room(code: str, count: int, kind: Any = Numbers) -> Any:
     numbers *= count // at_a_time
     numbers.frombytes(_ZEROS[: count % at_a_time * _SIZES[code]])
     return numbers
+
+
+def copied_part(memory: Any, start: int, end: int) -> Any:
+    """Returns a copy of a part of a list."""
+    return memory[start:end] if isinstance(memory, array) else memory[start:end].copy()
 
 
 def numpy_module() -> Any:

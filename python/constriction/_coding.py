@@ -9,7 +9,8 @@ from typing import Any, NoReturn
 
 from ._answers import Wanted, shape_counted, shifted
 from ._buffers import ANSWER, SYMBOL, Numbers, Symbols, lent, listed, room
-from ._numbers import count_of, is_one, listed_of, narrow_of, places_of, sequence_of, whole
+from ._numbers import count_of, is_one, listed_of, sequence_of, whole
+from ._places import places_of
 from .errors import (
     ImpossibleSymbolError, Refusal, WrongLengthError, WrongWeightsError, impossible, wrong_weights,
 )  # fmt: skip
@@ -82,26 +83,18 @@ def _encoded(
         lefts, ps = model.intervals(symbols, parameters)
         return encode("_intervals", ready(state, len(ps)), len(ps), (*listed(lefts), *listed(ps)))
     weights = model.table() if located is None else ()
-    kind, places = _typed_places(symbols, model.first) if located is None else (located.form, places_of(symbols, model.first))
+    places = places_of(symbols, model.first, narrow=located is None)
     if located is not None and len(places) != located.symbols:
         raise _other_lengths(len(places), located.symbols, "sets of parameters")
-    state = ready(state, len(places))
-    parts = _parts(len(places), len(weights))
-    for part in reversed(parts) if backwards else parts:
-        models, count = listed(weights) if located is None else located.lent(part), part.stop - part.start
-        state = encode(kind, state, count, (*models, lent(places, part.start), count))
+    try:
+        state = ready(state, len(places))
+        parts = _parts(len(places), len(weights))
+        for part in reversed(parts) if backwards else parts:
+            models, count = listed(weights) if located is None else located.lent(part), part.stop - part.start
+            state = encode(places.form if located is None else located.form, state, count, (*models, places.lent(part), count))
+    finally:
+        places.close()
     return state
-
-
-def _typed_places(symbols: Symbols, first: int) -> tuple[str, Any]:
-    """Returns indexes of one table, and the part of a function's name for their type.
-
-    Symbols of 8 and of 16 bits are indexes of these types if the first symbol is 0.
-    """
-    narrow = None if first else narrow_of(symbols)
-    if narrow is None:
-        return "", places_of(symbols, first)
-    return ("_bytes" if narrow.itemsize == 1 else "_shorts"), narrow
 
 
 def _other_lengths(symbols: int, others: int, names: str) -> WrongLengthError:
@@ -160,10 +153,13 @@ def _encoded_under_rows(
         end += count
     if len(places) != end:
         raise _other_lengths(len(places), end, f"rows of {model.missing[0]}")
-    state = ready(state, len(places))
-    for weights, width, part in reversed(parts) if backwards else parts:
-        count = part.stop - part.start
-        state = encode(model.rows_form, state, count, (*listed(weights), width, lent(places, part.start), count))
+    try:
+        state = ready(state, len(places))
+        for weights, width, part in reversed(parts) if backwards else parts:
+            count = part.stop - part.start
+            state = encode(model.rows_form, state, count, (*listed(weights), width, places.lent(part), count))
+    finally:
+        places.close()
     return state
 
 

@@ -7,17 +7,17 @@ from __future__ import annotations
 
 import sys
 from array import array
-from collections.abc import Callable, Iterable, Mapping, Set
+from collections.abc import Callable, Mapping, Set
 from itertools import islice
 from operator import index
 from typing import Any
 
 from ._buffers import BYTE, NUMBER, SHORT, SYMBOL, WORD, List, numpy_module, room
-from .errors import IMPOSSIBLE_SYMBOL, ImpossibleSymbolError, InvalidDataError, Refusal, WrongLengthError, shown
+from .errors import InvalidDataError, Refusal, WrongLengthError, shown
 
 __all__ = [
-    "as_numpy", "count_of", "doubles", "floats_of", "grid_of", "is_one", "is_row", "listed_of", "narrow_of", "places_of", "plain_of", "real",
-    "reals_of", "rows_of", "sequence_of", "table_of", "whole", "wholes_of", "words_of",
+    "as_numpy", "count_of", "doubles", "floats_of", "grid_of", "is_one", "is_row", "items_of", "listed_of", "own_of", "past", "plain_of", "real",
+    "reals_of", "rows_of", "sequence_of", "table_of", "unmasked", "whole", "wholes_of", "wholes_wanted", "words_of",
 ]  # fmt: skip
 
 #: The least and the greatest number that a word and a symbol can be.
@@ -62,7 +62,7 @@ def real(number: Any) -> float:
     kind = type(number)
     if kind is float:
         return number  # type: ignore[no-any-return]
-    _unmasked(number)
+    unmasked(number)
     if issubclass(kind, (str, bytes, bytearray)) or not (hasattr(kind, "__float__") or hasattr(kind, "__index__")):
         raise TypeError(f"expected a number, got {kind.__name__}")
     try:
@@ -82,7 +82,7 @@ def count_of(number: Any) -> int:
     return count
 
 
-def _unmasked(numbers: Any) -> None:
+def unmasked(numbers: Any) -> None:
     masked = sys.modules.get("numpy.ma")
     if masked is not None and isinstance(numbers, masked.MaskedArray):
         raise TypeError(
@@ -95,13 +95,13 @@ def as_numpy(numbers: Any) -> Any:
     numpy = numpy_module()
     if numpy is None or isinstance(numbers, (list, tuple, range, array)):
         return None
-    _unmasked(numbers)
+    unmasked(numbers)
     if isinstance(numbers, numpy.ndarray):
         return numbers
     return numpy.asarray(numbers) if hasattr(numbers, "__array__") else None
 
 
-def _listed(numbers: Any) -> Any:
+def items_of(numbers: Any) -> Any:
     """Returns numbers that aren't a numpy array as something to iterate over."""
     if isinstance(numbers, str):
         raise TypeError("expected a list of numbers, got str")
@@ -128,7 +128,7 @@ def _items(view: memoryview) -> list[Any]:
 
 def sequence_of(numbers: Any) -> Any:
     """Returns the same list of numbers, or a list if ``numbers`` can be iterated only once."""
-    return numbers if hasattr(numbers, "__len__") else list(_listed(numbers))
+    return numbers if hasattr(numbers, "__len__") else list(items_of(numbers))
 
 
 def listed_of(numbers: Any) -> list[Any]:
@@ -136,7 +136,7 @@ def listed_of(numbers: Any) -> list[Any]:
     if is_one(numbers):
         return [numbers]
     table = as_numpy(numbers)
-    return list(_listed(numbers)) if table is None else table.tolist()  # type: ignore[no-any-return]
+    return list(items_of(numbers)) if table is None else table.tolist()  # type: ignore[no-any-return]
 
 
 def plain_of(numbers: Any) -> Any:
@@ -150,7 +150,7 @@ def _flat(dimensions: int) -> None:
         raise TypeError(f"expected a list of numbers, got an array of {dimensions} dimensions: array.ravel() converts it")
 
 
-def _past(code: str, numbers: Any) -> bool:
+def past(code: str, numbers: Any) -> bool:
     """Returns whether a numpy array has numbers that don't fit the type ``code``."""
     if not numbers.size:
         return False
@@ -168,7 +168,7 @@ def _filled(code: str, numbers: Any) -> array[Any]:
     return memory
 
 
-def _wholes(table: Any) -> None:
+def wholes_wanted(table: Any) -> None:
     """Raises TypeError if a numpy array isn't a list of whole numbers."""
     _flat(table.ndim)
     if table.dtype.kind not in "iub" and not (table.dtype.kind == "f" and not table.size):
@@ -182,18 +182,18 @@ def wholes_of(code: str, numbers: List) -> array[Any]:
     """
     table = as_numpy(numbers)
     if table is not None:
-        _wholes(table)
-    memory = _copied(code, numbers if table is None else table)
+        wholes_wanted(table)
+    memory = own_of(code, numbers if table is None else table)
     if memory is not None:
         return memory
     if table is None:
-        return array(code, map(whole, _listed(numbers)))
-    if _past(code, table):
+        return array(code, map(whole, items_of(numbers)))
+    if past(code, table):
         raise OverflowError("a number is past its type")
     return _filled(code, table)
 
 
-def _copied(code: str, numbers: Any) -> array[Any] | None:
+def own_of(code: str, numbers: Any) -> array[Any] | None:
     """Returns a copy of numbers whose memory has this package's format, without a look at each number.
 
     Returns None for other numbers.
@@ -207,14 +207,6 @@ def _copied(code: str, numbers: Any) -> array[Any] | None:
         return None
     memory.frombytes(view.cast("B") if view.c_contiguous and len(view) else view.tobytes())
     return memory
-
-
-def narrow_of(symbols: Any) -> array[Any] | None:
-    """Returns a copy of a list of symbols of 8 or 16 bits without a sign. Returns None for other symbols."""
-    if isinstance(symbols, (list, tuple, bytes, bytearray)) or is_one(symbols):
-        return None
-    _unmasked(symbols)
-    return _copied(SHORT if getattr(symbols, "itemsize", 1) == 2 else BYTE, symbols)
 
 
 def words_of(words: List, name: str = "word", refused: type[Refusal] = InvalidDataError, code: str = WORD) -> array[Any]:
@@ -231,44 +223,6 @@ def words_of(words: List, name: str = "word", refused: type[Refusal] = InvalidDa
         bits = 8 * array(code).itemsize
         place, number = next((i, it) for i, it in enumerate(map(whole, listed_of(given))) if it >> bits)
         raise refused(f"expected a {name} of at least 0 and below 2^{bits}, got {shown(number)} at place {place}") from None
-
-
-def _signed(symbols: Any) -> Iterable[int]:
-    """Returns whole numbers to iterate over, in their own memory if the memory's format has a sign."""
-    if isinstance(symbols, array) and symbols.typecode == SYMBOL:
-        return symbols
-    return map(whole, _listed(symbols))
-
-
-def places_of(symbols: Any, first: int) -> Any:
-    """Converts a symbol or a list of symbols to indexes of a table whose first symbol is ``first``.
-
-    Returns an array, or a numpy array. Raises ImpossibleSymbolError if an index doesn't fit 64 bits. Indexes of a numpy
-    array are modulo 2^64.
-    """
-    try:
-        if is_one(symbols):
-            return array(SYMBOL, (whole(symbols) - first,))
-        table = as_numpy(symbols)
-        if table is not None:
-            return _places_of_table(table, first)
-        if first:
-            return array(SYMBOL, map((-first).__add__, _signed(symbols)))
-        return wholes_of(SYMBOL, symbols)
-    except OverflowError:
-        # No index of a table has more than 64 bits.
-        raise ImpossibleSymbolError(IMPOSSIBLE_SYMBOL) from None
-
-
-def _places_of_table(table: Any, first: int) -> Any:
-    """Does the same as ``places_of`` for a numpy array. A symbol of 64 bits and a sign is one of its index alone."""
-    _wholes(table)
-    if first < 0 and table.dtype.kind == "u" and table.dtype.itemsize == 8 and _past(SYMBOL, table):
-        raise OverflowError
-    places = table.astype("int64")
-    if first:
-        places -= first
-    return places
 
 
 def doubles(table: Any) -> Any:
@@ -298,8 +252,8 @@ def floats_of(numbers: Any) -> array[float]:
         return _filled(NUMBER, doubles(table))
     if type(numbers) is list and _FLOAT.issuperset(map(type, numbers)):
         return array(NUMBER, numbers)
-    memory = _copied(NUMBER, numbers)
-    return array(NUMBER, map(real, _listed(numbers))) if memory is None else memory
+    memory = own_of(NUMBER, numbers)
+    return array(NUMBER, map(real, items_of(numbers))) if memory is None else memory
 
 
 def reals_of(numbers: Any) -> Any:

@@ -15,7 +15,7 @@ from ctypes import byref, c_int32, c_int64, c_size_t, c_uint32, c_void_p
 from functools import partial
 from typing import Any
 
-from ._buffers import SYMBOL, Array
+from ._buffers import SYMBOL
 from ._sizes import LARGE, Size
 from .stream.model._base import COUNTS, ENDS, MIXED, UNITS, Model
 
@@ -207,14 +207,15 @@ class Buffer:
     """The address of a buffer of words, and the number of words for which it has room, as arguments."""
 
     def __init__(self) -> None:
-        self.address, self.capacity, self._memory = c_void_p(), c_size_t(), None
+        self.address, self.capacity = c_void_p(), c_size_t()
+        self._memory: Any = None
 
-    def take(self, memory: Array) -> None:
+    def take(self, memory: Any) -> None:
         """Stores the address of ``memory``. The memory doesn't move while it exists, because no code makes it longer.
         """
         if memory is not self._memory:
-            self.address.value, self.capacity.value = memory.buffer_info()
-            self._memory = memory  # type: ignore[assignment]
+            self.address.value = memory.buffer_info()[0] if isinstance(memory, array) else memory.ctypes.data
+            self.capacity.value, self._memory = len(memory), memory
 
 
 def memory_of(numbers: array[int]) -> c_void_p:

@@ -6,7 +6,7 @@ import sys
 from array import array
 from typing import Any, NamedTuple, TypeVar
 
-from ._buffers import Array, List, Numbers, lent, room
+from ._buffers import OWN, Array, List, Numbers, copied_part, lent, room
 from ._numbers import words_of
 from ._sizes import LARGE, Size
 from .errors import InvalidDataError
@@ -24,8 +24,14 @@ class Words(NamedTuple):
     A longer list of words may be in the same buffer. A coder's lock makes sure that only one list is used at a time.
     """
 
-    memory: Array
+    memory: Any
     length: int
+
+    @property
+    def code(self) -> str:
+        """The typecode of the words."""
+        memory = self.memory
+        return memory.typecode if isinstance(memory, array) else memory.dtype.char  # type: ignore[no-any-return]
 
     def reserve(self, more: int, kept: int = 0) -> Words:
         """Returns the same words, with room for ``more`` more words.
@@ -36,7 +42,7 @@ class Words(NamedTuple):
         wanted, capacity = self.length + more, len(self.memory)
         if wanted <= capacity:
             return self
-        memory, kept = room(self.memory.typecode, max(wanted, capacity + capacity // 2), array), max(kept, self.length)
+        memory, kept = room(self.code, max(wanted, capacity + capacity // 2), OWN), max(kept, self.length)
         memoryview(memory)[:kept] = memoryview(self.memory)[:kept]
         return Words(memory, self.length)
 
@@ -46,13 +52,13 @@ class Words(NamedTuple):
 
     def numbers(self) -> Numbers:
         """Returns a copy of the words in use, as a caller gets it."""
-        copy = room(self.memory.typecode, self.length)
+        copy = room(self.code, self.length)
         memoryview(copy)[:] = memoryview(self.memory)[: self.length]
         return copy
 
     def clone(self) -> Words:
         """Returns a copy in a buffer of its own."""
-        return Words(self.memory[: self.length], self.length)
+        return Words(copied_part(self.memory, 0, self.length), self.length)
 
 
 def copied(given: List = (), size: Size = LARGE) -> Words:

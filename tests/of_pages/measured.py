@@ -4,6 +4,8 @@ from __future__ import annotations
 
 import re
 import subprocess
+from importlib.machinery import SourceFileLoader
+from importlib.util import module_from_spec, spec_from_loader
 
 from judging import TOP, judge, read
 
@@ -48,6 +50,21 @@ def gaussians_from_python(rows):
             yield f"python_{coder}_{call}_u32u64p24_gaussian_{kind} {1000 * float(time)}"
 
 
+def lists_from_python(rows):
+    """Yields the lines of lists of bench/from_python."""
+    for (_, *cells), case in zip(rows, ("ans_{}", "ans_{}_bytes", "range_{}", "range_{}_bytes")):
+        for call, c, ratio in (("encode", *cells[:2]), ("decode", *cells[2:])):
+            yield f"python_lists_{case.format(call)} {c} {float(c) * float(ratio)}"
+
+
+def calls_from_python(rows):
+    """Yields the lines of calls of bench/from_python."""
+    calls = [(coder, call) for coder in ("ans", "range") for call in ("encode", "decode")]
+    for (_, *cells), case in zip(rows, ("table", "gaussian", "slice", "row", "numpy256", "mixture")):
+        for (coder, call), cell in zip(calls, cells):
+            yield f"python_one_{coder}_{call}_{case} {1000 * float(cell.split()[0])}"
+
+
 def program(rows):
     """Yields the lines of two runs of bench/program, with the least and the greatest number of each cell."""
     for command, *cells in rows:
@@ -56,12 +73,31 @@ def program(rows):
             yield " ".join([command.split("`")[1], *(it[end] for it in ends)])
 
 
+def sentences(found):
+    """Judges what other pages say of tables."""
+    loader = SourceFileLoader("table", f"{TOP}/bench/table")
+    module = module_from_spec(spec_from_loader("table", loader))
+    loader.exec_module(module)
+    for page, name, pattern, said in module.SENTENCES:
+        shown = re.findall(pattern, read(page))
+        wanted = said(found[name][0])
+        judge(shown == [wanted], f"{page} says {shown} of '{name}', and not {wanted}")
+
+
 def test():
-    """Judges each table."""
-    lines = {"speed": speed, "Gaussians": gaussians, "Gaussians from Python": gaussians_from_python, "program": program}
+    """Judges each table, and the sentences on tables of other pages."""
+    lines = {
+        "speed": speed,
+        "Gaussians": gaussians,
+        "Gaussians from Python": gaussians_from_python,
+        "lists from Python": lists_from_python,
+        "calls from Python": calls_from_python,
+        "program": program,
+    }
     found = tables()
     judge(found.keys() == lines.keys(), f"{PAGE} has the tables {', '.join(found)}")
     for name, (text, rows) in found.items():
         run = "\n".join([*head(text), *lines[name](rows)])
         done = subprocess.run([f"{TOP}/bench/table"], input=run, capture_output=True, text=True)
         judge(done.stdout == f"{text}\n", f"{PAGE}: the table '{name}' isn't what bench/table writes\n{done.stdout}{done.stderr}")
+    sentences(found)

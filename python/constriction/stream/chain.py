@@ -54,7 +54,7 @@ def _next_bits(state: _State, size: Size) -> int | None:
     """
     bits, words = state.heads[1], state.compressed
     if bits < size.total:
-        return words.memory[words.length - 1] if words.length else None
+        return int(words.memory[words.length - 1]) if words.length else None
     return bits
 
 

@@ -7,7 +7,7 @@ from ctypes import byref, c_size_t
 from typing import Any, NamedTuple, SupportsIndex, TypeVar, Union, overload
 
 from .. import errors
-from .._buffers import Amount, Answer, List, Numbers, Parameter, Reals, Symbols, answered, lent
+from .._buffers import Amount, Answer, List, Numbers, Parameter, Reals, Symbols, answered, copied_part, lent
 from .._coder import Coder
 from .._answers import AS_USUAL, Wanted
 from .._coding import decoded, encoded
@@ -37,7 +37,7 @@ class _State(NamedTuple):
     words: Words
     head: int
     top: int
-    saved: tuple[int, array[Any]] | None = None
+    saved: tuple[int, Any] | None = None
 
 
 def _whole(state: _State) -> _State:
@@ -55,7 +55,7 @@ def _writable(state: _State, count: int) -> _State:
     if length == top:
         return state  # There are no words ahead.
     state = _whole(state)
-    return state._replace(saved=(length, state.words.memory[length : min(top, length + count)]))
+    return state._replace(saved=(length, copied_part(state.words.memory, length, min(top, length + count))))
 
 
 def _behind(before: _State, words: Words, length: int, head: int) -> _State:
