@@ -216,7 +216,7 @@ def numpy_for_answers() -> Any:
 def answered_alone(symbol: int) -> Any:
     """Returns a list of one symbol as a caller gets it."""
     numpy = numpy_for_answers()
-    return Numbers(SYMBOL, (symbol,)) if numpy is None else numpy.array((symbol,), "int64")
+    return Numbers(SYMBOL, (symbol,)) if numpy is None else numpy.array((symbol,), numpy.int64)
 
 
 def answered(numbers: Any) -> Any:

@@ -83,9 +83,11 @@ class Coder:
         if not isinstance(model, Model) or given and not model.missing:
             return None
         symbol = (self._lane or self._made_lane()).decode(self, model, given)
-        if symbol is None or not given or model.core or all(isinstance(it, float) or is_one(it) for it in given):
-            return symbol
-        return answered_alone(symbol)
+        if symbol is not None and given and not model.core:
+            for it in given:
+                if type(it) is not float and not is_one(it):
+                    return answered_alone(symbol)
+        return symbol
 
     def _compared(self, state: Any) -> Any:
         """Returns a value that is equal for equal coders."""

@@ -15,9 +15,9 @@ from ctypes import byref, c_int32, c_int64, c_size_t, c_uint32, c_void_p
 from functools import partial
 from typing import Any
 
-from ._buffers import SYMBOL
+from ._buffers import SYMBOL, room
 from ._sizes import LARGE, Size
-from .stream.model._base import COUNTS, ENDS, MIXED, UNITS, Model
+from .stream.model._base import COUNTS, ENDS, MIXED, SHARED, UNITS, Model
 
 __all__ = ["Buffer", "Lane", "made", "memory_of"]
 
@@ -41,6 +41,7 @@ class Lane:
         self._interval, self._three = array(code, (0, 0)), array(code, (0, 0, 0))
         self._location, self._scale, self._row, self._width = c_int64(), c_uint32(), c_void_p(), c_size_t()
         self._family, self._least, self._greatest, self._model = c_uint32(), c_int32(), c_int32(), None
+        self._weights, self._counts = array(code, (0,)), c_void_p()
         self._mixed = c_size_t(), c_void_p(), c_void_p(), c_void_p()
         one, three, needed = c_size_t(1), c_size_t(3), byref(c_size_t())
         left, symbol = self._interval.buffer_info()[0], (memory_of(self._place), one)
@@ -54,6 +55,7 @@ class Lane:
             """Returns a C function with these arguments. Each call reads the arguments' memory."""
             return partial(size.plain_function(name.format(kind)), *lead, *arguments)
 
+        self._share_out = partial(size.plain_function("weights_of_counts"), self._counts, self._width, *row)
         self._encode_interval = bound(encode, "_intervals", *interval, needed)
         self._encode_units = bound(encode, "_quantized", *family, *symbol, needed)
         self._encode_row = bound(encode, "", *row, *symbol, needed)
@@ -131,8 +133,8 @@ class Lane:
         if kind == MIXED:
             self._take_components(model, *first)
             return self._encode_mixture()
-        self._row.value, self._width.value = first.buffer_info()
-        return self._encode_counts() if kind == COUNTS else self._encode_row()
+        refused = self._take_row(kind, first)
+        return refused or (self._encode_counts() if kind == COUNTS else self._encode_row())
 
     def decode(self, coder: Any, model: Model, given: tuple[Any, ...]) -> int | None:
         """Decodes the next symbol. Returns None if this isn't possible, and the coder is then unchanged."""
@@ -181,8 +183,20 @@ class Lane:
         if kind == MIXED:
             self._take_components(model, *first)
             return self._decode_mixture()
-        self._row.value, self._width.value = first.buffer_info()
-        return self._decode_counts() if kind == COUNTS else self._decode_row()
+        refused = self._take_row(kind, first)
+        return refused or (self._decode_counts() if kind == COUNTS else self._decode_row())
+
+    def _take_row(self, kind: int, row: array[int]) -> int:
+        """Takes a row of weights or of counts, or computes weights from counts. Returns the result of the C function."""
+        if kind != SHARED:
+            self._row.value, self._width.value = row.buffer_info()
+            return 0
+        if len(row) > len(self._weights):
+            self._weights = room(self.size.code, len(row), array)
+        self._counts.value, self._width.value = row.buffer_info()
+        self._row.value = self._weights.buffer_info()[0]
+        refused: int = self._share_out()
+        return refused
 
     def _take_family(self, model: Any, of: Any) -> None:
         if model is not self._model:
@@ -197,10 +211,9 @@ class Lane:
     def _take_components(self, model: Any, weights: array[int], locations: array[int], scales: array[int]) -> None:
         if model is not self._model:
             self._take_family(model, model._components)
-        count, *addresses = self._mixed
-        count.value = len(weights)
-        for address, numbers in zip(addresses, (weights, locations, scales)):
-            address.value = numbers.buffer_info()[0]
+        count, at_weights, at_locations, at_scales = self._mixed
+        at_weights.value, count.value = weights.buffer_info()
+        at_locations.value, at_scales.value = locations.buffer_info()[0], scales.buffer_info()[0]
 
 
 class Buffer:

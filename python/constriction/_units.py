@@ -131,18 +131,23 @@ def _only(numbers: Any) -> Any:
     return None if hasattr(number, "__len__") else number
 
 
-def units_of(floats: Any, unit: float, origin: float, within: Ends) -> array[int] | None:
+def units_of(code: str, floats: Any, unit: float, origin: float = 0.0) -> array[int] | None:
     """Returns a few floats minus ``origin``, in units, rounded like ``locations_of``, ``scales_of`` and the like.
 
-    Returns None if one isn't within the bounds, or isn't a plain number. Bounds below 0 are those of locations.
+    Returns None if one doesn't fit the type ``code``, or isn't a plain number. The result doesn't have the limits of those
+    functions. A C function refuses a scale of 0, and takes locations past their limit for the limit.
     """
-    listed = floats.tolist() if hasattr(floats, "tolist") else floats
+    kind = type(floats)
+    if kind is not list and kind is not tuple:
+        if not hasattr(floats, "tolist"):
+            return None
+        floats = floats.tolist()
     try:
         if origin:
-            listed = [it - origin for it in listed]
-        if not (within[0] <= min(listed) and max(listed) <= within[1]):
-            return None
-        return array(SYMBOL if within[0] < 0 else WORD, [round(it * unit) for it in listed])
+            floats = [it - origin for it in floats]
+        if code == WORD and min(floats) < 0:
+            return None  # It may be rounded to 0.
+        return array(code, [round(it * unit) for it in floats])
     except (TypeError, ValueError, OverflowError):
         return None
 

@@ -3,6 +3,7 @@ place."""
 
 from __future__ import annotations
 
+import math
 import random
 import unittest
 from typing import Any
@@ -158,6 +159,39 @@ class Faults(unittest.TestCase):
         self.assertEqual(repr(mixture()), "QuantizedMixture(QuantizedLogistic(-50, 50))")
         self.assertEqual(mixture(), mixture())
         self.assertNotEqual(mixture(), mixture(models.GAUSSIAN))
+
+
+class Alone(unittest.TestCase):
+    def test_edges(self) -> None:
+        """A call with one symbol rounds, limits and refuses components as a list of one symbol does."""
+        dice = random.Random(31)
+        weights = (0.5, 0.0, 1e-12, -1e-12, 2.0**-31, 1.9999999999, 2.0, math.nan, 1, -1, -0.0)
+        means = (0.0, 1e15, -1e15, 2.0**46, 2.0**47, 1e300, -1e300, math.inf, math.nan, 3, 0.5 / 65536, 1.5 / 65536)
+        scales = (1.0, 1e-9, 2.0**-17, 2.0**-16, 2.0**-18, 65535.9999, 65535.99999999, 65536.0, -1e-12, 0.0, math.nan, 7)
+        model: Any = QuantizedMixture(QuantizedGaussian((1 << 40) - 9, (1 << 40) + 9)), QuantizedMixture(QuantizedLogistic(-9, 9))
+        refused = done = 0
+        for _ in range(4000):
+            of = dice.choice(model)
+            count = dice.choice((1, 1, 2, 3))
+            given = [[dice.choice(few if dice.random() < 0.8 else few[:1]) for _ in range(count)] for few in (weights, means, scales)]
+            symbol, results = of.first + dice.randrange(19), []
+            for coder in (AnsCoder([5, 6, 7]), AnsCoder([5, 6, 7])):
+                one = len(results) == 0
+                try:
+                    if one:
+                        coder.encode_reverse(symbol, of, *given)
+                    else:
+                        coder.encode_reverse([symbol], of, *([it] for it in given))
+                    results.append(coder.get_compressed().tolist())
+                    back: Any = coder.decode(of, *given) if one else coder.decode(of, *([it] for it in given))[0]
+                    self.assertEqual((back, coder), (symbol, AnsCoder([5, 6, 7])))
+                    done += one
+                except ValueError as it:
+                    results.append(type(it))
+                    self.assertEqual(coder, AnsCoder([5, 6, 7]))
+                    refused += one
+            self.assertEqual(results[0], results[1], given)
+        self.assertGreater(min(done, refused), 300)
 
 
 if __name__ == "__main__":

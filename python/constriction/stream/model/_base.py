@@ -20,6 +20,7 @@ __all__ = [
     "FALLS",
     "MIXED",
     "ROW",
+    "SHARED",
     "UNITS",
     "Bound",
     "Located",
@@ -33,8 +34,8 @@ __all__ = [
 ]
 
 #: The forms of the model of a single symbol: the ends of the intervals, a location and a scale, a row of weights, a row
-#: of components, or a row of counts.
-ENDS, UNITS, ROW, MIXED, COUNTS = range(5)
+#: of components, a row of counts, or a row of counts from which a C function first computes weights.
+ENDS, UNITS, ROW, MIXED, COUNTS, SHARED = range(6)
 #: After ``_SELDOM`` calls with one symbol, a model of at most ``_MOST_ENDS`` symbols keeps its sums of weights.
 #: Before that, a model of at most ``_FEW_WEIGHTS`` symbols passes all weights.
 _SELDOM, _MOST_ENDS, _FEW_WEIGHTS = 2, 1 << 16, 64

@@ -6,12 +6,9 @@ from array import array
 from collections.abc import Sequence
 from typing import Any, NamedTuple
 
-from ..._buffers import lent
-from ..._numbers import grid_of, is_row
-from ..._units import (
-    FARTHEST, MOST_WEIGHT, NARROWEST, SHARES, UNITS_OF_ONE, WIDEST, component_weights_of, locations_of, moved, scales_of, units_of,
-    wrong_row,
-)  # fmt: skip
+from ..._buffers import SYMBOL, WORD, lent
+from ..._numbers import grid_of
+from ..._units import SHARES, UNITS_OF_ONE, component_weights_of, locations_of, moved, scales_of, units_of, wrong_row
 from ...errors import Refusal, WrongLengthError, WrongWeightsError
 from ._base import MIXED, Model, shown_range
 from ._quantized import _Quantized
@@ -92,17 +89,14 @@ class QuantizedMixture(Model):
         return f"{kind}({shown_range(of.first, of.size)})"
 
     def _alone_by(self, given: tuple[Any, ...]) -> tuple[int, Any, Any] | None:
-        if len(given) != 3 or not all(map(is_row, given)):
+        if len(given) != 3:
             return None
-        weights, locations, scales = given
-        lists = (
-            units_of(weights, SHARES, 0.0, (0.0, MOST_WEIGHT)),
-            units_of(locations, UNITS_OF_ONE, self._components._origin, (-FARTHEST, FARTHEST)),
-            units_of(scales, UNITS_OF_ONE, 0.0, (NARROWEST, WIDEST)),
-        )
-        if any(it is None or len(it) != len(weights) for it in lists):
+        weights = units_of(WORD, given[0], SHARES)
+        locations = units_of(SYMBOL, given[1], UNITS_OF_ONE, self._components._origin)
+        scales = units_of(WORD, given[2], UNITS_OF_ONE)
+        if not weights or locations is None or scales is None or not len(weights) == len(locations) == len(scales):
             return None
-        return MIXED, lists, None
+        return MIXED, (weights, locations, scales), None
 
     def explained(self, refused: Refusal, given: Sequence[Any]) -> Refusal:
         """Returns the exception with a text that names the symbol whose weights have a wrong sum."""

@@ -15,7 +15,7 @@ from ..._quick import (
 from ..._units import counts_of, counts_of_row, counts_of_rows, counts_of_wholes
 from ..._sizes import LARGE, SMALL, Size
 from ...errors import WrongWeightsError, wrong_weights
-from ._base import COUNTS, ROW, Model, sized
+from ._base import COUNTS, ROW, SHARED, Model, sized
 
 __all__ = ["ROWS_AT_A_TIME", "Categorical", "Rows", "WeightTable"]
 
@@ -233,6 +233,11 @@ class Categorical(Rows):
 
     def _nothing(self) -> array[int]:
         return array("I") if self._form == COUNTS else super()._nothing()
+
+    def _alone_by(self, given: tuple[Any, ...]) -> tuple[int, Any, Any] | None:
+        if len(given) != 1 or not self.missing or not is_row(given[0]):
+            return None
+        return COUNTS if self._form == COUNTS else SHARED, self._counted(given[0]), None
 
     def _counted(self, numbers: Any) -> array[int]:
         """Returns the counts that probabilities or counts stand for."""
