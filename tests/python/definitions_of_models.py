@@ -1,7 +1,6 @@
-"""Models in whole numbers by their definitions (docs/MODELS.md), slow and plain, and floats as whole numbers by exact
-fractions.
+"""Models in whole numbers by their definitions (docs/MODELS.md), and floats as whole numbers by exact fractions.
 
-The values of the distributions are those of their formulas, to 100 digits. Nothing of the library is used here.
+The values of the distributions follow from their formulas, to 100 digits. This file doesn't use the library.
 """
 
 from __future__ import annotations
@@ -21,12 +20,12 @@ GAUSSIAN, LAPLACE, LOGISTIC = FAMILIES = "gaussian", "laplace", "logistic"
 
 @lru_cache(maxsize=None)
 def values(family: str) -> list[int]:
-    """How much of 2^32 lies below each of 2049 places of the standard distribution."""
+    """Returns the part of 2^32 below each of 2049 places of the standard distribution."""
     return distributions.entries(family)
 
 
 def below(family: str, location: int, scale: int, place: int) -> int:
-    """How much of 2^32 lies below a place. Location, scale and place are in units."""
+    """Returns the part of 2^32 below a place. Location, scale and place are in units of 2^-16."""
     table, width = values(family), 2 * distributions.REACH[family]
     far = place - location + width * scale // 2
     if far < 0:
@@ -38,21 +37,21 @@ def below(family: str, location: int, scale: int, place: int) -> int:
 
 
 def mixed(family: str, components: Iterable[tuple[int, int, int]], place: int) -> int:
-    """The same under a mixture of components, each with a weight, a location and a scale: their mean, rounded once."""
+    """Returns the same for a mixture of components (weight, location, scale): their weighted mean, rounded once."""
     listed = list(components)
     total = sum(weight for weight, _, _ in listed)
     return sum(weight * below(family, location, scale, place) for weight, location, scale in listed) // total
 
 
 def starts(family: str, location: int, scale: int, least: int, count: int, precision: int = 24) -> list[int]:
-    """Where the interval of each symbol from the least one on begins, and where the last one ends."""
+    """Returns the start of each symbol's interval, beginning with the least symbol, and the end of the last one."""
     halves = [(least + k) * UNIT - UNIT // 2 for k in range(1, count)]
     parts = [0, *(below(family, location, scale, place) for place in halves), ALL]
     return [(2**precision - count) * part // ALL + k for k, part in enumerate(parts)]
 
 
 def table(family: str, location: int, scale: int, least: int, count: int, precision: int = 24) -> list[int]:
-    """The weights of the symbols from the least one on."""
+    """Returns the weights of the symbols, beginning with the least one."""
     found = starts(family, location, scale, least, count, precision)
     return [b - a for a, b in zip(found, found[1:])]
 
@@ -60,8 +59,7 @@ def table(family: str, location: int, scale: int, least: int, count: int, precis
 def mixture(
     family: str, shares: list[int], locations: list[int], scales: list[int], least: int, count: int, precision: int = 24
 ) -> list[int]:
-    """The weights of the symbols from the least one on under a mixture: the weighted mean of the components, rounded
-    down once."""
+    """Returns the weights of the symbols under a mixture, whose function is rounded down once."""
     components = list(zip(shares, locations, scales))
     parts = [0, *(mixed(family, components, (least + k) * UNIT - UNIT // 2) for k in range(1, count))]
     ends = [(2**precision - count) * part // ALL + k for k, part in enumerate([*parts, ALL])]
@@ -69,24 +67,23 @@ def mixture(
 
 
 def location_of(mean: float) -> int:
-    """The nearest whole number of units, from the middle the even one."""
+    """Returns the nearest whole number of units, ties to even."""
     return round(Fraction(mean) * UNIT)
 
 
 def scale_of(deviation: float) -> int:
-    """The same, from 1 to the greatest that there is."""
+    """Returns the same for a scale, which is at least 1 and at most 2^32 - 1."""
     return min(max(location_of(deviation), 1), ALL - 1)
 
 
 def table_of(family: str, mean: float, deviation: float, least: int, greatest: int) -> list[int]:
-    """The weights that floats stand for."""
+    """Returns the weights of a distribution whose parameters are floats."""
     count = greatest - least + 1
     return table(family, location_of(mean), scale_of(deviation), least, count) if count > 1 else [1 << 24]
 
 
 def weights(counts: list[int], precision: int = 24) -> list[int]:
-    """Weights in proportion to counts: those that would get less than 1 are raised, round by round, and the others
-    share the rest."""
+    """Returns weights in proportion to counts. Shares below 1 are raised to 1, in rounds; the others share the rest."""
     raised: set[int] = set()
     while True:
         mass, rest = 2**precision - len(raised), sum(count for k, count in enumerate(counts) if k not in raised)
@@ -134,7 +131,7 @@ def starts_of_counts(counts: list[int], precision: int = 24) -> list[int]:
 
 
 def weights_of(probabilities: Iterable[float]) -> list[int]:
-    """The weights that probabilities stand for."""
+    """Returns the weights of probabilities."""
     exact = [Fraction(it) for it in probabilities]
     above = Fraction(1)
     while above <= max(exact):

@@ -1,4 +1,4 @@
-"""What decodes and exports return: lists of numbers that are equal to lists, and single symbols as ints."""
+"""Results of decodes and exports: lists of numbers that equal lists, and single symbols as ints."""
 
 from __future__ import annotations
 
@@ -23,12 +23,15 @@ from constriction.stream.stack import AnsCoder
 
 
 class WithoutNumpy(unittest.TestCase):
+    """Answers are lists of numbers if numpy can't be imported."""
+
     def setUp(self) -> None:
         patch = mock.patch.dict(sys.modules, numpy=None)
         patch.start()
         self.addCleanup(patch.stop)
 
     def test_copies_and_parts(self) -> None:
+        """Slices, copies, pickles, sums and multiples of an answer are equal to those of a list."""
         coder = AnsCoder()
         coder.encode_reverse([3, 1, 4, 1, 5], Uniform(9))
         found: Any = coder.decode(Uniform(9), 5)
@@ -49,9 +52,10 @@ class WithoutNumpy(unittest.TestCase):
 
 
 class Single(unittest.TestCase):
-    """One symbol decodes to an int, in whatever form its parameters are."""
+    """One symbol decodes to an int, for all forms of its parameters."""
 
     def test_one_row(self) -> None:
+        """One row of weights or probabilities, in any form, decodes to an int."""
         rows: list[Any] = [[0.1, 0.6, 0.3], (0.1, 0.6, 0.3), array("d", [0.1, 0.6, 0.3]), [1, 6, 3], memoryview(array("d", [0.1, 0.6, 0.3]))]
         weights: list[Any] = [[1 << 22, 1 << 23, 1 << 22], (1 << 22, 1 << 23, 1 << 22), array("I", [1 << 22, 1 << 23, 1 << 22])]
         for model, some in ((Categorical(), rows), (WeightTable(), weights)):
@@ -67,6 +71,7 @@ class Single(unittest.TestCase):
         self.assertEqual(len(AnsCoder([5]).decode(Categorical(), [])), 0)
 
     def test_other_parameters(self) -> None:
+        """One set of parameters, in any form, decodes to an int."""
         mixture, weights, means, stds = QuantizedMixture(QuantizedGaussian(-9, 9)), [0.25, 0.75], [1.0, -1.0], [2.0, 0.5]
         for forms in (list, tuple, iter, lambda it: (x for x in it), lambda it: array("d", it)):
             coder = AnsCoder([5, 6, 7])
@@ -81,9 +86,10 @@ class Single(unittest.TestCase):
 
 
 class QuickWays(unittest.TestCase):
-    """Calls of one symbol under rows don't go the way of lists, and have its words, symbols and refusals."""
+    """Calls of one symbol with rows don't use the code for lists, and have the same words, symbols and errors."""
 
     def test_beside_lists(self) -> None:
+        """Calls of one symbol have the same words and symbols as calls with lists of one symbol."""
         slow = mock.patch("constriction._coder.Coder._changed", side_effect=AssertionError("the way of lists"))
         dice, mixture, family = random.Random(5), QuantizedMixture(QuantizedGaussian(-9, 9)), QuantizedGaussian(-9, 9)
         far = QuantizedMixture(QuantizedGaussian(1 << 40, (1 << 40) + 6))
@@ -110,6 +116,7 @@ class QuickWays(unittest.TestCase):
                     self.assertEqual([found] if model is not family else found, [symbol])
 
     def test_refusals(self) -> None:
+        """Invalid parameters of one symbol are refused, and the coder stays unchanged."""
         mixture, nan, inf = QuantizedMixture(QuantizedGaussian(-9, 9)), math.nan, math.inf
         half, zeros, ones = [0.5, 0.5], [0.0, 0.0], [1.0, 1.0]
         for weights, means, stds in (
@@ -132,6 +139,7 @@ class OneForAll(unittest.TestCase):
     """A single parameter, or a list of one, stands for all."""
 
     def test_parameters(self) -> None:
+        """Single parameters have the same words as lists that repeat them. Other lengths are refused."""
         symbols, means, stds = [3, -2, 0, 5], [2.5, -1.0, 0.25, 4.0], [2.0] * 4
         family, mixture, weights = QuantizedGaussian(-9, 9), QuantizedMixture(QuantizedGaussian(-9, 9)), [1 << 22, 1 << 23, 1 << 22]
         two = [[0.25, 0.75]] * 4
@@ -163,7 +171,10 @@ class OneForAll(unittest.TestCase):
 
 
 class Bytes(unittest.TestCase):
+    """Words as bytes."""
+
     def test_there_and_back(self) -> None:
+        """`to_bytes` has the words in little-endian order, and `from_bytes` reads them from any buffer of bytes."""
         model = Uniform(300)
         for count in (0, 1, 5, 40):
             symbols = [i * 7 % 300 for i in range(count)]
@@ -182,6 +193,7 @@ class Bytes(unittest.TestCase):
         self.assertEqual(AnsCoder.from_bytes(sealed.to_bytes(unseal=True), seal=True), sealed)
 
     def test_refusals(self) -> None:
+        """Bytes that aren't whole words, and values that aren't bytes, are refused."""
         for make in (AnsCoder.from_bytes, RangeDecoder.from_bytes):
             for size in (1, 2, 3, 5):
                 self.assertRaisesRegex(errors.InvalidDataError, f"^expected 4 bytes for each word, got {size} bytes$", make, bytes(size))

@@ -1,4 +1,4 @@
-"""The examples in the docstrings of the package print what they say, and each class that callers make has one."""
+"""The examples in the package's docstrings are right, and each class that callers create has one."""
 
 from __future__ import annotations
 
@@ -12,12 +12,15 @@ from constriction import errors, store, symbol
 from constriction.stream import chain, model, queue, stack
 
 MODULES = [it.name for it in pkgutil.walk_packages(constriction.__path__, "constriction.") if "__main__" not in it.name]
-#: Callers make no values of these classes.
+#: Callers don't create objects of these classes.
 ABSTRACT = {"Model", "Entry"}
 
 
 class Docstrings(unittest.TestCase):
+    """The docstrings of the package."""
+
     def test_examples(self) -> None:
+        """All examples print what the docstrings say."""
         attempted = 0
         for name in MODULES:
             with self.subTest(name):
@@ -27,6 +30,7 @@ class Docstrings(unittest.TestCase):
         self.assertGreater(attempted, 60)
 
     def test_each_class_has_one(self) -> None:
+        """Each class that callers create has an example, and each error has a docstring."""
         for module in (stack, queue, chain, model, symbol, store):
             for name in set(module.__all__) - ABSTRACT:
                 it = getattr(module, name)

@@ -1,4 +1,4 @@
-"""Each script of examples/python prints the line that its page says, and has 80 lines at most."""
+"""Each script of examples/python prints the line of its page, and has at most 80 lines."""
 
 from __future__ import annotations
 
@@ -24,7 +24,7 @@ ENVIRONMENT = {
 }
 
 
-# A stand-in for matplotlib: a picture is the list of the calls that draw it.
+# A stand-in for matplotlib. A picture is the list of calls that draw it.
 STAND_IN = """
 from unittest.mock import MagicMock
 
@@ -39,7 +39,10 @@ def subplots(**options):
 
 
 class Examples(unittest.TestCase):
+    """The scripts of examples/python."""
+
     def test_lines(self) -> None:
+        """Each script prints the line of the page."""
         page = (FOLDER / "README.md").read_text()
         wanted = re.findall(r"```text\n(.*?)```", page, re.DOTALL)[-1].splitlines()
         self.assertEqual(len(wanted), len(SCRIPTS))
@@ -51,7 +54,7 @@ class Examples(unittest.TestCase):
                 self.assertEqual((ran.returncode, f"{name}.py: {ran.stdout}"), (0, line + "\n"), ran.stderr)
 
     def test_pictures(self) -> None:
-        """Where matplotlib is there; else the script says that it isn't."""
+        """A script writes a picture if matplotlib is installed, and otherwise reports that it isn't."""
         with tempfile.TemporaryDirectory() as folder:
             path = Path(folder, "picture.svg")
             command = [sys.executable, FOLDER / "sampled_latent.py", "--picture", path]
@@ -60,7 +63,7 @@ class Examples(unittest.TestCase):
             self.assertNotEqual(path.is_file(), "matplotlib is not there" in ran.stderr)
 
     def test_names(self) -> None:
-        """Each picture has a title and names of its axes, and a legend where it has two lines."""
+        """Each picture has a title and names of its axes, and a legend if it has two lines."""
         with tempfile.TemporaryDirectory() as folder:
             package = Path(folder, "matplotlib")
             package.mkdir()

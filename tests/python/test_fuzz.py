@@ -1,4 +1,4 @@
-"""20,000 random operations beside the definitions, with copies, pickles and threads among them."""
+"""20,000 random operations, compared with the definitions, with copies, pickles and threads."""
 
 from __future__ import annotations
 
@@ -22,7 +22,7 @@ OPERATIONS = 20_000
 
 
 def again(dice: random.Random, coder: Any) -> Any:
-    """The coder, or a copy of it by one of the ways."""
+    """Returns the coder, or a copy of it."""
     way = dice.randrange(12)
     if way == 0:
         return coder.clone()
@@ -34,17 +34,20 @@ def again(dice: random.Random, coder: Any) -> Any:
 
 
 def table(dice: random.Random) -> list[int]:
+    """Returns random weights."""
     return definitions.random_weights(dice, dice.choice((1, 2, 3, 7)))
 
 
 class Ans:
-    """A stack coder as one number and a list of words."""
+    """A stack coder, and its definition."""
 
     def __init__(self) -> None:
-        self.coder, self.head, self.words = AnsCoder(), 0, list[int]()
+        self.coder = AnsCoder()
+        self.model = definitions.Stack(definitions.sizes(), definitions.Words())
         self.symbols: list[tuple[list[int], int]] = []
 
     def step(self, dice: random.Random) -> None:
+        """Encodes or decodes, and compares the position."""
         self.coder = again(dice, self.coder)
         weights = table(dice)
         if dice.random() < 0.1:
@@ -61,41 +64,32 @@ class Ans:
             else:
                 self.coder.encode_reverse(given, WeightTable(), [weights] * len(given))
             for symbol in reversed(given):
-                self.put(weights, symbol)
+                self.model.put(weights, symbol)
+                self.symbols.append((weights, symbol))
         else:
             weights, symbol = self.symbols.pop()
             assert self.coder.decode(WeightTable(weights)) == symbol
-            self.take(weights, symbol)
-        assert self.coder.pos() == (len(self.words), self.head)
-
-    def put(self, weights: list[int], symbol: int) -> None:
-        left, weight = sum(weights[:symbol]), weights[symbol]
-        if self.head >= weight * (definitions.STATE // PRECISION):
-            self.words.append(self.head % WORD)
-            self.head //= WORD
-        self.head = self.head // weight * PRECISION + left + self.head % weight
-        self.symbols.append((weights, symbol))
-
-    def take(self, weights: list[int], symbol: int) -> None:
-        self.head = self.head // PRECISION * weights[symbol] + self.head % PRECISION - sum(weights[:symbol])
-        if self.head < WORD and self.words:
-            self.head = self.head * WORD + self.words.pop()
+            assert self.model.take(weights) == symbol
+        assert self.coder.pos() == (len(self.model.side.words), self.model.head)
 
     def end(self) -> None:
+        """Compares the words."""
         tables, symbols = [it[0] for it in self.symbols[::-1]], [it[1] for it in self.symbols[::-1]]
         assert list(self.coder.get_compressed()) == definitions.ans_words(tables, symbols)
 
 
 class Range:
-    """A range coder as the list of what it was given; its words are compared at the end of some symbols."""
+    """A range coder, and its symbols with their weights. After 40 symbols, the words are compared."""
 
     def __init__(self) -> None:
         self.restart()
 
     def restart(self) -> None:
+        """Begins with a new encoder."""
         self.encoder, self.tables, self.symbols = RangeEncoder(), list[list[int]](), list[int]()
 
     def step(self, dice: random.Random) -> None:
+        """Encodes a symbol."""
         self.encoder = again(dice, self.encoder)
         weights = table(dice)
         symbol = definitions.random_symbol(dice, weights)
@@ -106,6 +100,7 @@ class Range:
             self.end(dice)
 
     def end(self, dice: random.Random) -> None:
+        """Compares the words, decodes them, and begins again."""
         words = list(self.encoder.get_compressed())
         assert words == definitions.range_words(self.tables, self.symbols)
         decoder: Any = RangeDecoder(words)
@@ -116,9 +111,10 @@ class Range:
 
 
 class Chain:
-    """A chain coder, which is split as the definition says, and put together again."""
+    """A chain coder, which decodes as the definition says, and encodes the symbols back."""
 
     def step(self, dice: random.Random) -> None:
+        """Decodes random words, compares the symbols and remainders, and encodes them back."""
         words = [dice.randrange(WORD) for _ in range(8)] + [dice.randrange(1, WORD)]
         tables = [table(dice) for _ in range(7)]
         coder: Any = again(dice, ChainCoder(words))
@@ -139,10 +135,12 @@ class Bits:
         self.restart()
 
     def restart(self) -> None:
+        """Begins with new coders."""
         self.queue, self.stack = QueueEncoder(), StackCoder()
         self.queued, self.stacked = list[tuple[Any, int, str]](), list[tuple[Any, int, str]]()
 
     def some(self, dice: random.Random) -> tuple[Any, int, str]:
+        """Returns a codebook, a symbol and its codeword."""
         k = dice.randrange(len(self.trees) + 1)
         if k == len(self.trees):
             number = dice.choice((0, 3, WORD - 1, dice.randrange(WORD), dice.randrange(50)))
@@ -151,6 +149,7 @@ class Bits:
         return self.trees[k], symbol, self.codewords[k][symbol]
 
     def step(self, dice: random.Random) -> None:
+        """Encodes symbols to both coders, or decodes one from the stack."""
         self.queue, self.stack = again(dice, self.queue), again(dice, self.stack)
         book, symbol, codeword = self.some(dice)
         count = dice.choice((1, 1, 2, 70))
@@ -166,6 +165,7 @@ class Bits:
             self.end(dice)
 
     def end(self, dice: random.Random) -> None:
+        """Compares the words of both coders, decodes the queue, and begins again."""
         queued = "".join(it[2] for it in self.queued)
         words, bits = self.queue.get_compressed()
         assert (list(words), bits) == (definitions.queue_words(queued), len(queued))
@@ -180,11 +180,15 @@ class Bits:
 
 
 class Fuzz(unittest.TestCase):
+    """Random operations of all coders."""
+
     def test_operations(self) -> None:
+        """Four threads make random operations."""
         done, raised = [0] * 4, list[BaseException]()
 
         def work(seed: int) -> None:
-            # Coders of its own in each thread, while the others run.
+            """Makes a thread's operations."""
+            # Each thread has its own coders.
             dice, models = random.Random(seed), [Ans(), Range(), Chain(), Bits()]
             try:
                 for _ in range(OPERATIONS // 4):

@@ -1,5 +1,4 @@
-"""What isn't a list of numbers, a model, a count: it is refused, the message says what is wanted and where, and
-nothing changes."""
+"""Wrong arguments are refused with a message that names the expected value and the place, and nothing changes."""
 
 from __future__ import annotations
 
@@ -43,13 +42,16 @@ Call = Callable[[], Any]
 
 
 class Misuse(unittest.TestCase):
+    """Helpers of tests that expect errors."""
+
     def refused(self, kind: type[Exception], text: str, call: Call) -> Any:
+        """Expects an error with a text, and returns it."""
         with self.assertRaisesRegex(kind, text) as caught:
             call()
         return caught.exception
 
     def unchanged(self, kind: type[Exception], text: str, way: Callable[[Any], Any]) -> None:
-        """The call on a stack coder and on a chain coder is refused, and both are as before."""
+        """Expects an error from a call on a stack coder and on a chain coder, which stay unchanged."""
         for coder in (AnsCoder([5, 6, 7]), ChainCoder(array("I", range(1, 50)))):
             before = coder._plain(coder._state)
             self.refused(kind, text, lambda coder=coder: way(coder))  # type: ignore[misc]
@@ -57,8 +59,10 @@ class Misuse(unittest.TestCase):
 
 
 class Counts(Misuse):
+    """Numbers of symbols."""
+
     def test_counts_past_memory(self) -> None:
-        """Refused before anything is decoded, in a process that may have little memory."""
+        """Counts past memory are refused before anything is decoded, in a process with little memory."""
         program = """
 import resource
 from time import perf_counter
@@ -90,7 +94,7 @@ for coder, tree in (
 print()
 print(perf_counter() - begun < 1)
 """
-        # Without numpy, which wants more memory than the process may have.
+        # Without numpy, which needs more memory than the process may have.
         folders = Path(__file__).parent / "without_numpy", Path(_library.__file__).parents[1]
         path = {"PYTHONPATH": os.pathsep.join(map(str, folders)), "CONSTRICTION_LIBRARY": str(_library.PATH)}
         ran = subprocess.run(
@@ -102,6 +106,7 @@ print(perf_counter() - begun < 1)
         self.assertEqual((ran.stdout, ran.stderr), (wanted, ""))
 
     def test_what_is_no_count(self) -> None:
+        """Values that aren't whole numbers from 0 to 2^48 are refused as numbers of symbols."""
         text = "^expected a number of symbols as a whole number, got "
         for wrong in (1.0, "3", None, [2]):
             for model in (FIXED, THREE, Uniform(4)):
@@ -115,6 +120,7 @@ print(perf_counter() - begun < 1)
         )
 
     def test_counts_by_keyword(self) -> None:
+        """`amt` gives the number of symbols by keyword."""
         for coder in (AnsCoder([5, 6, 7]), RangeDecoder([5, 6, 7]), ChainCoder(array("I", range(1, 50)))):
             twin: Any = coder.clone()
             for count in (0, 1, 3):
@@ -124,7 +130,10 @@ print(perf_counter() - begun < 1)
 
 
 class Lists(Misuse):
+    """Lists of numbers, and models."""
+
     def test_text_is_no_number(self) -> None:
+        """Texts and bytes are refused as numbers and as lists of numbers."""
         for call in (
             lambda: QuantizedGaussian(-50, 50, "0", "1"), lambda: QuantizedGaussian(-50, 50, 0.0, b"1"), lambda: QuantizedLaplace(0, 9, "1", 2.0),
             lambda: QuantizedCauchy(0, 9, "1", 2.0), lambda: Bernoulli("0.5"), lambda: Binomial(4, "0.5"),
@@ -143,6 +152,7 @@ class Lists(Misuse):
         self.unchanged(TypeError, r"array\('I', data\)", lambda it: it.encode_reverse(b"\1\2", THREE))
 
     def test_what_has_no_order(self) -> None:
+        """Dictionaries and sets are refused as lists."""
         for wrong in ({1: 2}, {1, 2}, frozenset((1, 2)), {1: 2}.keys()):
             text = f"^expected a list of .*, got {type(wrong).__name__}"
             self.unchanged(TypeError, text, lambda it: it.encode_reverse(wrong, THREE))
@@ -154,6 +164,7 @@ class Lists(Misuse):
         self.assertEqual(list(Categorical({0: 1, 1: 3}.values()).table()), [1 << 22, 3 << 22])
 
     def test_one_number_is_no_list(self) -> None:
+        """A single number is refused as a list."""
         for make in (
             Categorical,
             WeightTable,
@@ -172,6 +183,7 @@ class Lists(Misuse):
             )
 
     def test_what_is_no_model(self) -> None:
+        """Values that aren't models or codebooks are refused, as are arguments in the wrong order."""
         for wrong in (None, 3, [1, 2], Uniform, EncoderHuffmanTree([1, 1])):
             for call in (
                 lambda it: it.decode(wrong),
@@ -192,6 +204,7 @@ class Lists(Misuse):
             self.refused(TypeError, "^expected a codebook, ", call)
 
     def test_functions_that_give_no_numbers(self) -> None:
+        """A distribution function that returns no number is refused."""
         for cdf in (lambda x: math.nan, lambda x: "0.5", lambda x: None):
             kind = ValueError if isinstance(cdf(0), float) else TypeError
             model = CustomModel(cdf, None, 0, 9)
@@ -206,8 +219,7 @@ class Lists(Misuse):
         self.refused(TypeError, "^expected a cumulative distribution function, got str$", lambda: CustomModel("cdf", None, 0, 9))  # type: ignore[arg-type]
 
     def test_functions_that_fall(self) -> None:
-        """Either the encode sees it, or the symbol comes back from whatever the coder holds; and decodes see it on
-        their way."""
+        """A distribution function that falls is refused, or the symbol comes back from any words."""
         text, seen = "^expected a cumulative distribution function that never falls, got one that falls$", 0
         functions: list[Callable[[float, float], float]] = [
             lambda x, k: 1.0 - x / k,
@@ -231,9 +243,10 @@ class Lists(Misuse):
 
 
 class Places(Misuse):
-    """Errors say which of a list they are of."""
+    """Errors name the index of the wrong item."""
 
     def test_impossible_symbols(self) -> None:
+        """The error names the impossible symbol, its index, and the possible symbols."""
         cases: list[tuple[Any, Any, tuple[Any, ...], str, int, int | None]] = [
             ([0, 2, 3, 7], THREE, (), "Expected 0 .. 2, got 3 at place 2.$", 3, 2),
             (3, THREE, (), "Expected 0 .. 2, got 3.$", 3, None),
@@ -273,6 +286,7 @@ class Places(Misuse):
             self.refused(errors.ImpossibleSymbolError, text, call)
 
     def test_lengths(self) -> None:
+        """The error names both lengths, if lists differ in length."""
         text = "^expected as many sets of parameters as symbols, got 2 sets of parameters and 3 symbols$"
         self.unchanged(ValueError, text, lambda it: it.encode_reverse([1, 2, 3], FAMILY, [0.0] * 2, [1.0] * 2))
         self.unchanged(
@@ -285,6 +299,7 @@ class Places(Misuse):
             self.unchanged(ValueError, text, lambda it: it.decode(family, [0.0] * 2, [1.0] * 3))
 
     def test_parameters(self) -> None:
+        """The error names the wrong parameter, its value and its index."""
         for call, text in (
             (
                 lambda: AnsCoder().decode(FAMILY, [0.0] * 3, [1.0, -2.5, 1.0]),
@@ -308,6 +323,7 @@ class Places(Misuse):
             self.refused(ValueError, text, call)
 
     def test_weights(self) -> None:
+        """The error names the wrong sum or weight, and its row or index."""
         text = "^expected weights with a sum of 16777216, got a sum of 16777217$"
         for call in (
             lambda it: it.encode_reverse(0, WeightTable([1, 1 << 24])),
@@ -336,7 +352,10 @@ class Places(Misuse):
 
 
 class Ranges(Misuse):
+    """Ranges of symbols."""
+
     def test_ranges_past_63_bits(self) -> None:
+        """A range past 63 bits is refused, and the ends of 63 bits are coded."""
         kinds: tuple[Any, ...] = (QuantizedGaussian, QuantizedLaplace, QuantizedCauchy)
         for least, greatest in ((1 << 63, (1 << 63) + 10), ((1 << 63) - 4, 1 << 63), (-(1 << 63) - 1, -(1 << 63) + 4)):
             for kind in kinds:
@@ -353,6 +372,8 @@ class Ranges(Misuse):
 
 
 class WholeCounts(unittest.TestCase):
+    """Whole numbers as counts."""
+
     def test_counts_past_53_bits(self) -> None:
         """Whole numbers aren't rounded."""
         lists = [
@@ -377,9 +398,10 @@ class WholeCounts(unittest.TestCase):
 
 
 class PastFloats(Misuse):
-    """Numbers past the floats, and memory of unknown formats, raise what the page says."""
+    """Numbers past the floats, and buffers of unknown formats, raise documented errors."""
 
     def test_numbers(self) -> None:
+        """Numbers past the floats are refused everywhere."""
         for huge in (10**400, -(10**400), Fraction(10**400), 10**5000):
             calls: list[Callable[[], Any]] = [
                 lambda: QuantizedGaussian(-9, 9, huge, 1.0), lambda: QuantizedGaussian(-9, 9, 0.0, huge), lambda: QuantizedCauchy(-9, 9, huge, 1.0),
@@ -411,7 +433,10 @@ class PastFloats(Misuse):
 
 
 class WholeNumbersOfClasses(unittest.TestCase):
+    """Whole numbers of other classes."""
+
     def test_counts(self) -> None:
+        """Values with `__index__` are counts."""
         class Count:
             def __init__(self, of: int) -> None:
                 self.of = of
@@ -429,7 +454,10 @@ class WholeNumbersOfClasses(unittest.TestCase):
 
 
 class Stores(unittest.TestCase):
+    """Stores over buffers of other types."""
+
     def test_memory_that_is_no_words(self) -> None:
+        """A buffer of other items than 32-bit words is refused."""
         built = Store.build([[1, 0], [1]], WeightTable([1 << 23, 1 << 23]))
         for wrong in (
             array("f", [1.0]),

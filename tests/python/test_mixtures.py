@@ -1,5 +1,4 @@
-"""Mixtures: their words are those of the definitions, from lists and from arrays, and each fault is told with its
-place."""
+"""Mixtures have the words of the definitions, from lists and arrays, and errors name the wrong item."""
 
 from __future__ import annotations
 
@@ -32,7 +31,7 @@ SCALES = [[4.0, 2.0, 30.0], [4.0, 1e-9, 2.5], [0.75, 6.0, 3.25], [12.0, 1.0, 6e4
 
 
 def tables(family: str) -> list[list[int]]:
-    """The weights by the definitions, floats rounded by exact fractions."""
+    """Returns the weights by the definitions, with floats rounded by exact fractions."""
     return [
         models.mixture(
             family, [round(models.Fraction(it) * 2**31) for it in weights],
@@ -48,7 +47,10 @@ def mixture(family: str = models.LOGISTIC) -> QuantizedMixture:
 
 
 class Words(unittest.TestCase):
+    """Words and symbols of mixtures."""
+
     def test_words(self) -> None:
+        """The stack coder and the range coder have the words of the definitions."""
         for family in models.FAMILIES:
             model, given, found = mixture(family), (WEIGHTS, MEANS, SCALES), tables(family)
             places = [symbol - LEAST for symbol in SYMBOLS]
@@ -62,6 +64,7 @@ class Words(unittest.TestCase):
             self.assertEqual(list(RangeDecoder(words).decode(model, *given)), SYMBOLS)
 
     def test_chain(self) -> None:
+        """The chain coder decodes the symbols of the definitions, and encodes them back."""
         dice = random.Random(7)
         words = [dice.randrange(1, 1 << 32) for _ in range(len(SYMBOLS) + 4)]
         for family in models.FAMILIES:
@@ -72,6 +75,7 @@ class Words(unittest.TestCase):
             self.assertEqual([it for part in coder.get_data() for it in part], words)
 
     def test_one_component_is_that_component(self) -> None:
+        """A mixture of one component has the words of that component."""
         for kind in FAMILIES.values():
             alone, model = AnsCoder(), AnsCoder()
             means, scales = [it[0] for it in MEANS], [it[0] for it in SCALES]
@@ -88,6 +92,7 @@ class Words(unittest.TestCase):
         self.assertEqual(coder.decode(model, WEIGHTS[2], MEANS[2], SCALES[2]), 8)
 
     def test_many(self) -> None:
+        """Long lists come back."""
         dice, count, model = random.Random(3), 70000, mixture()
         given = [[[dice.random() for _ in range(2)] for _ in range(count)] for _ in range(3)]
         symbols = [dice.randint(LEAST, GREATEST) for _ in range(count)]
@@ -103,7 +108,10 @@ class Words(unittest.TestCase):
 
 
 class Faults(unittest.TestCase):
+    """Errors of mixtures."""
+
     def refused(self, kind: Any, text: str, *given: Any, symbols: Any = SYMBOLS) -> None:
+        """Expects the same error from encodes and from a decode."""
         for call in (AnsCoder().encode_reverse, RangeEncoder().encode):
             with self.assertRaises(kind) as found:
                 call(symbols, mixture(), *given)
@@ -114,6 +122,7 @@ class Faults(unittest.TestCase):
             self.assertEqual(str(found.exception), text)
 
     def test_weights(self) -> None:
+        """Wrong sums and negative weights are refused."""
         why = "expected weights with a sum above 0 and of at most 2"
         none, much = [list(it) for it in WEIGHTS], [list(it) for it in WEIGHTS]
         none[3], much[4] = [0.0, 0.0, 1e-12], [1.0, 0.75, 0.5]
@@ -131,6 +140,7 @@ class Faults(unittest.TestCase):
         self.refused(ValueError, "expected a scale that is positive and finite, got 0.0 for component 0 of symbol 5", WEIGHTS, MEANS, scales)
 
     def test_lengths(self) -> None:
+        """Arrays of other shapes, ragged rows and rows without components are refused."""
         shapes = "expected weights and parameters of one shape (n, K), got"
         self.refused(errors.WrongLengthError, f"{shapes} (6, 3) and (5, 3) and (6, 3)", WEIGHTS, MEANS[:5], SCALES)
         narrow = [it[:2] for it in SCALES]
@@ -151,6 +161,7 @@ class Faults(unittest.TestCase):
         self.assertEqual((found.exception.symbol, found.exception.place), (51, 2))
 
     def test_components(self) -> None:
+        """Only a family without parameters is accepted, and mixtures compare by their families."""
         for wrong in (QuantizedLogistic(-9, 9, 0.5), QuantizedLogistic(5, 5), Uniform(4), None):
             with self.assertRaises(TypeError):
                 QuantizedMixture(wrong)  # type: ignore[arg-type]

@@ -1,4 +1,4 @@
-"""Floats as weights: they are those of the definitions, they add up, and each symbol has one."""
+"""Models of floats have the weights of the definitions, which add up and are above 0."""
 
 from __future__ import annotations
 
@@ -39,7 +39,7 @@ PINNED = {
 
 
 def read(model: Model) -> list[int]:
-    """The weights that a coder gets."""
+    """Returns the weights that a coder gets."""
     return list(model.table())
 
 
@@ -48,7 +48,7 @@ def tables(family: str, means: Sequence[float], stds: Sequence[float], least: in
 
 
 def words_of(coder: str, symbols: Any, model: Model, *given: Any) -> list[int]:
-    """The words of a new coder after these symbols."""
+    """Returns the words of a new coder after these symbols."""
     if coder == "ans":
         stack = AnsCoder()
         stack.encode_reverse(symbols, model, *given)
@@ -59,6 +59,8 @@ def words_of(coder: str, symbols: Any, model: Model, *given: Any) -> list[int]:
 
 
 class Weights(unittest.TestCase):
+    """The tables of models."""
+
     def total(self, model: Model) -> list[int]:
         found = read(model)
         self.assertEqual(sum(found), 1 << 24)
@@ -66,6 +68,7 @@ class Weights(unittest.TestCase):
         return found
 
     def test_totals(self) -> None:
+        """The weights of each model add up to 2^24, and each is at least 1."""
         for model in (
             Categorical([0.05, 0.6, 0.35]), Categorical([1.0]), Categorical([0, 0, 5]),
             Categorical([1e-300, 1e300]),
@@ -81,6 +84,7 @@ class Weights(unittest.TestCase):
             self.total(model)
 
     def test_values(self) -> None:
+        """Some tables have expected weights."""
         self.assertEqual(self.total(Uniform(3)), [5592405, 5592405, 5592406])
         self.assertEqual(self.total(Uniform(1)), [16777216])
         self.assertEqual(Uniform(1 << 24).table(), array("I", (1,)) * (1 << 24))
@@ -105,6 +109,7 @@ class Weights(unittest.TestCase):
         self.assertEqual(coder.decode(model, 1.5, 2.5), -4)
 
     def test_parameters_there_and_back(self) -> None:
+        """Symbols come back under models with parameters for each symbol."""
         coder = AnsCoder()
         for model, given in (
             (QuantizedGaussian(-9, 9), ([1.5, 2.0], [0.5, 3.0])), (QuantizedGaussian(-9, 9, 2.0), ([0.5, 3.0],)),
@@ -119,6 +124,7 @@ class Weights(unittest.TestCase):
                 self.assertTrue(coder.is_empty())
 
     def test_refused(self) -> None:
+        """Invalid models, parameters and numbers of parameters are refused."""
         for make in (
             lambda: Categorical([]), lambda: Categorical([0, 0]), lambda: Categorical([-1, 2]),
             lambda: Categorical([math.nan]),
@@ -158,6 +164,7 @@ class Families(unittest.TestCase):
         self.assertGreaterEqual(min(found), 1)
 
     def test_tables(self) -> None:
+        """Random parameters have the tables of the definitions."""
         dice = random.Random(3)
         for family in FAMILIES:
             for least, greatest in ((-50, 50), (0, 1), (7, 7), (-1000, 200)):
@@ -166,6 +173,7 @@ class Families(unittest.TestCase):
                     self.agrees(family, least, greatest, mean, std)
 
     def test_extremes(self) -> None:
+        """Extreme parameters have the tables of the definitions."""
         widest = (2**32 - 1) * UNIT
         stds = [UNIT, 3 * UNIT, (2**31 - 1) * UNIT, widest, widest + UNIT / 2, 65536.0 - 2.0**-37, UNIT / 2, UNIT / 3]
         for family in FAMILIES:
@@ -174,7 +182,7 @@ class Families(unittest.TestCase):
                     self.agrees(family, -4, 5, mean, std)
 
     def test_scales_past_the_limit(self) -> None:
-        """They are refused, and the limit is named, wherever a scale is passed."""
+        """Scales past the limit are refused in all calls, and the error names the limit."""
         for kind, name in ((QuantizedGaussian, "std"), (QuantizedLaplace, "scale"), (QuantizedLogistic, "scale")):
             for wide in (65536.0, 65536, 200000.0, 1e30, 1e308):
                 text, family, mixture = f"^expected a {name} below 65536, got ", kind(-9, 9), QuantizedMixture(kind(-9, 9))
@@ -189,7 +197,7 @@ class Families(unittest.TestCase):
                 self.assertRaisesRegex(ValueError, text, RangeEncoder().encode, 0, family, 0.0, wide)
 
     def test_ranges(self) -> None:
-        """At the ends of 32 bits, past them, and wide."""
+        """Ranges at the ends of 32 bits, past them, and wide ones have the tables of the definitions."""
         for family in FAMILIES:
             for least in (-(1 << 31), (1 << 31) - 10, (1 << 31) - 9, -(1 << 31) - 1, 10**12, -(10**15)):
                 for mean in (least + 4.25, least + 3.5, least - 1000.0, 0.0):
@@ -198,13 +206,14 @@ class Families(unittest.TestCase):
         self.assertEqual(QuantizedGaussian(1, 1 << 24, 0.0, 1.0).table(), array("I", (1,)) * (1 << 24))
 
     def test_rounding(self) -> None:
-        """Each parameter once, to the nearest, and from the middle to the even one."""
+        """Each parameter is rounded once, to the nearest, ties to even."""
         for mean, units in ((0.5, 0), (1.5, 2), (2.5, 2), (-0.5, 0), (-1.5, -2), (0.75, 1), (0.5 + 2**-30, 1)):
             for std, wide in ((0.25, 1), (1.5, 2), (2.5, 2), (3.25, 3), (3.75, 4)):
                 wanted = models.table(models.GAUSSIAN, units - 32768, wide, -3, 6)
                 self.assertEqual(read(QuantizedGaussian(-3, 2, mean * UNIT - 0.5, std * UNIT)), wanted)
 
     def test_pinned_words(self) -> None:
+        """A list has pinned words, from lists, tuples and arrays."""
         for family, (ans, queue) in PINNED.items():
             rows, model = tables(family, MEANS, STDS, -50, 50), FAMILIES[family](-50, 50)
             places = [symbol + 50 for symbol in MESSAGE]
@@ -215,6 +224,7 @@ class Families(unittest.TestCase):
                 self.assertEqual(words_of("range", array("q", MESSAGE), model, *given), queue)
 
     def test_words_of_random_lists(self) -> None:
+        """Random lists have the words of the definitions, with all three coders."""
         dice = random.Random(5)
         for family, kind in FAMILIES.items():
             for least, greatest in ((-20, 20), (3, 4), (-5, -5), (0, 300)):
@@ -235,7 +245,7 @@ class Families(unittest.TestCase):
                 self.assertEqual([*chain.get_data()[0], *chain.get_data()[1]], words)
 
     def test_there_and_back(self) -> None:
-        """Long lists, which are handed over in parts; and the same symbols one by one."""
+        """Long lists, which are passed in parts, come back, as do the same symbols one by one."""
         dice, count = random.Random(7), 150_000
         means = array("d", (dice.uniform(-30, 30) for _ in range(count)))
         stds = array("d", (dice.uniform(0.1, 20) for _ in range(count)))
@@ -274,6 +284,7 @@ class Families(unittest.TestCase):
             self.assertEqual(stack.decode(kind(-50, 50, **{name: 3.5}), [1.25] * 5), MESSAGE[4:])
 
     def test_nothing(self) -> None:
+        """Empty lists change nothing."""
         coders: list[Any] = [AnsCoder([5, 6, 7]), ChainCoder([1, 2, 3])]
         for coder in coders:
             model = QuantizedGaussian(-9, 9)
@@ -283,8 +294,7 @@ class Families(unittest.TestCase):
             self.assertEqual(coder._plain(coder._state), before)
 
     def test_impossible_symbols(self) -> None:
-        """The coder is as before, also where the symbol is in a later part, or is impossible for its first bits
-        alone."""
+        """After an impossible symbol in any part of a list, the coder is unchanged."""
         family, count = QuantizedGaussian(-9, 9), 70_000
         for wrong in (-10, 10, 1 << 31, -(1 << 40), 1 << 62, (1 << 64) + 3, 1 << 70):
             for at in (0, count - 1):
@@ -303,7 +313,7 @@ class Families(unittest.TestCase):
             self.assertRaises(errors.ImpossibleSymbolError, AnsCoder().encode_reverse, [6], model, *given)
 
     def test_ranges_past_32_bits(self) -> None:
-        """A range and its means are moved together, also where the first symbol is no float."""
+        """A range and its means are moved together, even if the first symbol isn't a float."""
         near = QuantizedGaussian(0, 4, 1.0, 1.0).table()
         for first in (1 << 33, -(1 << 40), (1 << 53) + 1):
             self.assertEqual(int(float(first + 1)), first + 1)
@@ -314,6 +324,7 @@ class Families(unittest.TestCase):
             self.assertEqual(coder.decode(model, 2), symbols)
 
     def test_words_of_no_encoder(self) -> None:
+        """Words that no encoder wrote are refused, and decoders stay unchanged."""
         family, given = QuantizedGaussian(-9, 9), ([0.0] * 100, [1.0] * 100)
         decoder, chain = RangeDecoder([(1 << 32) - 1] * 4), ChainCoder([1, 2, 3])
         before = decoder._state, chain._state
@@ -323,6 +334,7 @@ class Families(unittest.TestCase):
         self.assertEqual((decoder._state, chain._state), before)
 
     def test_refused_parameters(self) -> None:
+        """Invalid means, deviations and scales are refused everywhere."""
         wrong = [(math.nan, 1.0), (math.inf, 1.0), (-math.inf, 1.0)]
         wrong += [(0.0, it) for it in (0.0, -0.0, -1.0, -5e-324, math.nan, math.inf, -math.inf)]
         for kind in FAMILIES.values():
@@ -347,6 +359,7 @@ class Proportions(unittest.TestCase):
     """``Bernoulli``, ``Categorical``, and rows of weights."""
 
     def test_two_symbols(self) -> None:
+        """Probabilities of two symbols have the weights of the definition."""
         dice = random.Random(13)
         chances = [0.0, -0.0, 1.0, 0.5, 2.0**-24, 2.0**-25, 1.5 * 2**-24, 2.5 * 2**-24, 1 - 2.0**-24, 1 - 2.0**-26]
         chances.append(5e-324)
@@ -362,7 +375,7 @@ class Proportions(unittest.TestCase):
         self.assertEqual(AnsCoder(by.ans_words(rows, symbols)).decode(Bernoulli(), chances), symbols)
 
     def test_many_rows(self) -> None:
-        """Several parts, in the coder's order."""
+        """Many rows are coded in parts, in the coder's order."""
         dice, count = random.Random(15), 70_000
         chances = array("d", (dice.random() for _ in range(count)))
         bits = array("q", (int(dice.random() < chance) for chance in chances))
@@ -387,6 +400,7 @@ class Proportions(unittest.TestCase):
         self.assertEqual(chain.get_data()[1], array("I", range(1, count)))
 
     def test_rows_that_are_refused(self) -> None:
+        """A list with an invalid row or symbol is refused, and coders stay unchanged."""
         coder, encoder = AnsCoder([7]), RangeEncoder()
         before = coder.pos(), encoder.pos()
         calls: list[tuple[type[Exception], Any, list[int], Any]] = [
@@ -407,6 +421,7 @@ class Proportions(unittest.TestCase):
             self.assertEqual((coder.pos(), encoder.pos()), before)
 
     def test_tables(self) -> None:
+        """Probabilities and counts have the weights of the definitions."""
         dice = random.Random(11)
         lists: list[list[float]] = [
             [0.05, 0.6, 0.35, 0.25], [1.0], [7], [0, 1], [0, 0, 5], [1, 1, 1], [0.1] * 7, [1e-300, 1e300],
@@ -424,13 +439,14 @@ class Proportions(unittest.TestCase):
                 self.assertEqual(sum(found), 1 << 24)
 
     def test_proportions_alone(self) -> None:
-        """Factors make no difference, and of equal probabilities the first ones are served first."""
+        """Only proportions count, and the first of equal probabilities get the rest."""
         for factor in (2.0, 0.125, 2.0**-300, 3.0):
             self.assertEqual(read(Categorical([1 * factor, 5 * factor, 9 * factor])), read(Categorical([1, 5, 9])))
         found = read(Categorical([0.3] * 11))
         self.assertEqual(found, [1525202] * 5 + [1525201] * 6)
 
     def test_words(self) -> None:
+        """Rows of probabilities have the words of the definitions."""
         rows: list[list[float]] = [[0.1, 0.7, 0.2], [0.5, 0.5], [0.0, 1.0, 0.0], [4, 3, 2, 1]]
         symbols = [1, 0, 2, 3]
         by_definition = [models.weights_of(row) for row in rows]

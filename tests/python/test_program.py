@@ -1,4 +1,4 @@
-"""Random lists beside the answers of the program `constriction`, where that is built. CONSTRICTION_PROGRAM says where it is."""
+"""Random lists, compared with the program `constriction` if it is built. CONSTRICTION_PROGRAM can name its path."""
 
 from __future__ import annotations
 
@@ -20,7 +20,7 @@ PROGRAM = Path(os.environ.get("CONSTRICTION_PROGRAM", TOP / "crates/constriction
 
 
 def answers(command: str, *lines: list[int]) -> list[list[int]]:
-    """The lines that the program answers to these lines."""
+    """Returns the lines that the program prints for these lines."""
     said = "".join(" ".join(map(str, it)) + "\n" for it in lines)
     ran = subprocess.run([PROGRAM, command], input=said, capture_output=True, text=True, check=True)
     return [list(map(int, it.split())) for it in ran.stdout.splitlines()]
@@ -28,7 +28,10 @@ def answers(command: str, *lines: list[int]) -> list[list[int]]:
 
 @unittest.skipUnless(os.access(PROGRAM, os.X_OK), f"the program is not built: there is no {PROGRAM}")
 class BesideTheProgram(unittest.TestCase):
+    """Random lists, compared with the program."""
+
     def test_lists(self) -> None:
+        """The program has the words and symbols of the stack coder and the range coder."""
         dice = random.Random(10)
         for count in (0, 1, 2, 7, 50, 500):
             weights = definitions.random_weights(dice, 9)
@@ -50,6 +53,7 @@ class BesideTheProgram(unittest.TestCase):
             self.assertEqual([list(it) for it in (found, *chain.get_remainders())], answers("chain-split", weights, [count, *words]))
 
     def test_codewords(self) -> None:
+        """The program has the words of Exp-Golomb codewords."""
         dice = random.Random(11)
         numbers = [dice.choice((0, 3, (1 << 32) - 1, dice.randrange(1 << 32))) for _ in range(200)]
         encoder = QueueEncoder()

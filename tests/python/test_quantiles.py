@@ -1,5 +1,7 @@
-"""Decodes under parameters for each symbol: with the same symbols as by rows of weights, and no row is made. Models
-by floats take the coder's quantile for that; those in whole numbers are C functions."""
+"""Decodes with parameters for each symbol have the same symbols as with rows of weights, but make no row.
+
+Models of floats get the coder's quantile. Models in whole numbers are C functions.
+"""
 
 from __future__ import annotations
 
@@ -19,7 +21,10 @@ from constriction.stream.stack import AnsCoder
 
 
 class Quantiles(unittest.TestCase):
+    """Decodes that ask models for quantiles."""
+
     def test_the_same_symbols_as_by_rows(self) -> None:
+        """The symbols are the same as with rows of weights."""
         dice = random.Random(13)
         words = array("I", (dice.randrange(1, 1 << 31) for _ in range(500)))
         families: list[Model] = [
@@ -42,6 +47,7 @@ class Quantiles(unittest.TestCase):
                 self.assertEqual(one._plain(one._state), other._plain(other._state))
 
     def test_refusals(self) -> None:
+        """After an error, a decoder is unchanged."""
         family, given = QuantizedGaussian(-9, 9), ([0.0] * 100, [1.0] * 100)
         chain = ChainCoder([1, 2, 3, 4, 5])
         before = chain.get_remainders()
@@ -55,7 +61,9 @@ class Quantiles(unittest.TestCase):
         self.assertEqual(decoder._state.numbers, before)
 
     def test_wide_models_are_no_slower(self) -> None:
+        """A decode doesn't look at all symbols."""
         def seconds(width: int) -> float:
+            """Returns the time of a decode with a model of this width."""
             family, coder = QuantizedCauchy(-width, width), AnsCoder(range(1, 1001))
             begin = time.perf_counter()
             coder.decode(family, [0.5] * 1000, [9.0] * 1000)

@@ -1,4 +1,4 @@
-"""Copies, pickles, threads, want of memory, and what is no whole number: whatever a caller does, a coder is as before or done."""
+"""Copies, pickles, threads, lack of memory, and wrong numbers: a call succeeds, or its coder is unchanged."""
 
 from __future__ import annotations
 
@@ -36,7 +36,7 @@ COPIES: tuple[Callable[[Any], Any], ...] = (
 
 
 def coders() -> dict[str, tuple[Any, Callable[[Any], Any], Callable[[Any], Any]]]:
-    """Each coder with something in it, what changes it, and what shows its state."""
+    """Returns coders that aren't empty, each with a call that changes it and a call that returns its state."""
     golomb, family, given = ExpGolomb(), QuantizedGaussian(-9, 9), ([0.5] * 50, [2.0] * 50)
     ans, encoder, queue, stack = AnsCoder(), RangeEncoder(), QueueEncoder(), StackCoder()
     symbols = [i % 7 for i in range(300)]
@@ -63,7 +63,10 @@ def coders() -> dict[str, tuple[Any, Callable[[Any], Any], Callable[[Any], Any]]
 
 
 class Copies(unittest.TestCase):
+    """Copies and pickles of coders and models."""
+
     def test_coders(self) -> None:
+        """A copy equals the coder, and changes independently of it."""
         for name, (coder, change, shown) in coders().items():
             for make in COPIES:
                 with self.subTest(name):
@@ -90,6 +93,7 @@ class Copies(unittest.TestCase):
             self.assertEqual(twin.decode(Uniform(5), 5000), [i % 5 for i in range(5000)])
 
     def test_a_cleared_long_coder(self) -> None:
+        """A copy of a cleared coder can encode a long list."""
         coder = AnsCoder()
         coder.encode_reverse([0, 1] * 50000, HALVES)
         coder.clear()
@@ -98,6 +102,7 @@ class Copies(unittest.TestCase):
         self.assertEqual(twin.decode(HALVES, 100000), [0, 1] * 50000)
 
     def test_models(self) -> None:
+        """A copy of a model codes the same symbols."""
         for make in COPIES[:2] + COPIES[3:]:
             for model, given in (
                 (Categorical([0.1, 0.6, 0.3]), ()), (WeightTable(array("I", [5, 1 << 23, (1 << 23) - 5])), ()), (Uniform(3), ()),
@@ -114,6 +119,7 @@ class Copies(unittest.TestCase):
             self.assertEqual(make(tree).codeword(3), tree.codeword(3))
 
     def test_what_is_put_beside(self) -> None:
+        """Copies of a subclass keep further attributes."""
         class Named(AnsCoder):
             pass
 
@@ -134,6 +140,7 @@ class Equal(unittest.TestCase):
     """``repr`` and ``==`` of coders and models."""
 
     def test_coders(self) -> None:
+        """Coders are equal if their states are. They have no hash."""
         kinds: list[Any] = [it[0] for it in coders().values()]
         for coder, twin in zip(kinds, [it[0] for it in coders().values()]):
             self.assertEqual(coder, twin)
@@ -153,7 +160,7 @@ class Equal(unittest.TestCase):
         self.assertEqual(coder, other)
 
     def test_bits_past_the_length(self) -> None:
-        """What a buffer has above a coder's bits makes no difference."""
+        """Bits of a buffer past a coder's bits make no difference."""
         golomb, tree = ExpGolomb(), EncoderHuffmanTree([2, 2, 4, 1, 1])
         for count in range(40):
             stack, queue = StackCoder(), QueueEncoder()
@@ -170,7 +177,9 @@ class Equal(unittest.TestCase):
             self.assertNotEqual(longer, other)
 
     def test_models(self) -> None:
+        """Models are equal if their parameters are, and have readable representations."""
         def made() -> list[Any]:
+            """Returns new models."""
             return [
                 QuantizedGaussian(-9, 9), QuantizedGaussian(-9, 9, 0.5), QuantizedGaussian(-9, 9, 0.5, 2.0), QuantizedGaussian(-9, 9, std=2.0),
                 QuantizedLaplace(-9, 9, 0.5, 2.0), QuantizedLogistic(-9, 9), Uniform(7), Uniform(), Uniform(8), Bernoulli(0.25), Bernoulli(),
@@ -196,8 +205,10 @@ class Equal(unittest.TestCase):
 
 
 class Threads(unittest.TestCase):
+    """Calls from several threads."""
+
     def together(self, *calls: Callable[[], None]) -> list[BaseException]:
-        """Runs calls in threads at once, and answers what was raised."""
+        """Runs calls in parallel threads, and returns their exceptions."""
         raised: list[BaseException] = []
 
         def run(call: Callable[[], None]) -> None:
@@ -219,11 +230,13 @@ class Threads(unittest.TestCase):
         return raised
 
     def test_one_coder(self) -> None:
+        """Encodes of several threads with one coder don't mix."""
         # Each list is wholly there, in one piece.
         coder, encoder, queue, stack = AnsCoder(), RangeEncoder(), QueueEncoder(), StackCoder()
         golomb = ExpGolomb()
 
         def work(symbol: int) -> None:
+            """Makes the calls of a thread."""
             for _ in range(60):
                 coder.encode_reverse([symbol] * 500, Uniform(4))
                 encoder.encode([symbol] * 500, Uniform(4))
@@ -242,11 +255,13 @@ class Threads(unittest.TestCase):
         self.assertTrue(coder.is_empty() and stack.is_empty())
 
     def test_one_decoder(self) -> None:
+        """Decodes of several threads with one decoder don't mix."""
         encoder, found = RangeEncoder(), []
         encoder.encode([i // 100 % 200 for i in range(40000)], Uniform(200))
         decoder = encoder.get_decoder()
 
         def work() -> None:
+            """Makes the calls of a thread."""
             for _ in range(50):
                 found.append(decoder.decode(Uniform(200), 100)[:].tolist())
                 found.append(decoder.decode(Uniform(), [200] * 100).tolist())
@@ -256,6 +271,7 @@ class Threads(unittest.TestCase):
         self.assertTrue(all(len(set(it)) == 1 for it in found))
 
     def test_different_coders_run_side_by_side(self) -> None:
+        """A long call releases the lock of the interpreter."""
         # While one thread is inside a single call, another one runs Python: calls let go of the interpreter's lock.
         model, ticks, stop = Uniform(1 << 22), [], threading.Event()
         model.table()
@@ -287,6 +303,7 @@ class Threads(unittest.TestCase):
         self.assertGreater(len(middle), 100)
 
     def test_a_model_that_calls_its_coder(self) -> None:
+        """A model that calls its own coder is refused, and the coder stays unchanged."""
         coder = AnsCoder(array("I", range(1, 100)))
         before = coder.pos()
 
@@ -321,8 +338,10 @@ class Threads(unittest.TestCase):
 
 
 class Memory(unittest.TestCase):
+    """Lack of memory."""
+
     def refused(self, call: Callable[[], Any], shown: Callable[[], Any]) -> int:
-        """Refuses the first request for room, then the second, and so on, until the call is done; how many were refused."""
+        """Refuses the first request for room, then the second, and so on, until the call succeeds. Returns how many were refused."""
         before = shown()
         for place in range(1000):
             seen = 0
@@ -360,6 +379,7 @@ class Memory(unittest.TestCase):
                 self.assertEqual(shown(coder), before)
 
     def test_bits_that_find_no_room(self) -> None:
+        """If a bit coder lacks memory, it stays unchanged."""
         class Full(bytearray):
             def __setitem__(self, place: Any, value: Any) -> None:
                 raise MemoryError
@@ -382,6 +402,7 @@ class Memory(unittest.TestCase):
             self.assertEqual(coder.get_compressed(), wanted.get_compressed())
 
     def test_growth_past_what_the_system_gives(self) -> None:
+        """If the system refuses memory for words, the coder stays unchanged."""
         # A process whose list wants more words than it may have memory: 12 MB, after 4 MB of symbols.
         program = """
 import resource
@@ -410,7 +431,7 @@ print(coder.decode(model, 1002) == [1, 0] + [1] * 1000)
 
 
 def patched(room: Any) -> Any:
-    """The same request for room in all modules that make it."""
+    """Replaces the request for room in all modules that make it."""
     from contextlib import ExitStack
 
     stack = ExitStack()
@@ -424,7 +445,10 @@ from constriction._buffers import room as definitions_room  # noqa: E402
 
 
 class WholeNumbers(unittest.TestCase):
+    """Symbols have to be whole numbers."""
+
     def test_floats_are_no_symbols(self) -> None:
+        """Floats are refused as symbols and words."""
         family, fixed, tree = QuantizedGaussian(-9, 9), QuantizedGaussian(-9, 9, 0.0, 3.0), EncoderHuffmanTree([1, 1])
         for call in (
             lambda it: AnsCoder().encode_reverse(it, fixed), lambda it: RangeEncoder().encode(it, fixed),
@@ -446,6 +470,7 @@ class WholeNumbers(unittest.TestCase):
         self.assertRaises(TypeError, AnsCoder([1]).seek, 0.0, 0)
 
     def test_whole_numbers_of_a_class(self) -> None:
+        """Values with `__index__` are whole numbers."""
         class Three:
             def __index__(self) -> int:
                 return 3
@@ -457,6 +482,7 @@ class WholeNumbers(unittest.TestCase):
         self.assertEqual(list(DecoderHuffmanTree([Three(), Three()])._weights), [3, 3])
 
     def test_unknown_memory(self) -> None:
+        """A buffer in another byte order is refused, or read correctly."""
         import ctypes
 
         turned = (ctypes.c_uint32.__ctype_be__ * 2)(1, 0)

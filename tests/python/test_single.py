@@ -1,4 +1,4 @@
-"""One symbol a call: the words, the symbols and the refusals are those of lists, under each model, on each coder."""
+"""Calls with one symbol have the words, symbols and errors of calls with lists, with each model and coder."""
 
 from __future__ import annotations
 
@@ -32,7 +32,7 @@ KEPT: list[Model] = [
 
 
 def some_steps(dice: random.Random, count: int) -> list[Step]:
-    """Symbols under models that are used again and again, under new ones, and under parameters of their own."""
+    """Returns symbols with repeated models, new models, and parameters."""
     steps: list[Step] = []
     for _ in range(count):
         mean, std = dice.uniform(-15, 15), math.exp(dice.uniform(-12, 11))
@@ -59,7 +59,10 @@ def by_lists(given: tuple[Any, ...]) -> tuple[Any, ...]:
 
 
 class Single(unittest.TestCase):
+    """Calls with one symbol."""
+
     def test_the_same_as_by_lists(self) -> None:
+        """Calls with one symbol have the words and symbols of calls with lists of one symbol."""
         dice = random.Random(21)
         for _ in range(30):
             steps = some_steps(dice, 60)
@@ -84,6 +87,7 @@ class Single(unittest.TestCase):
             self.assertTrue(one.is_empty())
 
     def test_of_the_chain_coder(self) -> None:
+        """The same holds for the chain coder."""
         dice = random.Random(22)
         words = [dice.randrange(1, 1 << 32) for _ in range(100)]
         one, other = ChainCoder(words), ChainCoder(words)
@@ -122,7 +126,7 @@ class Single(unittest.TestCase):
         self.assertEqual([coder.decode(family, mean, std) for mean, std in zip(means, stds)], symbols)
 
     def test_it_is_the_quick_way(self) -> None:
-        """Plain calls of one symbol never go the way of lists."""
+        """Plain calls of one symbol never use the code for lists."""
         table, family, fixed = (
             WeightTable([3, 2, 16777211]),
             QuantizedGaussian(-9, 9),
@@ -146,6 +150,7 @@ class Single(unittest.TestCase):
                     decoder.decode(model, *given)
 
     def test_refusals(self) -> None:
+        """An error of one symbol is that of a list, and the coder stays unchanged."""
         family, table = QuantizedGaussian(-9, 9), WeightTable([16777216, 0])
         calls: list[tuple[type[Exception], tuple[Any, ...]]] = [
             (errors.ImpossibleSymbolError, (10, family, 0.0, 1.0)), (errors.ImpossibleSymbolError, (-(1 << 70), family, 0.0, 1.0)),
@@ -194,7 +199,7 @@ class Single(unittest.TestCase):
 
     @unittest.skipUnless(hasattr(signal, "setitimer"), "the system has no timer for a process")
     def test_interrupts(self) -> None:
-        """A call that a signal interrupts is done or not, and the coder goes on from there."""
+        """A call that a signal interrupts succeeds or changes nothing, and the coder goes on."""
 
         class Interrupt(Exception):
             pass
@@ -230,12 +235,12 @@ class Single(unittest.TestCase):
             signal.signal(signal.SIGALRM, before)
 
     def is_done(self, coder: AnsCoder, steps: list[Step], start: tuple[int, int]) -> bool:
-        """Whether the last one is on the stack: all of them come back, and below them is what was there at the start."""
+        """Returns whether the last symbol is on the stack. All symbols have to come back, and the words below them stay."""
         twin = coder.clone()
         return all(twin.decode(*it[1:2], *it[2]) == it[0] for it in reversed(steps)) and twin.pos() == start
 
     def test_its_own_call(self) -> None:
-        """A number that calls the coder is asked before the coder is at work."""
+        """A number that calls the coder is converted before the coder works."""
         coder = AnsCoder(array("I", range(1, 100)))
 
         class Nosy:

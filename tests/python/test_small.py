@@ -1,4 +1,4 @@
-"""Coders with words of 16 bits, whose weights add up to 2^12, beside the definitions at this size."""
+"""Coders with words of 16 bits, whose weights add up to 2^12, compared with the definitions at this size."""
 
 from __future__ import annotations
 
@@ -38,7 +38,7 @@ def table(family: str, mean: float, deviation: float) -> list[int]:
 
 
 def some_case(dice: random.Random) -> Case:
-    """A random model. Its parameters are those of one symbol."""
+    """Returns a random model, with parameters of one symbol."""
     mean, std = dice.uniform(-15, 15), math.exp(dice.uniform(-12, 11))
     weights, size, p = by.random_weights(dice, dice.choice((1, 2, 16, 70))), dice.choice((1, 2, 7, 300, TOTAL)), dice.random()
     counts = [dice.choice((0, 1, 5, dice.randrange(1 << 40))) for _ in range(dice.choice((1, 2, 9, 300)))] + [3]
@@ -60,13 +60,13 @@ def some_case(dice: random.Random) -> Case:
 
 
 def counts_of(counts: list[int]) -> list[int]:
-    """Whole numbers as the model takes them: a count of 0 gets the least share."""
+    """Returns whole numbers as the model takes them: a count of 0 gets the least share."""
     up = 62 - max(counts).bit_length()
     return [it << up or 1 for it in counts]
 
 
 def rows_of(case: Case) -> tuple[Any, ...]:
-    """The parameters of a list of one symbol."""
+    """Returns the parameters of a list of one symbol."""
     return tuple([it] for it in case[1])
 
 
@@ -76,7 +76,7 @@ class Small(unittest.TestCase):
         self.addCleanup(by.at_size, 32, 24)
 
     def drawn(self, seed: int, count: int) -> tuple[list[Case], list[list[int]], list[int], list[int]]:
-        """Models, their weights, symbols as indexes of these, and the symbols themselves."""
+        """Returns models, their weights, the indices of symbols, and the symbols."""
         dice = random.Random(seed)
         cases = [some_case(dice) for _ in range(count)]
         places = [by.random_symbol(dice, it[2]) for it in cases]
@@ -163,7 +163,7 @@ class Small(unittest.TestCase):
         self.assertEqual(coder.decode(family, means, stds).tolist(), near)
 
     def test_models_in_floats(self) -> None:
-        """These come back, and other calls of a model leave it as it was."""
+        """Symbols of models in floats come back, and other calls leave a model unchanged."""
         for model in (
             QuantizedCauchy(-9, 9, 0.0, 2.0), Binomial(9, 0.25), CustomModel(lambda x: 1 / (1 + math.exp(-x)), None, -4, 4), Uniform(5),
         ):  # fmt: skip
@@ -182,7 +182,7 @@ class Small(unittest.TestCase):
         self.assertEqual(coder.decode(spread, [0.0, 3.0, -3.0]).tolist(), [1, -9, 9])
 
     def test_refusals(self) -> None:
-        """Each says what is wrong, and changes nothing."""
+        """Each error names the fault, and nothing changes."""
         coder, encoder, chain = SmallAnsCoder([5, 6, 7]), SmallRangeEncoder(), SmallChainCoder([5, 6, 7])
         before = [pickle.dumps(it) for it in (coder, encoder, chain)]
         encodes: list[Any] = [coder.encode_reverse, encoder.encode, chain.encode_reverse]

@@ -1,4 +1,4 @@
-"""Store: chunks that are looked up, words in a file, hostile words and indices."""
+"""Stores: look-ups of chunks, words in a file, untrusted words and entries."""
 
 from __future__ import annotations
 
@@ -31,7 +31,7 @@ def some_chunks() -> list[list[int]]:
 
 
 def built_by_function(chunks: list[list[int]], model: WeightTable) -> tuple[list[int], list[tuple[Any, ...]]]:
-    """The words and the index of chunks, by the C function."""
+    """Returns the words and the index of chunks, by the C function."""
     symbols = array("q", [symbol for chunk in chunks for symbol in chunk])
     lengths = array("Q", [len(chunk) for chunk in chunks])
     words, weights = array("I", [0]) * (len(symbols) + 2), model.table()
@@ -47,7 +47,7 @@ def built_by_function(chunks: list[list[int]], model: WeightTable) -> tuple[list
 
 
 def looked_up_by_function(words: list[int], entry: tuple[Any, ...], model: WeightTable) -> list[int]:
-    """The chunk at an entry of words, by the C function."""
+    """Returns the chunk at an entry, by the C function."""
     place, state, many = entry
     memory, symbols, weights = array("I", words), array("q", [0]) * many, model.table()
     call("store_chunk_u32", lent(memory), len(memory), place, *state, lent(weights), len(weights), lent(symbols), many)
@@ -55,6 +55,8 @@ def looked_up_by_function(words: list[int], entry: tuple[Any, ...], model: Weigh
 
 
 class Stores(unittest.TestCase):
+    """Stores and their look-ups."""
+
     def test_three(self) -> None:
         found = Store.build(THREE, HALVES)
         self.assertEqual(list(found.words), [2684354560])
@@ -63,6 +65,7 @@ class Stores(unittest.TestCase):
         self.assertEqual(found.index[0][:2], RangeEncoder().pos())
 
     def test_as_a_sequence(self) -> None:
+        """A store is a sequence of chunks."""
         found = Store.build(THREE, HALVES)
         self.assertEqual(len(found), 3)
         self.assertEqual([list(chunk) for chunk in found], THREE)
@@ -78,6 +81,7 @@ class Stores(unittest.TestCase):
             found["0"]
 
     def test_words_are_those_of_one_encoder(self) -> None:
+        """A store has the words and positions of one range encoder."""
         chunks, model = some_chunks(), QuantizedGaussian(-50, 50, 0.0, 20.0)
         encoder = RangeEncoder()
         found = Store.build(chunks, model)
@@ -90,6 +94,7 @@ class Stores(unittest.TestCase):
             self.assertEqual(list(decoder.decode(model, len(chunk))), chunk)
 
     def test_any_order_and_whatever_follows(self) -> None:
+        """Chunks can be looked up in any order, and any words may follow."""
         chunks, model = some_chunks(), QuantizedGaussian(-50, 50, 0.0, 20.0)
         built = Store.build(iter(chunks), model)
         for behind in ([], [0], [0xFFFFFFFF] * 5, [1, 2, 3]):
@@ -98,6 +103,7 @@ class Stores(unittest.TestCase):
             self.assertEqual([list(found[i]) for i in order], [chunks[i] for i in order])
 
     def test_of_a_file(self) -> None:
+        """A store reads the words of a mapped file."""
         chunks, model = some_chunks(), QuantizedGaussian(-50, 50, 0.0, 20.0)
         built = Store.build(chunks, model)
         with tempfile.TemporaryDirectory() as folder:
@@ -108,6 +114,7 @@ class Stores(unittest.TestCase):
                 self.assertEqual([list(chunk) for chunk in found], chunks)
 
     def test_buffers(self) -> None:
+        """A store reads words from buffers, and refuses other values."""
         built = Store.build(THREE, HALVES)
         data = bytes(built.words)
         for words in (data, bytearray(data), memoryview(data), memoryview(built.words), array("I", built.words)):
@@ -120,6 +127,7 @@ class Stores(unittest.TestCase):
                 Store.from_parts(words, [], HALVES)
 
     def test_only_the_words_of_the_chunk_are_copied(self) -> None:
+        """A look-up copies only the words of its chunk."""
         chunks, model = [[1, 2, 3]] * 1000, Uniform(16)
         built = Store.build(chunks, model)
         asked: list[tuple[int, int]] = []
@@ -134,6 +142,7 @@ class Stores(unittest.TestCase):
         self.assertEqual(asked, [(built.index[500].position, 5)])
 
     def test_refusals(self) -> None:
+        """Impossible symbols, too many symbols and other models are refused."""
         with self.assertRaisesRegex(errors.ImpossibleSymbolError, "Impossible symbol."):
             Store.build([[0], [1, 2]], HALVES)
         with self.assertRaisesRegex(errors.WrongLengthError, "too many symbols"):
@@ -146,6 +155,7 @@ class Stores(unittest.TestCase):
             empty.chunk(0)
 
     def test_parts_of_a_stranger(self) -> None:
+        """Untrusted words and entries decode to symbols or are refused."""
         start = RangeEncoder().pos()
         words = array("I", [0xFFFFFFFF, 0xFFFFFFFF])
         found = Store.from_parts(words, [(*start, 1)], HALVES)
@@ -160,7 +170,7 @@ class Stores(unittest.TestCase):
             Store.from_parts(words, [(*start, MOST_SYMBOLS), (*start, 1)], HALVES)
 
     def test_hostile_parts(self) -> None:
-        """Each chunk is what a decoder gives that goes to its position, or both refuse it."""
+        """A look-up has the symbols of a decoder at the entry's position, or both refuse it."""
         numbers = (0, 1, 1 << 31, (1 << 32) - 1)
         states = ((0, (1 << 64) - 1), (0, 1 << 32), ((1 << 64) - 1, 1 << 40), (5, 3), (0, 0))
         for count in range(3):
@@ -178,7 +188,7 @@ class Stores(unittest.TestCase):
                         self.assertEqual(list(found.chunk(0)), wanted)
 
     def test_as_the_functions(self) -> None:
-        """The C functions build the same words and the same index, and look the same chunks up."""
+        """The C functions build the same words and index, and return the same chunks."""
         draw = random.Random(11)
         for kinds in (2, 5, 300):
             weights = random_weights(draw, kinds)
@@ -192,6 +202,7 @@ class Stores(unittest.TestCase):
                 self.assertEqual(looked_up_by_function(words, index[place], model), chunks[place])
 
     def test_hostile_parts_as_the_functions(self) -> None:
+        """Random words and entries have the results of the C functions."""
         draw = random.Random(12)
         for _ in range(3000):
             words = [draw.choice((0, 1, 1 << 31, (1 << 32) - 1, draw.randrange(1 << 32))) for _ in range(draw.randrange(4))]

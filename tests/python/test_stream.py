@@ -32,9 +32,10 @@ WEATHER = [11, 6, 1]
 
 
 class RoundTrips(unittest.TestCase):
-    """Lists under one model, under a forecast for each symbol, and under both in turn, through both coders."""
+    """Lists under one model, under a forecast for each symbol, and under alternating models, with both coders."""
 
     def test_one_model(self) -> None:
+        """Symbols under one model come back."""
         model = QuantizedGaussian(-60, 60, 4.5, 31.0)
         stack, queue = AnsCoder(), RangeEncoder()
         for some in (TIDE[:4], TIDE[4:]):
@@ -47,6 +48,7 @@ class RoundTrips(unittest.TestCase):
             self.assertEqual([coder.decode(model) for _ in TIDE], TIDE)
 
     def test_a_forecast_for_each(self) -> None:
+        """Symbols with a Gaussian each come back."""
         family, stack, queue = QuantizedGaussian(-60, 60), AnsCoder(), RangeEncoder()
         for _ in range(3):
             stack.encode_reverse(TIDE, family, FORECAST, SPREAD)
@@ -58,6 +60,7 @@ class RoundTrips(unittest.TestCase):
         self.assertTrue(stack.is_empty() and reader.maybe_exhausted())
 
     def test_two_kinds_of_symbols_in_turn(self) -> None:
+        """Symbols under alternating models come back."""
         tide, weather, days = QuantizedGaussian(-60, 60), Categorical(WEATHER), [0, 2, 0, 1, 1, 0, 0, 1, 0, 0]
         stack = AnsCoder()
         for day, depth, mean, std in reversed(list(zip(days, TIDE, FORECAST, SPREAD))):
@@ -75,7 +78,10 @@ class RoundTrips(unittest.TestCase):
 
 
 class Ans(unittest.TestCase):
+    """The stack coder."""
+
     def test_worked_rows(self) -> None:
+        """Some lists have expected words."""
         coder = AnsCoder()
         coder.encode_reverse(1, TWO)
         self.assertEqual(coder.pos(), (0, 3))
@@ -88,6 +94,7 @@ class Ans(unittest.TestCase):
         self.assertEqual([coder.decode(SEVERAL) for _ in TEN], TEN)
 
     def test_binary(self) -> None:
+        """Words in binary form come back."""
         coder = AnsCoder([5, 0], seal=True)
         self.assertEqual(coder.pos(), (1, 4294967296))
         self.assertEqual((coder.num_words(), coder.num_bits(), coder.num_valid_bits()), (3, 96, 64))
@@ -104,6 +111,7 @@ class Ans(unittest.TestCase):
         self.assertTrue(AnsCoder([]).is_empty())
 
     def test_sizes(self) -> None:
+        """The numbers of words and bits are those of the export."""
         coder = AnsCoder()
         self.assertEqual((coder.num_words(), coder.num_bits(), coder.num_valid_bits()), (0, 0, 0))
         coder.encode_reverse(TEN, SEVERAL)
@@ -113,6 +121,7 @@ class Ans(unittest.TestCase):
         self.assertTrue(coder.is_empty())
 
     def test_bits_back(self) -> None:
+        """Bits back restores the coder."""
         dice = random.Random(1)
         words = [dice.randrange(1 << 32) for _ in range(1000)]
         family = QuantizedGaussian(-20, 20)
@@ -123,6 +132,7 @@ class Ans(unittest.TestCase):
         self.assertEqual(coder.get_binary(), words)
 
     def test_seek(self) -> None:
+        """A seek returns to a recorded position."""
         coder = AnsCoder()
         coder.encode_reverse(TEN, SEVERAL)
         position = coder.pos()
@@ -135,7 +145,7 @@ class Ans(unittest.TestCase):
             coder.seek(1000, 0)
 
     def test_seek_forth_and_back(self) -> None:
-        """Positions in any order, over words that are never copied, until a word is written over."""
+        """Seeks go to positions in any order, until a word is overwritten, and copy no words."""
         dice, writer, marks = random.Random(31), AnsCoder(), []
         lists = [[dice.randrange(3) for _ in range(dice.randrange(1, 40))] for _ in range(60)]
         for it in lists:
@@ -164,6 +174,7 @@ class Ans(unittest.TestCase):
         self.assertRaises(errors.WrongLengthError, reader.seek, 1, 5)
 
     def test_refusals(self) -> None:
+        """After an error, the coder is unchanged."""
         coder = AnsCoder()
         coder.encode_reverse(TEN, SEVERAL)
         before = coder.pos(), coder.get_compressed()
@@ -188,7 +199,7 @@ class Ans(unittest.TestCase):
         self.assertEqual((coder.pos(), coder.get_compressed()), before)
 
     def test_words_ahead_of_a_refused_list(self) -> None:
-        """A list with rows of several widths is refused in its last part, or a list of 2^17 symbols in its second."""
+        """A list that is refused in a later part keeps the words ahead."""
         coder, symbols = AnsCoder(), [i * 11 % 256 for i in range(256)]
         coder.encode_reverse(symbols, Uniform(256))
         end, begin, words = coder.pos(), coder.clone(), coder.get_compressed().tolist()
@@ -204,7 +215,7 @@ class Ans(unittest.TestCase):
             self.assertEqual(coder.get_compressed().tolist(), words)
 
     def test_words_ahead_of_an_encode(self) -> None:
-        """Only an encode that writes a word gives up the words ahead, whatever room the buffer has."""
+        """Only an encode that writes a word drops the words ahead."""
         fixed = WeightTable([1, (1 << 24) - 1])
         for count in (1, 2, 3, 4, 7, 40):
             for symbols in (1, [1], [1] * 9, [1] * 99):
@@ -227,6 +238,7 @@ class Ans(unittest.TestCase):
                     self.assertRaises(errors.WrongLengthError, coder.seek, *end)
 
     def test_lists_beside_the_definition(self) -> None:
+        """Random lists have the words of the definition, from any buffer."""
         dice = random.Random(2)
         for count in (0, 1, 2, 3, 10, 100, 1000):
             weights = definitions.random_weights(dice, 9)
@@ -241,6 +253,7 @@ class Ans(unittest.TestCase):
             self.assertEqual(AnsCoder(array("I", wanted)).decode(WeightTable(array("I", weights)), count), symbols)
 
     def test_rows_beside_the_definition(self) -> None:
+        """Symbols with a row of weights each have the words of the definition."""
         dice = random.Random(3)
         tables = [definitions.random_weights(dice, 5) for _ in range(300)]
         symbols = [definitions.random_symbol(dice, it) for it in tables]
@@ -250,6 +263,7 @@ class Ans(unittest.TestCase):
         self.assertEqual(coder.decode(WeightTable(), tables), symbols)
 
     def test_long_lists(self) -> None:
+        """Long lists come back."""
         symbols = array("Q", range(500)) * 100
         coder = AnsCoder()
         for _ in range(3):
@@ -258,6 +272,7 @@ class Ans(unittest.TestCase):
         self.assertTrue(coder.is_empty())
 
     def test_long_lists_are_refused_whole(self) -> None:
+        """A long list with an impossible symbol changes nothing."""
         long = array("Q", [0, 1, 2, 2]) * 50000
         for place in (0, 65536, 131071, 199999):
             wrong = long[:]
@@ -282,7 +297,10 @@ class Ans(unittest.TestCase):
 
 
 class Range(unittest.TestCase):
+    """The range coder."""
+
     def test_worked_rows(self) -> None:
+        """Some lists have expected words."""
         encoder = RangeEncoder()
         self.assertEqual((encoder.get_compressed(), encoder.num_words(), encoder.is_empty()), ([], 0, True))
         self.assertTrue(encoder.get_decoder().maybe_exhausted())
@@ -302,6 +320,7 @@ class Range(unittest.TestCase):
                 decoder.decode(TWO, 1)
 
     def test_positions(self) -> None:
+        """A decoder seeks to recorded positions in any order, and refuses invalid ones."""
         dice = random.Random(4)
         encoder, positions = RangeEncoder(), []
         lists = [[definitions.random_symbol(dice, [1, 2, 16777213]) for _ in range(dice.randrange(30))] for _ in range(30)]
@@ -320,6 +339,7 @@ class Range(unittest.TestCase):
             decoder.seek(0, (0, 1))
 
     def test_exhausted(self) -> None:
+        """A decoder may be exhausted only after all symbols."""
         encoder = RangeEncoder()
         encoder.encode(TEN * 10, TWO)
         decoder = encoder.get_decoder()
@@ -329,6 +349,7 @@ class Range(unittest.TestCase):
 
     @unittest.skipUnless("range_into_self_delimited_u32" in _library._FUNCTIONS, "the library has no self-delimiting seal")
     def test_self_delimiting(self) -> None:
+        """Any words may follow self-delimiting words."""
         dice = random.Random(14)
         for count in (0, 1, 2, 5, 40):
             symbols = [dice.randrange(3) for _ in range(count)]
@@ -344,6 +365,7 @@ class Range(unittest.TestCase):
         self.assertEqual(RangeEncoder().get_compressed(self_delimiting=True), [])
 
     def test_goes_on_after_an_export(self) -> None:
+        """An encoder goes on after an export."""
         encoder = RangeEncoder()
         for symbol in TEN:
             encoder.encode(symbol, SEVERAL)
@@ -352,6 +374,7 @@ class Range(unittest.TestCase):
         self.assertEqual(encoder.get_compressed(), [0, 65535, 100661761, 4294837757, 0, 4])
 
     def test_beside_the_definition(self) -> None:
+        """Random lists have the words of the definition."""
         dice = random.Random(5)
         for count in (0, 1, 2, 3, 10, 100, 1000):
             tables = [definitions.random_weights(dice, 5) for _ in range(count)]
@@ -362,6 +385,7 @@ class Range(unittest.TestCase):
             self.assertEqual(encoder.get_decoder().decode(WeightTable(), tables), symbols)
 
     def test_carries(self) -> None:
+        """Carries change pending words as the definition says."""
         # Symbols next to the upper end of their interval hold words back.
         dice, weights = random.Random(6), [8388607, 1, 8388607, 1]
         for _ in range(100):
@@ -373,6 +397,7 @@ class Range(unittest.TestCase):
             self.assertEqual(encoder.get_decoder().decode(WeightTable(weights), len(symbols)), symbols)
 
     def test_carries_over_many_words(self) -> None:
+        """A carry changes many pending words."""
         # Intervals that hold the point 1/2, then one behind it or in front of it.
         for steps in range(6, 30):
             for last in (-1, 1):
@@ -394,7 +419,10 @@ class Range(unittest.TestCase):
 
 
 class Chain(unittest.TestCase):
+    """The chain coder."""
+
     def test_worked_rows(self) -> None:
+        """Some words have expected symbols and remainders, and invalid words are refused."""
         coder = ChainCoder([0x11223344, 0x100])
         self.assertEqual(coder.decode(WeightTable([0x223344, 1, 16777215 - 0x223344])), 1)
         with self.assertRaisesRegex(errors.OutOfDataError, r"^Out of compressed data\.$"):
@@ -409,6 +437,7 @@ class Chain(unittest.TestCase):
                 ChainCoder(words, seal=seal)
 
     def test_there_and_back(self) -> None:
+        """Symbols are those of the definition, and encoding them back restores the words."""
         dice = random.Random(7)
         for seal in (False, True):
             words = [*(dice.randrange(1 << 32) for _ in range(500)), 0 if seal else 1]
@@ -465,6 +494,7 @@ class Chain(unittest.TestCase):
             pass
 
     def test_refusals(self) -> None:
+        """After an error, the coder is unchanged."""
         coder = ChainCoder([1, 2, 3, 4])
         before = coder.get_remainders()
         with self.assertRaises(errors.ImpossibleSymbolError):

@@ -16,10 +16,13 @@ from constriction.symbol import DecoderHuffmanTree, EncoderHuffmanTree, ExpGolom
 
 
 class Codewords(unittest.TestCase):
+    """Codebooks in queues and stacks."""
+
     def test_docstrings(self) -> None:
         self.assertEqual(doctest.testmod(constriction.symbol).failed, 0)
 
     def test_golomb_rows(self) -> None:
+        """Exp-Golomb codewords have expected words."""
         encoder = QueueEncoder()
         encoder.encode([0, 5, 7], ExpGolomb())
         self.assertEqual(encoder.get_compressed(), ([537], 13))
@@ -39,6 +42,7 @@ class Codewords(unittest.TestCase):
             QueueEncoder().encode(1 << 32, ExpGolomb())
 
     def test_huffman_rows(self) -> None:
+        """Huffman trees have expected codewords."""
         rows = (
             ([2, 2, 4, 1, 1], "00 01 11 100 101"), ([2, 1], "1 0"), ([1], ""), ([1, 1, 2], "10 11 0"), ([0, 0, 0], "10 11 0"),
             ([1, 1, 2, 3, 5], "1110 1111 110 10 0"), ([255, 0], "1 0"),
@@ -57,6 +61,7 @@ class Codewords(unittest.TestCase):
         self.assertEqual(EncoderHuffmanTree([0.3, 0.2, 0.5]).num_symbols(), 3)
 
     def test_stack_rows(self) -> None:
+        """Stacks of bits have expected words."""
         equal = EncoderHuffmanTree([1, 1])
         for symbols, words in (([1], [3]), ([1] * 32, [4294967295, 1]), ([], [1])):
             coder = StackCoder()
@@ -67,6 +72,7 @@ class Codewords(unittest.TestCase):
             StackCoder([7, 0]).decode(DecoderHuffmanTree([1, 1]))
 
     def test_lists_beside_the_definitions(self) -> None:
+        """Random lists have the words of the definitions, and come back."""
         dice = random.Random(9)
         for count in (0, 1, 5, 300, *[32] * 500):
             bound = dice.choice((1, 2, 5, 17, 1000))
@@ -90,6 +96,7 @@ class Codewords(unittest.TestCase):
                     self.assertEqual(decoder.decode(decoder_book, count - count // 2), given[count // 2 :])
 
     def test_codebooks_that_change(self) -> None:
+        """Symbols of several codebooks in one coder come back."""
         dice = random.Random(12)
         trees = [EncoderHuffmanTree([1]), EncoderHuffmanTree([2, 2, 4, 1, 1]), EncoderHuffmanTree([3, 2])]
         queue, stack, kept, bits = QueueEncoder(), StackCoder(), [], ""
@@ -111,6 +118,7 @@ class Codewords(unittest.TestCase):
         self.assertTrue(stack.is_empty())
 
     def test_bits_back_on_a_stack(self) -> None:
+        """Bits back on a stack of bits restores the stack."""
         posterior, prior, likelihood = (EncoderHuffmanTree(it) for it in ([1, 1], [3, 1], [1, 2, 4]))
         stack = StackCoder()
         stack.encode_reverse([1, 0, 1, 1, 0, 1], ExpGolomb())
@@ -125,6 +133,7 @@ class Codewords(unittest.TestCase):
         self.assertEqual(receiver.get_compressed(), before)
 
     def test_long_lists_that_end_too_early(self) -> None:
+        """A decode past the end is refused, and the coder stays unchanged."""
         tree = DecoderHuffmanTree([1, 1])
         encoder = QueueEncoder()
         encoder.encode([0] * 100, tree)
@@ -171,7 +180,7 @@ class Codewords(unittest.TestCase):
         self.assertRaises(TypeError, EncoderHuffmanTree.from_lengths, [1.0, 1.0])
 
     def test_positions(self) -> None:
-        """Each recorded position is found again, in any order, and a refused one changes nothing."""
+        """Seeks go to recorded positions in any order, and a refused position changes nothing."""
         dice, tree = random.Random(14), EncoderHuffmanTree([2, 2, 4, 1, 1])
         encoder, kept = QueueEncoder(), []
         for _ in range(60):
@@ -195,7 +204,7 @@ class Codewords(unittest.TestCase):
             self.assertRaises(errors.OutOfDataError, twin.decode, tree)
 
     def test_pairs(self) -> None:
-        """The pair that an encoder returns ends where its codewords end, and the words alone end after the last word."""
+        """The pair that an encoder returns ends with its codewords. The words alone end with the last word."""
         tree, encoder, stack = DecoderHuffmanTree([1, 1]), QueueEncoder(), StackCoder()
         encoder.encode([1, 0, 0], tree), stack.encode_reverse([1, 0, 0], tree)
         for given, count in ((encoder.get_compressed(), 3), (encoder.get_compressed()[0], 32), ([1], 32), ((1, 1), 64), ([1, 1], 64)):
@@ -213,7 +222,9 @@ class Codewords(unittest.TestCase):
         self.assertRaises(errors.InvalidDataError, StackCoder, (stack.get_compressed()[0], 4))
 
     def test_a_symbol_at_a_time_is_linear(self) -> None:
+        """The time of decoding symbol by symbol is linear."""
         def seconds(count: int) -> float:
+            """Returns the time of decoding `count` symbols."""
             encoder = QueueEncoder()
             encoder.encode([5] * count, ExpGolomb())
             decoder = encoder.get_decoder()

@@ -1,4 +1,4 @@
-"""The package's types, where mypy is there: it finds no fault with the package, and names each misuse that a list of them has."""
+"""The package's types, by mypy if it is installed: it accepts the package, and refuses each call of a list of misuses."""
 
 from __future__ import annotations
 
@@ -18,7 +18,10 @@ MISUSES = Path(__file__).resolve().parent / "typed" / "misuses.py"
 
 @unittest.skipUnless(shutil.which("mypy"), "mypy is not there")
 class Types(unittest.TestCase):
+    """The types of the package."""
+
     def test_package_and_misuses(self) -> None:
+        """mypy accepts the package, and refuses exactly the marked lines of misuses.py."""
         environment = {**os.environ, "MYPYPATH": str(PACKAGE.parent)}
         with tempfile.TemporaryDirectory() as folder:
             command = ["mypy", "--strict", "--no-error-summary", "--cache-dir", folder, PACKAGE, MISUSES]

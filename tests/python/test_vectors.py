@@ -1,4 +1,4 @@
-"""docs/vectors.txt beside the library, at both sizes, and beside the program where that is built.
+"""docs/vectors.txt, compared with the library at both sizes, and with the program if it is built.
 
 The C functions are called by their names, without the package.
 """
@@ -23,7 +23,7 @@ LIBRARY = CDLL(str(_library.PATH))
 
 
 def cases() -> list[dict[str, list[Any]]]:
-    """The cases of the file: of each name the numbers behind it, or the texts."""
+    """Returns the cases of the file: the numbers or texts of each name."""
     found: list[dict[str, list[Any]]] = [{}]
     for line in (TOP / "docs/vectors.txt").read_text().splitlines():
         if not line and found[-1]:
@@ -39,6 +39,7 @@ class Size:
     """The C functions at one size of words."""
 
     def __init__(self, bits: list[int]) -> None:
+        """Sets the types of the numbers and structs."""
         self.name = f"u{bits[0]}"
         self.word, self.state = (c_uint32, c_uint64) if bits[0] == 32 else (c_uint16, c_uint32)
         state, word = self.state, self.word
@@ -61,7 +62,7 @@ class Size:
         return (self.state * (len(values) + 1))(*values)
 
     def call(self, name: str, *arguments: Any) -> None:
-        """Calls a function, which has to do everything. Whole numbers are lengths."""
+        """Calls a function, which has to succeed. Whole numbers are lengths."""
         result = LIBRARY[f"constriction_{name}_{self.name}"](
             *(c_size_t(it) if isinstance(it, int) else it for it in arguments)
         )
@@ -74,9 +75,10 @@ def sizes(values: list[int]) -> Any:
 
 
 class Given:
-    """The models of a case as arguments, and its symbols as places."""
+    """The models of a case as arguments, and its symbols as indices."""
 
     def __init__(self, size: Size, case: dict[str, list[Any]]) -> None:
+        """Reads the model of a case: a table of weights, or a family with parameters."""
         self.first, self.kind = 0, ""
         self.kept: tuple[Any, ...] = ()
         self.model: list[Any]
@@ -117,6 +119,7 @@ def address(numbers: array[int]) -> c_void_p:
 
 
 def ans_encode(test: unittest.TestCase, size: Size, case: dict[str, list[Any]]) -> None:
+    """Encodes the symbols, and compares the words."""
     given, room = Given(size, case), len(case["symbols"]) + 2
     words, head, count, needed = size.words([], room), size.state(0), c_size_t(0), c_size_t(0)
     buffer = [words, room, byref(count)]
@@ -127,6 +130,7 @@ def ans_encode(test: unittest.TestCase, size: Size, case: dict[str, list[Any]]) 
 
 
 def ans_decode(test: unittest.TestCase, size: Size, case: dict[str, list[Any]]) -> None:
+    """Decodes the symbols, and compares the symbols and the rest."""
     given, length = Given(size, case), len(case["words"])
     words, places = size.words(case["words"], 2), sizes([0] * len(case["symbols"]))
     head, count, needed = size.state(0), c_size_t(0), c_size_t(0)
@@ -139,6 +143,7 @@ def ans_decode(test: unittest.TestCase, size: Size, case: dict[str, list[Any]]) 
 
 
 def range_coder(test: unittest.TestCase, size: Size, case: dict[str, list[Any]]) -> None:
+    """Encodes and decodes the symbols, and compares words and symbols."""
     given, room = Given(size, case), len(case["symbols"]) + 2
     words, count, needed = size.words([], room), c_size_t(0), c_size_t(0)
     buffer, encoder, decoder = [words, room, byref(count)], size.Encoder(), size.Decoder()
@@ -155,6 +160,7 @@ def range_coder(test: unittest.TestCase, size: Size, case: dict[str, list[Any]])
 
 
 def chain(test: unittest.TestCase, size: Size, case: dict[str, list[Any]]) -> None:
+    """Decodes the symbols and encodes them back, and compares symbols, remainders and words."""
     given, length, room = Given(size, case), len(case["words"]), len(case["words"]) + 3
     words, remainders, places = size.words(case["words"], 3), size.words([], room), sizes([0] * len(case["symbols"]))
     heads, left, count, needed = size.Heads(), c_size_t(0), c_size_t(0), c_size_t(0)
@@ -177,6 +183,7 @@ def chain(test: unittest.TestCase, size: Size, case: dict[str, list[Any]]) -> No
 
 
 def store(test: unittest.TestCase, size: Size, case: dict[str, list[Any]]) -> None:
+    """Builds a store, and compares words, positions and chunks."""
     weights, lengths, total = case["weights"], case["lengths"], len(case["symbols"])
     words, count, needed, chunks = size.words([], total + 2), c_size_t(0), c_size_t(0), len(lengths)
     positions, lowers, ranges = sizes([0] * chunks), size.states([0] * chunks), size.states([0] * chunks)
@@ -217,6 +224,7 @@ def uniform(test: unittest.TestCase, size: Size, case: dict[str, list[Any]]) -> 
 
 
 def codewords(test: unittest.TestCase, size: Size, case: dict[str, list[Any]]) -> None:
+    """Encodes and decodes codewords, and compares words and symbols."""
     is_golomb = case["case"] == ["golomb"]
     values = case["numbers"] if is_golomb else case["symbols"]
     symbols = size.words(values) if is_golomb else sizes(values)
@@ -241,8 +249,10 @@ RUN = {
 
 
 class Vectors(unittest.TestCase):
+    """The test vectors with the library."""
+
     def test_library(self) -> None:
-        """Each kind at both sizes, but the entries of tables, which no function gives."""
+        """Each kind of case at both sizes, except entries of tables, which no function returns."""
         ran = set()
         for case in cases():
             (kind,) = case["case"]
@@ -263,7 +273,7 @@ def chunks_of(case: dict[str, list[Any]]) -> list[list[int]]:
 
 
 def asked(case: dict[str, list[Any]]) -> tuple[str, list[str], list[str]]:
-    """The command that answers a case, its input, and its output."""
+    """Returns the command for a case, its input, and its output."""
     (kind,), count = case["case"], len(case.get("symbols", []))
     weights, symbols = shown(case.get("weights", [])), shown(case.get("symbols", []))
     if kind == "ans-encode":
@@ -285,8 +295,10 @@ def asked(case: dict[str, list[Any]]) -> tuple[str, list[str], list[str]]:
 
 @unittest.skipUnless(os.access(PROGRAM, os.X_OK), f"the program is not built: there is no {PROGRAM}")
 class OfTheProgram(unittest.TestCase):
+    """The test vectors with the program."""
+
     def test_program(self) -> None:
-        """Each case at the program's size, and of its kinds."""
+        """Each case of the program's size and commands."""
         for case in cases():
             is_of_program = "family" not in case and case["case"][0] not in ("counts", "uniform")
             if case["bits"][0] == 32 and is_of_program:

@@ -1,10 +1,10 @@
 """Coders as wholes, after calls that are refused, interrupted, or made from inside another call of the same coder.
 
-Each coder has a twin that gets only the calls that are done. After each other call both are compared: their pickles,
-``==``, exports, and the words at each recorded position. Words ahead, which ``seek`` goes forward to, are in a pickle.
+Each coder has a twin that gets only the successful calls. After each other call, both are compared: their pickles,
+``==``, exports, and the words at each recorded position. A pickle includes the words ahead, to which ``seek`` can go.
 
-An interrupt is an exception that comes at some event of Python: a call or the end of a call, of Python code or of a C
-function. These are the moments at which handlers of signals run.
+An interrupt is an exception at an event of Python: a call or the end of a call, of Python code or of a C function.
+Handlers of signals run at these events.
 """
 
 from __future__ import annotations
@@ -38,7 +38,7 @@ WIDE = Uniform(1 << 12)
 
 
 class Interrupt(BaseException):
-    """What an interrupted call raises."""
+    """An interrupted call raises this exception."""
 
 
 def with_events(call: Callable[[], Any], at: Callable[[int], None]) -> Any:
@@ -89,7 +89,7 @@ def whole(coder: Any) -> tuple[Any, ...]:
 
 
 def using(inner: Change, coder: Any, raised: list[Any]) -> None:
-    """Makes a call from inside another, and adds what it raised to the list, as ``Case.from_inside`` says."""
+    """Makes a call from inside another, and adds its exception to the list, as ``Case.from_inside`` expects."""
     again = raised[:1] == ["again"]
     try:
         inner(coder)
@@ -141,10 +141,10 @@ class Case:
         raise NotImplementedError
 
     def recorded(self, coder: Any, before: int) -> None:
-        """Records a position of the coder after a call that is done. ``before`` is the number of words before it."""
+        """Records a position of the coder after a successful call. ``before`` is the earlier number of words."""
 
     def found(self, coder: Any) -> Any:
-        """Returns what is found at each position that the coder promises."""
+        """Returns the words or symbols at each recorded position."""
 
     def fixed(self) -> tuple[Model, list[int]]:
         """Returns a model with all its parameters, and its symbols that have a weight."""
@@ -241,6 +241,7 @@ class Case:
             return Number(of, lambda: using(inner, coder, raised))
 
         def model(coder: Any = None, raised: Any = None) -> Model:
+            """Returns a model whose distribution function uses the coder."""
             def cdf(x: float) -> float:
                 if coder is not None:
                     using(inner, coder, raised)
@@ -268,9 +269,12 @@ class Case:
 
 
 class Ans(Case):
+    """Stack coders."""
+
     make: Any = AnsCoder
 
     def made(self) -> Any:
+        """Returns a coder with words, recorded positions and decoded symbols."""
         coder = self.make([self.dice.randrange(1, by.WORD) for _ in range(self.dice.randrange(1, 40))])
         #: Positions that the coder promises, and the words of the coder there.
         self.positions: list[tuple[tuple[int, int], list[int]]] = []
@@ -284,6 +288,7 @@ class Ans(Case):
         self.positions = [(coder.pos(), coder.get_compressed().tolist()), *self.positions][:9]
 
     def found(self, coder: Any) -> Any:
+        """Returns whether each recorded position still has its words."""
         here, found = coder.pos(), []
         for position, words in self.positions:
             coder.seek(*position)
@@ -293,6 +298,8 @@ class Ans(Case):
 
 
 class Encoder(Case):
+    """Range encoders."""
+
     encode, make = "encode", RangeEncoder
 
     def made(self) -> Any:
@@ -304,6 +311,7 @@ class Encoder(Case):
         return super().change(True)
 
     def refused(self) -> Change:
+        """Returns an encode that raises an exception."""
         while True:
             change = super().refused()
             try:
@@ -314,6 +322,7 @@ class Encoder(Case):
                 return change
 
     def from_inside(self, inner: Change) -> tuple[Callable[[list[Any]], Change], Change]:
+        """Returns an encode whose arguments use the coder, and the same encode without."""
         while True:
             using, plain = super().from_inside(inner)
             try:
@@ -324,9 +333,12 @@ class Encoder(Case):
 
 
 class Decoder(Case):
+    """Range decoders."""
+
     make: Any = RangeEncoder
 
     def made(self) -> Any:
+        """Returns a decoder of symbols with recorded positions."""
         encoder, dice = self.make(), self.dice
         symbols, self.positions = [dice.randrange(300) for _ in range(90)], []
         for i in range(0, 90, 9):
@@ -337,6 +349,7 @@ class Decoder(Case):
         return coder
 
     def found(self, coder: Any) -> Any:
+        """Returns whether each recorded position still has its symbols."""
         here, found = coder._state, []
         for position, symbols in self.positions:
             coder.seek(*position)
@@ -353,6 +366,7 @@ class Decoder(Case):
         return lambda it: it.decode(model, *given)
 
     def from_inside(self, inner: Change) -> tuple[Callable[[list[Any]], Change], Change]:
+        """Returns a decode whose arguments use the coder, and the same decode without."""
         while True:
             using, plain = super().from_inside(inner)
             try:
@@ -363,6 +377,8 @@ class Decoder(Case):
 
 
 class Chain(Case):
+    """Chain coders."""
+
     make: Any = ChainCoder
 
     def made(self) -> Any:
@@ -394,6 +410,7 @@ class Bits(Case):
         return self.dice.choice(((EncoderHuffmanTree([2, 2, 4, 1, 1]), 5), (EncoderHuffmanTree([1]), 1), (ExpGolomb(), 50)))  # type: ignore[no-any-return]
 
     def change(self, encodes: bool) -> Change:
+        """Returns a valid call."""
         (book, size), dice, name = self.model(), self.dice, self.encode if encodes else self.decode
         if dice.random() < 0.5:
             symbol = (dice.randrange(size),) if encodes else ()
@@ -410,6 +427,8 @@ class Bits(Case):
 
 
 class Queue(Bits):
+    """Queues of bits that are written."""
+
     encode = "encode"
 
     def made(self) -> Any:
@@ -422,6 +441,8 @@ class Queue(Bits):
 
 
 class QueueRead(Bits):
+    """Queues of bits that are read."""
+
     def made(self) -> Any:
         encoder = QueueEncoder()
         encoder.encode([self.dice.randrange(50) for _ in range(self.dice.randrange(60))], ExpGolomb())
@@ -449,10 +470,13 @@ class Stack(Bits):
 
 
 class Whole(unittest.TestCase):
+    """Random calls of all coders."""
+
     kinds: tuple[Any, ...] = ()
     calls = CALLS
 
     def setUp(self) -> None:
+        """Chooses the coders, and makes the parts of lists short."""
         self.kinds = self.kinds or (Ans, Ans, Ans, Encoder, Decoder, Chain, Queue, QueueRead, Stack)
         # Short lists have several parts then.
         for module, name, size in (
@@ -463,6 +487,7 @@ class Whole(unittest.TestCase):
             self.addCleanup(patch.stop)
 
     def test_random_calls(self) -> None:
+        """After any call, the coder equals a twin as a whole."""
         self.counts: dict[str, int] = {}
         dice, done = random.Random(82), 0
         while done < self.calls:
@@ -559,6 +584,7 @@ class Whole(unittest.TestCase):
         self.alike(coder, twin)
 
     def interrupt(self, case: Case, coder: Any, twin: Any) -> None:
+        """Interrupts a call at a random event."""
         change, after = case.change(case.dice.random() < 0.7), twin_of(twin)
         try:
             count = events(lambda: change(after))
@@ -599,7 +625,7 @@ class Whole(unittest.TestCase):
             case.recorded(coder, before)
 
     def rooms(self, original: Any, room: Any) -> Any:
-        """Puts another function in the place of the one that all memory comes from."""
+        """Replaces the function that allocates all memory."""
         from contextlib import ExitStack
 
         stack = ExitStack()
@@ -609,7 +635,7 @@ class Whole(unittest.TestCase):
         return stack
 
     def inside(self, case: Case, coder: Any, twin: Any) -> None:
-        """Makes a call whose arguments call the same coder. The inner call raises RuntimeError, and the outer one goes on or not."""
+        """Makes a call whose arguments call the same coder. The inner call raises RuntimeError, and the outer one may go on."""
         using, plain = case.from_inside(case.change(case.dice.random() < 0.7))
         after, again = twin_of(twin), case.dice.random() < 0.5
         raised: list[Any] = ["again"] * again
@@ -684,6 +710,7 @@ class Signals(unittest.TestCase):
             raise Interrupt
 
     def test_words_ahead(self) -> None:
+        """An interrupted encode keeps or replaces the words ahead as a whole."""
         dice, model, symbols = random.Random(83), Uniform(256), [i * 7 % 256 for i in range(2000)]
         coder = AnsCoder()
         coder.encode_reverse(symbols, model)
@@ -709,7 +736,7 @@ class Signals(unittest.TestCase):
         self.assertGreater(stopped, 50)
 
     def test_a_handler_that_encodes(self) -> None:
-        """While a call of one symbol runs, the handler's own call is refused, and outside it is done."""
+        """A handler's own call is refused while a call of one symbol runs, and succeeds otherwise."""
         coder, model, model_of_handler = AnsCoder(), Uniform(300), Uniform(9)
         wanted: list[tuple[int, Any]] = []
 

@@ -1,4 +1,4 @@
-"""Calls that types refuse, each marked so, and calls that they don't. Nothing runs this: tests/python/test_types.py hands it to mypy."""
+"""Calls that the types refuse, each marked, and calls that they accept. tests/python/test_types.py passes this file to mypy."""
 
 from array import array
 

@@ -1,4 +1,4 @@
-"""Arrays of numpy in and out, of each type, byte order and shape."""
+"""Arrays of numpy as arguments and results, of each type, byte order and shape."""
 
 from __future__ import annotations
 
@@ -36,7 +36,10 @@ WHOLE_KINDS = ("int64", "uint64", "int32", "uint8", ">i8", ">i4", "<i2", ">u2", 
 
 
 class Numpy(unittest.TestCase):
+    """Arrays of numpy in calls."""
+
     def test_symbols_weights_and_words(self) -> None:
+        """Symbols, weights and words may have any type of whole numbers and byte order."""
         for kind in WHOLE_KINDS:
             coder, model = AnsCoder(), WeightTable(numpy.array(WEIGHTS, dtype=numpy.uint32))
             coder.encode_reverse(numpy.array(TEN, dtype=kind), model)
@@ -48,7 +51,7 @@ class Numpy(unittest.TestCase):
             found[0] = 7  # It is the caller's own.
 
     def test_one_kind_of_answers(self) -> None:
-        """The first answer is an array of numpy, although the program doesn't import numpy itself, and so are the others."""
+        """All answers are arrays of numpy, even if the program doesn't import numpy itself."""
         program = """
 import sys
 {}
@@ -67,6 +70,7 @@ print(*kinds, type(coder.decode(Uniform(3), 2)).__name__)
             self.assertEqual((ran.stdout, ran.stderr), (f"{kind} {kind} {kind}\n", ""))
 
     def test_symbols_that_begin_elsewhere(self) -> None:
+        """Symbols of a range that doesn't begin at 0 may have any type."""
         message, model = [-3, 0, 4, -9], QuantizedGaussian(-9, 9, 0.0, 3.0)
         wanted = AnsCoder()
         wanted.encode_reverse(message, model)
@@ -82,6 +86,7 @@ print(*kinds, type(coder.decode(Uniform(3), 2)).__name__)
                 AnsCoder().encode_reverse(numpy.array(wrong, dtype="int64"), model)
 
     def test_floats_are_no_symbols(self) -> None:
+        """Arrays of floats are refused as symbols."""
         family, fixed = QuantizedGaussian(-9, 9), QuantizedGaussian(-9, 9, 0.0, 3.0)
         for symbols in (numpy.array([1.9, -2.9]), numpy.array([1.0, -2.0], dtype="float32"), numpy.float64(1.0)):
             for model, given in ((fixed, ()), (family, ([0.0, 0.0], [1.0, 1.0])), (WeightTable(WEIGHTS), ())):
@@ -103,6 +108,7 @@ print(*kinds, type(coder.decode(Uniform(3), 2)).__name__)
             self.assertEqual(coder.get_compressed().tolist(), WORDS)
 
     def test_parameters(self) -> None:
+        """Parameters may have any type of numbers."""
         message, means, stds = numpy.arange(-20, 20), numpy.linspace(-9, 9, 40), numpy.linspace(1, 9, 40)
         encoder, family, fixed = RangeEncoder(), QuantizedGaussian(-50, 50), QuantizedGaussian(-50, 50, 0.0, 9.0)
         for kind in ("float64", "float32", "float16", ">f4", ">f8", "int32"):
@@ -114,7 +120,7 @@ print(*kinds, type(coder.decode(Uniform(3), 2)).__name__)
             self.assertEqual(decoder.decode(family, means.astype(kind), stds.astype(kind)).tolist(), message.tolist())
 
     def test_many_parameters(self) -> None:
-        """In parts, under each family, by all coders; and symbols of another type."""
+        """Many parameters are passed in parts, under each family, with all coders and other types of symbols."""
         dice = numpy.random.default_rng(3)
         means, stds = dice.uniform(-30, 30, 150_000), dice.uniform(0.1, 20, 150_000)
         symbols = numpy.clip(numpy.rint(dice.normal(means, stds)), -40, 40).astype("int32")
@@ -159,6 +165,7 @@ print(*kinds, type(coder.decode(Uniform(3), 2)).__name__)
             self.assertEqual(coder.get_compressed().tolist(), words)
 
     def test_refused_parameters(self) -> None:
+        """Arrays with invalid parameters, or of other lengths, are refused."""
         family, good = QuantizedGaussian(-9, 9), numpy.ones(3)
         for wrong in (numpy.nan, numpy.inf, -numpy.inf):
             for given in ((numpy.array([0.0, 1.0, wrong]), good), (good, numpy.array([0.5, wrong, 1.0]))):
@@ -172,7 +179,7 @@ print(*kinds, type(coder.decode(Uniform(3), 2)).__name__)
         self.assertRaises(TypeError, AnsCoder().decode, family, good.astype("complex128"), good)
 
     def test_floats_of_more_bits(self) -> None:
-        """They are rounded to 64 bits, and refused past these, without a warning."""
+        """Floats of more bits are rounded to 64 bits, and refused past these, without a warning."""
         long, family = numpy.longdouble, QuantizedGaussian(-9, 9)
         coder, wanted = AnsCoder(), AnsCoder()
         coder.encode_reverse([1, 2], family, numpy.array([0.1, 0.2], dtype=long), numpy.array([1.5, 2.5], dtype=long))
@@ -187,6 +194,7 @@ print(*kinds, type(coder.decode(Uniform(3), 2)).__name__)
             self.assertRaises(ValueError, call)
 
     def test_probabilities(self) -> None:
+        """Probabilities have the same weights from arrays and lists."""
         chances = numpy.array([0.1, 0.0, 0.2, 0.7])
         for kind in ("float64", "float32", "float16", ">f8"):
             given = chances.astype(kind)
@@ -195,6 +203,7 @@ print(*kinds, type(coder.decode(Uniform(3), 2)).__name__)
         self.assertEqual(list(Bernoulli(numpy.float32(0.3)).table()), list(Bernoulli(float(numpy.float32(0.3))).table()))
 
     def test_rows(self) -> None:
+        """Rows of weights and of probabilities may be arrays of two dimensions."""
         rows = numpy.tile(numpy.array(WEIGHTS, dtype=numpy.uint32), (10, 1))
         coder = AnsCoder()
         coder.encode_reverse(numpy.array(TEN), WeightTable(), rows)
@@ -205,6 +214,7 @@ print(*kinds, type(coder.decode(Uniform(3), 2)).__name__)
         self.assertEqual(coder.decode(Categorical(), chances).tolist(), TEN)
 
     def test_shapes(self) -> None:
+        """Arrays of other dimensions are refused, and an array without dimensions is a number."""
         table = numpy.zeros((2, 3), dtype="int64")
         for call in (
             lambda: AnsCoder(table), lambda: ExpGolomb().symbols(table), lambda: WeightTable(table), lambda: EncoderHuffmanTree(table),
@@ -218,6 +228,7 @@ print(*kinds, type(coder.decode(Uniform(3), 2)).__name__)
         self.assertTrue(coder.is_empty())
 
     def test_whole_weights_of_trees(self) -> None:
+        """Weights of trees may be arrays."""
         weights = [3, 2, 2000000000]
         wanted = EncoderHuffmanTree(weights)
         for given in (numpy.array(weights), [numpy.int64(it) for it in weights], numpy.array(weights, dtype="uint32")):
@@ -227,6 +238,7 @@ print(*kinds, type(coder.decode(Uniform(3), 2)).__name__)
             self.assertEqual(list(DecoderHuffmanTree(given)._weights), [3, 2, 4000000000])
 
     def test_masked_arrays(self) -> None:
+        """Masked arrays are refused everywhere."""
         masked = numpy.ma.masked_array([1, 0, 2], mask=[False, True, False])
         family, model = QuantizedGaussian(-9, 9), WeightTable(WEIGHTS)
         for call in (
@@ -237,6 +249,7 @@ print(*kinds, type(coder.decode(Uniform(3), 2)).__name__)
             self.assertRaisesRegex(TypeError, "^expected numbers, got a masked array: ", call)
 
     def test_text_is_no_number(self) -> None:
+        """Arrays of texts, objects and complex numbers are refused."""
         for wrong in (numpy.array(["1", "2"]), [numpy.str_("1"), numpy.str_("2")], numpy.array([None, 1.0]), numpy.array([1j])):
             for call in (
                 lambda: Categorical(wrong), lambda: WeightTable(wrong), lambda: AnsCoder().decode(QuantizedGaussian(-9, 9), wrong, [1.0, 2.0]),
@@ -246,6 +259,7 @@ print(*kinds, type(coder.decode(Uniform(3), 2)).__name__)
         self.assertRaises(TypeError, QuantizedGaussian, -9, 9, numpy.str_("1"), 2.0)
 
     def test_stores_in_another_byte_order(self) -> None:
+        """Words of stores in another type or byte order are refused."""
         built = Store.build([TEN, TEN[::-1]], WeightTable(WEIGHTS))
         for kind in (">u4", "int32", "float32", "uint16"):
             with self.assertRaisesRegex(TypeError, "^expected a buffer of unsigned 32-bit words "):
@@ -254,7 +268,7 @@ print(*kinds, type(coder.decode(Uniform(3), 2)).__name__)
             self.assertEqual(Store.from_parts(words, built.index, WeightTable(WEIGHTS))[1].tolist(), TEN[::-1])
 
     def test_ranges_far_off(self) -> None:
-        """Arrays of each byte order, where a range begins past what numpy shifts."""
+        """Ranges far from 0 take arrays of each byte order."""
         for least in (1 << 61, (1 << 63) - 9, -(1 << 63), (1 << 61) - 1):
             model, symbols = QuantizedGaussian(least, least + 8, float(least), 3.0), [least, least + 8, least + 2]
             wanted = AnsCoder()
@@ -268,6 +282,7 @@ print(*kinds, type(coder.decode(Uniform(3), 2)).__name__)
             self.assertRaises(TypeError, AnsCoder().encode_reverse, numpy.array([1.0]), model)
 
     def test_whole_counts(self) -> None:
+        """Whole counts from arrays aren't rounded, and sums are exact."""
         for counts in ([2**60, 2**60 + 1, 2**60], [3, 0, 5], [2**62] * 40 + [2**62 + 1]):
             for kind in ("uint64", "int64", ">u8"):
                 self.assertEqual(Categorical(numpy.array(counts, dtype=kind)).table(), Categorical(counts).table())
@@ -302,7 +317,7 @@ print("done")
             self.assertEqual((ran.stdout, ran.stderr), ("done\n", ""))
 
     def test_rows_that_are_rounded_together(self) -> None:
-        """As each alone, in several parts, and with the errors of each alone."""
+        """Rows that are rounded together have the weights and errors of single rows."""
         dice = numpy.random.default_rng(6)
         for width, count in ((1, 3), (3, 40), (300, 500)):
             rows = dice.random((count, width)) ** dice.uniform(1, 300, (count, 1)) + 1e-300
@@ -321,7 +336,7 @@ print("done")
             AnsCoder().decode(Categorical(), numpy.zeros((2, 3)))
 
     def test_rows_that_are_copied_together(self) -> None:
-        """The same as lists of rows, in several parts, without a look at each row in Python."""
+        """Rows that are copied together have the words of lists of rows."""
         dice = numpy.random.default_rng(8)
         for width, count in ((1, 3), (3, 40), (256, 700)):
             rows = dice.integers(1, 1 << 14, (count, width), dtype="int64")
@@ -345,7 +360,7 @@ print("done")
         self.assertRaises(TypeError, AnsCoder([5]).decode, WeightTable(), numpy.ones((2, 2)))
 
     def test_one_symbol(self) -> None:
-        """Numbers of numpy alone, as symbols and as parameters."""
+        """Single numbers of numpy are symbols and parameters."""
         family, coder, wanted = QuantizedGaussian(-9, 9), AnsCoder(), AnsCoder()
         for kind in (numpy.int64, numpy.int8, numpy.uint16, numpy.array):
             for mean, std in ((numpy.float32(0.5), numpy.float64(2.0)), (numpy.int32(1), numpy.array(2.5))):
@@ -366,6 +381,7 @@ print("done")
         self.assertEqual(list(pickle.loads(pickle.dumps(model)).table()), WEIGHTS)
 
     def test_answers_of_other_coders(self) -> None:
+        """The chain coder and the bit coders return arrays."""
         chain = ChainCoder(numpy.array([1, 2, 3, 4, 5, 6], dtype="uint32"))
         symbols = chain.decode(Uniform(5), 3)
         chain.encode_reverse(symbols, Uniform(5))

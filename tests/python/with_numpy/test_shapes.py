@@ -1,4 +1,4 @@
-"""Symbols, parameters and answers of any shape, by numpy's rules of broadcasting."""
+"""Symbols, parameters and results of any shape, by numpy's rules of broadcasting."""
 
 from __future__ import annotations
 
@@ -35,10 +35,13 @@ def orders(table: Any) -> list[Any]:
 
 
 class Shapes(unittest.TestCase):
+    """Arrays of any shape."""
+
     def setUp(self) -> None:
         self.dice = np.random.default_rng(5)
 
     def test_a_fixed_model(self) -> None:
+        """Symbols of any shape and order of memory have the words of their flat list."""
         model = QuantizedGaussian(-9, 9, 0.5, 3.0)
         for shape in ((2, 3), (2, 3, 4), (1, 5), (4, 1, 2), (0, 3), (7,)):
             table = self.dice.integers(-9, 10, shape)
@@ -74,6 +77,7 @@ class Shapes(unittest.TestCase):
         ]  # fmt: skip
 
     def test_parameters_of_each_symbol(self) -> None:
+        """Parameters of any shape have the words of flat lists."""
         for shape in ((2, 3), (3, 1, 2), (1, 4), (0, 2), (5,)):
             for model, symbols, given, core in self.cases(shape):
                 wanted = AnsCoder([5, 6])
@@ -90,6 +94,7 @@ class Shapes(unittest.TestCase):
                     self.assertEqual(coder, AnsCoder([5, 6]))
 
     def test_the_other_coders(self) -> None:
+        """The range coder and the chain coder return symbols of the same shape."""
         for model, symbols, given, _ in self.cases((3, 2)):
             encoder, chain = RangeEncoder(), ChainCoder(np.arange(5, 50, dtype="uint32"))
             encoder.encode(symbols, model, *given)
@@ -100,7 +105,7 @@ class Shapes(unittest.TestCase):
             self.assertEqual(chain, ChainCoder(np.arange(5, 50, dtype="uint32")))
 
     def test_axes_of_one(self) -> None:
-        """By numpy's rules: an axis of length 1, a missing axis, or a number stands for all."""
+        """An axis of length 1, a missing axis, and a number are repeated, by numpy's rules."""
         dice = random.Random(7)
         for shape in ((2, 3), (4,), (3, 2, 2)):
             for model, symbols, given, core in self.cases(shape):
@@ -122,6 +127,7 @@ class Shapes(unittest.TestCase):
                     np.testing.assert_array_equal(wanted.decode(model, *whole), symbols)
 
     def test_lists_beside_arrays(self) -> None:
+        """Lists, arrays and buffers can be mixed."""
         family, means = QuantizedGaussian(-9, 9), np.array([[0.5, 1.5], [-3.0, 2.0]])
         for stds in ([2.0, 3.0], (2.0, 3.0), array("d", [2.0, 3.0]), np.array([2.0, 3.0]), memoryview(array("d", [2.0, 3.0]))):
             coder, wanted = AnsCoder(), AnsCoder()
@@ -131,7 +137,10 @@ class Shapes(unittest.TestCase):
             self.assertEqual(coder.decode(family, means, stds).tolist(), [[1, 2], [3, 4]])
 
     def test_what_offers_an_array(self) -> None:
+        """Objects with `__array__` are arrays."""
         class Offers:
+            """An object with `__array__`."""
+
             def __init__(self, of: Any) -> None:
                 self.of = np.array(of)
                 self.shape = self.of.shape
@@ -150,7 +159,7 @@ class Shapes(unittest.TestCase):
         self.assertEqual(coder.decode(Uniform(5), amt=(2, 2)).tolist(), [[1, 2], [3, 4]])
 
     def test_types_of_answers(self) -> None:
-        """A symbol that doesn't fit is refused, and the coder is as before."""
+        """A symbol that doesn't fit its type is refused, and the coder stays unchanged."""
         family, symbols = QuantizedGaussian(-200, 300), np.array([[-3, 7], [100, 0]])
         for kind in ("int8", "int16", ">i4", np.int64, np.dtype("int32")):
             for coder in (AnsCoder(), RangeEncoder()):
@@ -189,7 +198,7 @@ class Shapes(unittest.TestCase):
         self.assertEqual(coder.decode(Uniform(256), 4, out=own).tolist(), [1, 255, 0, 7])
 
     def test_refusals_of_the_callers_own_array(self) -> None:
-        """Neither the array nor the coder changes."""
+        """A wrong array of the caller is refused, and neither the array nor the coder changes."""
         still = np.zeros(3, dtype="int64")
         still.flags.writeable = False
         for kind, message, out, more in (
@@ -239,6 +248,7 @@ class Shapes(unittest.TestCase):
 
     @unittest.skipUnless(find_spec("torch"), "Debian's python3-torch isn't there")
     def test_torch(self) -> None:
+        """Tensors of torch are arrays."""
         torch: Any = import_module("torch")
         family, symbols = QuantizedGaussian(-9, 9), torch.tensor([[1, -2, 3], [4, 0, 9]])
         means, stds, coder = torch.tensor([[1.5, -2.0, 2.5], [3.0, 0.5, 8.0]]), torch.tensor(2.0), AnsCoder()
@@ -255,6 +265,7 @@ class Shapes(unittest.TestCase):
         self.assertEqual(Categorical(torch.tensor([0.25, 0.5, 0.25])).table(), Categorical([0.25, 0.5, 0.25]).table())
 
     def test_refusals(self) -> None:
+        """Shapes that don't fit are refused, and the coder stays unchanged."""
         family, zeros, ones = QuantizedGaussian(-9, 9), np.zeros((2, 3)), np.ones((2, 3))
         words = "operands could not be broadcast together with shapes"
         mixture, symbols = QuantizedMixture(family), np.zeros((2, 3), dtype="int64")

@@ -1,5 +1,5 @@
-"""Calls as programs write them that were made for the Rust crate's package: its names, int32 symbols and float32
-parameters in, numpy's arrays out. What words there are is compared with the definitions in whole numbers."""
+"""Calls of programs for the Rust crate's package, with its names, int32 symbols and float32 parameters. Results are arrays of
+numpy. Words are compared with the definitions in whole numbers."""
 
 from __future__ import annotations
 
@@ -40,7 +40,7 @@ def floats(*given: float) -> Any:
 
 
 class Readings(unittest.TestCase):
-    """A thermometer's changes from hour to hour, in tenths of a degree, and what a forecast says of each."""
+    """A thermometer's hourly changes, in tenths of a degree, and a forecast of each."""
 
     changes = symbols(-14, 3, 22, 31, 8, -5, -27, -40, 2, 0, 0, 19)
     guesses = floats(-11.5, 0.25, 24.0, 28.75, 10.5, -8.0, -22.5, -36.0, 0.0, 1.5, -0.5, 16.0)
@@ -51,6 +51,7 @@ class Readings(unittest.TestCase):
         return [models.table_of(models.GAUSSIAN, guess, doubt, least, greatest) for guess, doubt in pairs]
 
     def test_a_fixed_gaussian(self) -> None:
+        """Symbols under one Gaussian have the words of the definitions."""
         gaussian, count = model.QuantizedGaussian(-64, 63, 1.5, 17.25), len(self.changes)
         rows = [models.table_of(models.GAUSSIAN, 1.5, 17.25, -64, 63)] * count
         places = [int(it) + 64 for it in self.changes]
@@ -65,6 +66,7 @@ class Readings(unittest.TestCase):
             self.assertEqual((found.dtype, found.tolist()), (np.int64, self.changes.tolist()))
 
     def test_a_gaussian_for_each(self) -> None:
+        """Symbols with a Gaussian each have the words of the definitions."""
         family, rows, places = (
             model.QuantizedGaussian(-64, 63),
             self.rows(-64, 63),
@@ -79,7 +81,7 @@ class Readings(unittest.TestCase):
             np.testing.assert_array_equal(decoder.decode(family, self.guesses, self.doubts), self.changes)
 
     def test_lists_under_several_models(self) -> None:
-        """A queue gives them back in order; onto a stack the last one goes first."""
+        """A queue returns the symbols in order. The last one is encoded onto a stack first."""
         kinds, family = symbols(2, 0, 1, 2, 2), model.QuantizedGaussian(-64, 63)
         shares = model.Categorical(floats(0.15, 0.25, 0.6), perfect=False)
         fair = model.Bernoulli(0.3125, perfect=False)
@@ -96,7 +98,7 @@ class Readings(unittest.TestCase):
         self.assertTrue(top.is_empty() and reader.maybe_exhausted())
 
     def test_a_model_from_the_symbols_before(self) -> None:
-        """Each change is guessed from the one before, so both ends make a model a symbol."""
+        """Each change is guessed from the one before, so both sides make a model for each symbol."""
         before = [0, *self.changes[:-1].tolist()]
         for make in (
             lambda it: (model.QuantizedLaplace(-64, 63, 0.5 * it, 9.5), ()),
@@ -122,6 +124,7 @@ class Readings(unittest.TestCase):
                 self.assertEqual(found[1:], self.changes.tolist())
 
     def test_places_that_are_gone_back_to(self) -> None:
+        """Seeks return to recorded positions."""
         shares, days = model.Categorical(floats(5.0, 2.0, 1.0), lazy=True), [
             symbols(0, 0, 2),
             symbols(1, 0, 1, 1),
@@ -143,7 +146,7 @@ class Readings(unittest.TestCase):
         np.testing.assert_array_equal(coder.decode(shares, 3), days[0])
 
     def test_words_as_symbols_and_back(self) -> None:
-        """Words from elsewhere are read as symbols; once these are put back, so are the words."""
+        """Any words decode to symbols, and encoding the symbols restores the words."""
         words = np.array([3141592653, 0, 2718281828, 1618033988, 0], dtype=np.uint32)
         family = model.QuantizedGaussian(-64, 63)
         coder = stack.AnsCoder(words, seal=True)
@@ -154,7 +157,7 @@ class Readings(unittest.TestCase):
             np.testing.assert_array_equal(kept, words)
 
     def test_symbols_that_another_model_leaves_alone(self) -> None:
-        """Of the chain coder: the second and third symbol are what they were under whatever first row."""
+        """The chain coder's second and third symbols don't depend on the first row."""
         words, free = np.array([99, 2718281828, 1414213562, 577215664], dtype=np.uint32), model.Categorical(
             perfect=False
         )
@@ -173,7 +176,7 @@ class Readings(unittest.TestCase):
         np.testing.assert_array_equal(np.concatenate(again.get_data(unseal=True)), words)
 
     def test_functions_of_the_caller(self) -> None:
-        """With parameters or without; by a function, or by what has one as ``scipy.stats`` has."""
+        """Models of the caller's functions, with or without parameters, or of objects such as those of ``scipy.stats``."""
 
         class Gumbel:
             def cdf(self, x: float, loc: float = 0.0, scale: float = 1.0) -> Any:
@@ -190,6 +193,7 @@ class Readings(unittest.TestCase):
                     np.testing.assert_array_equal(found, self.changes)
 
     def test_each_model(self) -> None:
+        """Symbols under each model come back."""
         some, fifths = symbols(2, 0, 1, 2), floats(0.125, 0.75, 0.5, 0.25)
         shares = np.array([[1, 2, 4], [4, 2, 1], [1, 1, 1], [3, 1, 9]], dtype=np.float32)
         cases: list[tuple[Any, tuple[Any, ...]]] = [
@@ -219,6 +223,7 @@ class Readings(unittest.TestCase):
             np.testing.assert_array_equal(np.concatenate(split.get_data()), words)
 
     def test_codewords(self) -> None:
+        """Codewords come back."""
         shares, letters = floats(0.05, 0.45, 0.2, 0.3), [3, 1, 1, 0, 2, 1, 3, 3, 1]
         writing, reading = (
             constriction.symbol.huffman.EncoderHuffmanTree(shares), constriction.symbol.huffman.DecoderHuffmanTree(shares),
@@ -236,8 +241,7 @@ class Readings(unittest.TestCase):
             self.assertEqual((decoder.decode_symbol(reading), top.decode_symbol(reading)), (letter, letter))
 
     def test_weights_that_are_taken_along(self) -> None:
-        """The script of python/README.md, which is for the original package, writes a model's weights out by the
-        calls that both have."""
+        """The script of python/README.md for the original package writes weights by calls of both packages."""
         page = (Path(__file__).resolve().parents[3] / "python/README.md").read_text()
         script = next(it for it in re.findall(r"```python\n(.*?)```", page, re.DOTALL) if "weights.json" in it)
         self.assertLessEqual(len(script.splitlines()), 11)

@@ -1,4 +1,4 @@
-"""Coders as wholes, as tests/python/test_whole.py has them, with arrays of numpy in and out."""
+"""Coders as wholes, as in tests/python/test_whole.py, with arrays of numpy."""
 
 from __future__ import annotations
 
@@ -26,7 +26,10 @@ def table(numbers: Any) -> Any:
 
 
 class WithNumpy(unittest.TestCase):
+    """The random calls, with numpy."""
+
     def test_random_calls(self) -> None:
+        """Random calls with arrays."""
         whole = of.Whole("test_random_calls")
         whole.setUp()
         self.addCleanup(whole.doCleanups)

@@ -1,3 +1,3 @@
-"""Stands before numpy on the path of the tests that want answers as ``array.array``s."""
+"""Precedes numpy on the path of tests that expect answers as ``array.array``s."""
 
 raise ImportError("numpy is hidden from these tests")
