@@ -9,6 +9,7 @@ import sys
 from collections.abc import Iterable
 from fractions import Fraction
 from functools import lru_cache
+from itertools import accumulate
 from pathlib import Path
 
 sys.path.insert(0, str(Path(__file__).resolve().parents[2] / "tools"))
@@ -104,9 +105,10 @@ def quick_counts(numbers: Iterable[float]) -> list[int]:
     if all(isinstance(it, int) for it in given) and max(given) < 2**32 and sum(given) < 2**40:
         return [int(it) for it in given]
     exact, unit = [Fraction(it) for it in given], Fraction(1)
-    while max(exact) * unit >= 2**31:
+    greatest = max(exact)
+    while greatest * unit >= 2**31:
         unit /= 2
-    while max(exact) * unit < 2**30:
+    while greatest * unit < 2**30:
         unit *= 2
     counts = [round(it * unit) for it in exact]
     total = Fraction(sum(counts))
@@ -119,7 +121,12 @@ def quick_counts(numbers: Iterable[float]) -> list[int]:
 
 def quick_weights(numbers: Iterable[float], precision: int = 24) -> list[int]:
     """The weights that probabilities stand for with ``perfect=False``."""
-    starts = starts_of_counts(quick_counts(numbers), precision)
+    return weights_of_row(quick_counts(numbers), precision)
+
+
+def weights_of_row(counts: list[int], precision: int = 24) -> list[int]:
+    """Returns the weights of a row of counts."""
+    starts = starts_of_counts(counts, precision)
     return [end - start for start, end in zip(starts, starts[1:])]
 
 
@@ -127,7 +134,7 @@ def starts_of_counts(counts: list[int], precision: int = 24) -> list[int]:
     """Where the symbols of a row of counts begin, and where the last one ends: each symbol has one quantile, and the
     counts share the others, as exact fractions rounded down."""
     spare, total = 2**precision - len(counts), sum(counts)
-    return [int(Fraction(sum(counts[:k]), total) * spare) + k for k in range(len(counts) + 1)]
+    return [int(Fraction(before, total) * spare) + k for k, before in enumerate(accumulate(counts, initial=0))]
 
 
 def weights_of(probabilities: Iterable[float]) -> list[int]:
