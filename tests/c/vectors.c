@@ -2,7 +2,7 @@
    The only argument is that file's path. Cases of the kinds `values` and `uniform` have no C function. */
 #include "world.h"
 
-enum { VALUES = 64, LINES = 12, KINDS = 9 };
+enum { VALUES = 300, LINES = 12, KINDS = 10 };
 
 /* A line has a name, and then numbers or a text. A negative number is stored modulo 2^64. */
 struct line {
@@ -203,6 +203,25 @@ static void counts(void) {
     CHECK("counts: weights", are(words, from->count, of("weights")));
 }
 
+/* The head in which a symbol ends up, from this head, tells the start and the weight of the symbol's interval. */
+static void row(void) {
+    const struct line *from = of("counts");
+    size_t count = from->count;
+    for (size_t i = 0; i < count; i++) given.row[i] = (uint32_t)from->values[i];
+    CHECK("row: a weight for each count", count == given.weight_count);
+    for (size_t symbol = 0; symbol < count; symbol++) {
+        state head = ((state)1 << (BITS + 3)) + 12345, wanted = head;
+        size_t one = 0, other_one = 0, decoded = count;
+        CHECK("row: encode", !C(ans_encode_counts_reverse)(&head, words, VALUES, &one, given.row, count, count, &symbol,
+            1, &needed));
+        CHECK("row: encode under the weights", !C(ans_encode_reverse)(&wanted, other, VALUES, &other_one, TABLE, &symbol,
+            1, &needed));
+        CHECK("row: the same", head == wanted && one == other_one && !memcmp(words, other, one * sizeof(word)));
+        CHECK("row: decode", !C(ans_decode_counts)(&head, words, one, &one, given.row, count, count, &decoded, 1)
+            && decoded == symbol);
+    }
+}
+
 static void golomb(void) {
     word numbers[VALUES];
     size_t count = put_words(numbers, of("numbers"));
@@ -240,7 +259,7 @@ static struct {
 } kinds[KINDS] = {
     {"ans-encode", ans_encode, 0}, {"ans-decode", ans_decode, 0}, {"range", range, 0}, {"chain", chain, 0}, {"store",
         store, 0},
-    {"starts", starts, 0}, {"counts", counts, 0}, {"golomb", golomb, 0}, {"huffman", huffman, 0},
+    {"starts", starts, 0}, {"counts", counts, 0}, {"row", row, 0}, {"golomb", golomb, 0}, {"huffman", huffman, 0},
 };
 
 /* Runs the case, if it has this size, and empties it. */

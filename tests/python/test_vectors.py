@@ -14,7 +14,8 @@ from pathlib import Path
 from typing import Any
 
 from constriction import _library
-from constriction.stream.model import Uniform
+from constriction._sizes import LARGE, SMALL
+from constriction.stream.model import Categorical, Uniform
 
 TOP = Path(__file__).resolve().parents[2]
 PROGRAM = Path(os.environ.get("CONSTRICTION_PROGRAM", TOP / "crates/constriction_cli/out/constriction_cli"))
@@ -218,6 +219,11 @@ def counts(test: unittest.TestCase, size: Size, case: dict[str, list[Any]]) -> N
     test.assertEqual(weights[:length], case["weights"])
 
 
+def row(test: unittest.TestCase, size: Size, case: dict[str, list[Any]]) -> None:
+    model = Categorical(case["counts"], perfect=False).at(LARGE if size.word is c_uint32 else SMALL)
+    test.assertEqual(list(model.table()), case["weights"])
+
+
 def uniform(test: unittest.TestCase, size: Size, case: dict[str, list[Any]]) -> None:
     if size.word is c_uint32:
         test.assertEqual(list(Uniform(*case["count"]).table()), case["weights"])
@@ -244,7 +250,7 @@ def codewords(test: unittest.TestCase, size: Size, case: dict[str, list[Any]]) -
 
 RUN = {
     "ans-encode": ans_encode, "ans-decode": ans_decode, "range": range_coder, "chain": chain, "store": store,
-    "starts": starts, "counts": counts, "uniform": uniform, "golomb": codewords, "huffman": codewords,
+    "starts": starts, "counts": counts, "row": row, "uniform": uniform, "golomb": codewords, "huffman": codewords,
 }  # fmt: skip
 
 
@@ -300,7 +306,7 @@ class OfTheProgram(unittest.TestCase):
     def test_program(self) -> None:
         """Each case of the program's size and commands."""
         for case in cases():
-            is_of_program = not {"family", "width"} & case.keys() and case["case"][0] not in ("counts", "uniform")
+            is_of_program = not {"family", "width"} & case.keys() and case["case"][0] not in ("counts", "row", "uniform")
             if case["bits"][0] == 32 and is_of_program:
                 command, lines, answer = asked(case)
                 ran = subprocess.run([PROGRAM, command], input="\n".join(lines) + "\n", capture_output=True, text=True)
