@@ -17,7 +17,7 @@ from constriction.stream.model import Categorical
 from constriction.stream.queue import RangeDecoder, RangeEncoder
 from picture import draw
 
-LETTERS, COUNT = "abdegiklmnorstu. ", 6000
+LETTERS, COUNT, MODEL = "abdegiklmnorstu. ", 6000, Categorical(perfect=False)
 
 
 def made_up_text(count: int) -> str:
@@ -37,8 +37,8 @@ class Counts:
         self.rows = [[1] * len(LETTERS) for _ in LETTERS]
         self.before = LETTERS.index(" ")
 
-    def model(self) -> Categorical:
-        return Categorical(self.rows[self.before])
+    def row(self) -> list[int]:
+        return self.rows[self.before]
 
     def learn(self, letter: int) -> None:
         self.rows[self.before][letter] += 8
@@ -57,12 +57,12 @@ def main(arguments: list[str]) -> None:
     letters = [LETTERS.index(it) for it in made_up_text(COUNT)]
     encoder, counts, bits = RangeEncoder(), Counts(), []
     for letter in letters:
-        encoder.encode(letter, counts.model())
+        encoder.encode(letter, MODEL, counts.row())
         counts.learn(letter)
         bits.append(encoder.num_bits())
     decoder, counts = RangeDecoder(encoder.get_compressed()), Counts()
     for letter in letters:
-        assert decoder.decode(counts.model()) == letter
+        assert decoder.decode(MODEL, counts.row()) == letter
         counts.learn(letter)
     data, size, bound = bytes(letters), bits[-1], entropy(letters)
     others = [len(it(data)) * 8 for it in (zlib.compress, bz2.compress, lzma.compress)]
