@@ -89,7 +89,9 @@ class Lists:
         lead = byref(writes), *given(self.buffer), byref(self.length), *self.weights
         begin = bound("range_from_compressed", *given(np.array(words)), byref(reads))
         encode = bound(f"range_encode{self.form}", *lead, *given(self.symbols), self.needed)
-        decode = bound(f"range_decode{self.form}", byref(reads), *given(np.array(words)), *self.weights, *given(self.found))
+        decode = bound(
+            f"range_decode{self.form}", byref(reads), *given(np.array(words)), *self.weights, *given(self.found)
+        )
 
         def c_encode() -> None:
             call("range_encoder_u32", byref(writes))

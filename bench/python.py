@@ -1,25 +1,26 @@
 #!/usr/bin/env python3
 """usage: PYTHONPATH=python bench/python.py [PART_OF_A_NAME]
 
-Prints nanoseconds per symbol of encodes and decodes from Python: lines `name ns_per_symbol`, each the least of several runs.
-With PART_OF_A_NAME, it runs only the cases with this text in their name.
+Prints nanoseconds per symbol of encodes and decodes from Python: lines `name ns_per_symbol`, each the least of several
+runs. With PART_OF_A_NAME, it runs only the cases with this text in their name.
 
 The million symbols and their weights are those of bench/driver, so the times are comparable with its lines, such as
-`ans_encode_u32u64p24_table`. Symbols are in array('Q') (`array`), in numpy arrays if numpy can be imported (`numpy`), or in
-a list (`list`). An encode begins with a new coder and ends with its words as an array. A decode begins with such words. The
-model exists before a case begins. Cases of `gaussian` have a mean and a deviation for each symbol of -100 .. 100, as in
-bench/models.c. In their cases of `array`, the package can't import numpy, and all values are in array('d') and array('q').
+`ans_encode_u32u64p24_table`. Symbols are in array('Q') (`array`), in numpy arrays if numpy can be imported (`numpy`),
+or in a list (`list`). An encode begins with a new coder and ends with its words as an array. A decode begins with such
+words. The model exists before a case begins. Cases of `gaussian` have a mean and a deviation for each symbol of -100 ..
+100, as in bench/models.c. In their cases of `array`, the package can't import numpy, and all values are in array('d')
+and array('q').
 
-Cases of `one` code one symbol per call, 20,000 times, in nanoseconds per call: `table` with a fixed model of 256 symbols,
-`gaussian` with a mean and a deviation of its own over -100 .. 100, `row` with a row of 16 weights. With numpy, `numpy256` has a
-row of 256 probabilities, `slice` has a mean and a deviation as slices with one number, and `mixture` has five logistic
-distributions over -100 .. 100. `bare` only calls the C function ans_decode for one symbol with three weights, by ctypes, with
-arguments that exist before.
+Cases of `one` code one symbol per call, 20,000 times, in nanoseconds per call: `table` with a fixed model of 256
+symbols, `gaussian` with a mean and a deviation of its own over -100 .. 100, `row` with a row of 16 weights. With numpy,
+`numpy256` has a row of 256 probabilities, `slice` has a mean and a deviation as slices with one number, and `mixture`
+has five logistic distributions over -100 .. 100. `bare` only calls the C function ans_decode for one symbol with three
+weights, by ctypes, with arguments that exist before.
 
 Cases of `mixture` have five logistic distributions for each of 100,000 symbols of -128 .. 127, in numpy arrays.
 
-Cases of `_categorical_` make a model of the named number of probabilities, in nanoseconds per model, and encode a symbol with
-each row of 256 probabilities, in nanoseconds per symbol.
+Cases of `_categorical_` make a model of the named number of probabilities, in nanoseconds per model, and encode a
+symbol with each row of 256 probabilities, in nanoseconds per symbol.
 """
 
 from __future__ import annotations
@@ -37,6 +38,7 @@ from unittest import mock
 
 from constriction._library import plain_function
 from constriction.stream.chain import ChainCoder
+
 from constriction.stream.model import (
     Categorical, Model, QuantizedGaussian, QuantizedLogistic, QuantizedMixture, WeightTable,
 )  # fmt: skip
@@ -148,8 +150,14 @@ def mixture_cases(numpy: Any) -> list[Case]:
     words = encoded(symbols, model, "range", weights, means, scales)
     assert (RangeDecoder(words).decode(model, weights, means, scales) == symbols).all()
     return [
-        ("python_range_encode_u32u64p24_mixture_numpy", lambda: encoded(symbols, model, "range", weights, means, scales)),
-        ("python_range_decode_u32u64p24_mixture_numpy", lambda: RangeDecoder(words).decode(model, weights, means, scales)),
+        (
+            "python_range_encode_u32u64p24_mixture_numpy",
+            lambda: encoded(symbols, model, "range", weights, means, scales),
+        ),
+        (
+            "python_range_decode_u32u64p24_mixture_numpy",
+            lambda: RangeDecoder(words).decode(model, weights, means, scales),
+        ),
     ]
 
 

@@ -31,7 +31,10 @@ def is_apart(one, other):
 
 
 def bring_up_to_date(kit, crates):
-    """Runs `rt lib` for the libraries below some crates, if it built them. Libraries of the gate have no stamp of `rt lib`."""
+    """Runs `rt lib` for the libraries below some crates, if it built them.
+
+    Libraries of the gate have no stamp of `rt lib`.
+    """
     for crate in dict.fromkeys(it for crate in crates for it in crate.below()):
         if os.path.exists(f"{crate.folder}/out/rlib/stamp"):
             ran = Ran([f"{kit.kit}/bin/rt", "lib"], crate.folder)
@@ -70,8 +73,12 @@ class AloneTrial:
         """Writes the output of a check to the folder for logs, if there is one."""
         if self.logs:
             os.makedirs(self.logs, exist_ok=True)
-            with open(f"{self.logs}/{self.crate}-{batch[0].function}-{len(batch)}-{id(batch)}.log", "w", encoding="utf-8") as out:
-                out.write("\n".join([f"seconds: {ran.seconds:.1f}", *("edit: " + it.name for it in batch), *ran.lines, ""]))
+            with open(
+                f"{self.logs}/{self.crate}-{batch[0].function}-{len(batch)}-{id(batch)}.log", "w", encoding="utf-8"
+            ) as out:
+                out.write(
+                    "\n".join([f"seconds: {ran.seconds:.1f}", *("edit: " + it.name for it in batch), *ran.lines, ""])
+                )
 
 
 def judge(edit, found, ran):

@@ -21,14 +21,22 @@ class Ran:
 
     def __init__(self, words, folder):
         """Runs the check in a folder."""
-        how = {"stdin": subprocess.DEVNULL, "stdout": subprocess.PIPE, "stderr": subprocess.STDOUT, "text": True, "errors": "replace"}
+        how = {
+            "stdin": subprocess.DEVNULL,
+            "stdout": subprocess.PIPE,
+            "stderr": subprocess.STDOUT,
+            "text": True,
+            "errors": "replace",
+        }
         with subprocess.Popen(words, cwd=folder, **how) as running:
             self.lines = running.stdout.read().rstrip("\n").split("\n")
             _, status, used = os.wait4(running.pid, 0)
             running.returncode = os.waitstatus_to_exitcode(status)
         self.seconds = used.ru_utime + used.ru_stime
         # The last line of a check of some functions alone has their number, and how many are proved.
-        is_refused = any(it.startswith("logic=not-proved") for it in self.lines) or bool(ONLY.fullmatch(self.lines[-1]) and running.returncode == 1)
+        is_refused = any(it.startswith("logic=not-proved") for it in self.lines) or bool(
+            ONLY.fullmatch(self.lines[-1]) and running.returncode == 1
+        )
         self.verdict = "refused" if is_refused else "" if running.returncode else "proved"
 
     def first_error(self):
@@ -43,7 +51,10 @@ class Blame:
         self.path, self.is_own, self.why = name.split("::")[1:], is_own, why  # the path is relative to the crate
 
     def is_of(self, functions):
-        """Returns whether this blames a function of these names, or a closure in one. Its path goes on after a word `fn`."""
+        """Returns whether this blames a function of these names, or a closure in one.
+
+        Its path goes on after a word `fn`.
+        """
         names = self.path[self.path.index("fn") :] if "fn" in self.path else self.path[-1:]
         return not functions.isdisjoint(names)
 
@@ -54,8 +65,8 @@ class Blame:
 def blames(lines):
     """Returns a blame for each unproved function.
 
-    A function is blamed itself if the lines above it or its own line name an open goal, or if its proof file has an error. A
-    call of a refused function doesn't count, nor does a text that is unknown here.
+    A function is blamed itself if the lines above it or its own line name an open goal, or if its proof file has an
+    error. A call of a refused function doesn't count, nor does a text that is unknown here.
     """
     lines = "\n".join(lines).replace("\n  has no ", " has no ").split("\n")  # a long error continues in the next line
     found, goals = [], []
@@ -77,14 +88,20 @@ def blame_of_members(name, members, lines):
     The impl is blamed itself unless the errors are about names that the edit removed.
     """
     errors = [it.partition(": error: ")[2] for it in lines if it.startswith("src/") and ": error: " in it]
-    telling = [it for it in errors if not VANISHED.search(it) and it.startswith(tuple(f"`{member}`" for member in members))]
-    return Blame(name, bool(telling), "member " + ", ".join(it.removesuffix("-value").removesuffix("-tells") for it in members))
+    telling = [
+        it for it in errors if not VANISHED.search(it) and it.startswith(tuple(f"`{member}`" for member in members))
+    ]
+    return Blame(
+        name, bool(telling), "member " + ", ".join(it.removesuffix("-value").removesuffix("-tells") for it in members)
+    )
 
 
 def blame_of(name, why, goals, lines):
     """Returns the blame of an unproved function, or nothing for a proved one."""
     proof = "proofs/" + "/".join(name.split("::")[1:]) + "/"
-    errors = [it.partition(": error: ")[2] for it in lines if it.startswith((proof, "./" + proof)) and ": error: " in it]
+    errors = [
+        it.partition(": error: ")[2] for it in lines if it.startswith((proof, "./" + proof)) and ": error: " in it
+    ]
     telling = [it for it in errors if not VANISHED.search(it)]
     if goals:
         return [Blame(name, True, "goal " + ", ".join(dict.fromkeys(goals)))]

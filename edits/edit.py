@@ -32,11 +32,13 @@ class BadEdit(ValueError):
 
 
 class Edit:
-    """A block of `edits/PATH.edits`: the functions that it changes in `src/PATH.rt`, and the changed span of each file with its new text.
+    """A block of `edits/PATH.edits`: the functions that it changes in `src/PATH.rt`, and the changed span of each file
+    with its new text.
 
-    If the edit changes something that a function of `src/PATH.rt` returns, such as a static of another file, the prover has
-    to refuse that function. A ghost member counts as a function. `is_apart` is true if the edit changes a text outside of
-    functions, such as an impl's header, a ghost member or a definition. Then the checker has no line about this edit alone.
+    If the edit changes something that a function of `src/PATH.rt` returns, such as a static of another file, the prover
+    has to refuse that function. A ghost member counts as a function. `is_apart` is true if the edit changes a text
+    outside of functions, such as an impl's header, a ghost member or a definition. Then the checker has no line about
+    this edit alone.
     """
 
     def __init__(self, crate_folder, path, lines):
@@ -45,16 +47,25 @@ class Edit:
         self.folder, self.path, self.lines = crate_folder, path, lines[1:]
         self.name = f"{path} {lines[0].removeprefix('## ')}"
         if not heading:
-            raise BadEdit(f"{self.name}: a heading is '## FUNCTION: WHAT IS WRONG', or '## FUNCTION, harmless: WHAT IT CHANGES'")
+            raise BadEdit(
+                f"{self.name}: a heading is '## FUNCTION: WHAT IS WRONG', or '## FUNCTION, harmless: WHAT IT CHANGES'"
+            )
         self.function, self.is_harmless = heading[1], bool(heading[2])
         self.functions, self.spans, self.is_apart = set(), {}, False
-        self.said, self.is_settled = "", False  # the last check's output on the edit, and whether another check is useless
+        self.said, self.is_settled = (
+            "",
+            False,
+        )  # the last check's output on the edit, and whether another check is useless
         for file, text in self.edited_texts().items():
             self.spans[file] = difference(read(f"{crate_folder}/{file}"), text)
-        if f"src/{path}.rt" not in self.spans and re.search(rf"\bfn {self.function}\b", read(f"{crate_folder}/src/{path}.rt")):
+        if f"src/{path}.rt" not in self.spans and re.search(
+            rf"\bfn {self.function}\b", read(f"{crate_folder}/src/{path}.rt")
+        ):
             self.functions.add(self.function)
         if self.function not in self.functions:
-            raise BadEdit(f"{self.name}: its heading must begin with a function or ghost member that it changes: {', '.join(sorted(self.functions))}")
+            raise BadEdit(
+                f"{self.name}: its heading must begin with a function or ghost member that it changes: {', '.join(sorted(self.functions))}"
+            )
 
     def edited_texts(self):
         """Returns the texts of the changed files, after all pairs of lines."""
@@ -83,7 +94,9 @@ class Edit:
         if len(starts) > 1:  # then the text has to be in the heading's function once
             starts = [it for it in starts if function_at(lines, text[:it].count("\n")) == self.function]
         if len(starts) != 1:
-            raise BadEdit(f"{self.name}: an 'old:' text is in {file} {text.count(old) if old else 0} times, but has to be once in it or in the function")
+            raise BadEdit(
+                f"{self.name}: an 'old:' text is in {file} {text.count(old) if old else 0} times, but has to be once in it or in the function"
+            )
         number = text[: starts[0]].count("\n")
         function = function_at(lines, number) if file.startswith("src/") else ""
         member = MEMBER.match(lines[number])
@@ -121,7 +134,10 @@ def edits_of(folder):
 
 
 def blocks(text):
-    """Returns the lines of each block of a file of edits. A block begins with its heading, except lines above the first one."""
+    """Returns the lines of each block of a file of edits.
+
+    A block begins with its heading, except lines above the first one.
+    """
     found = []
     for line in text.rstrip("\n").split("\n"):
         if line.startswith("#") or not found:
@@ -147,7 +163,10 @@ def shared(one, other):
 
 
 def apply(edits, crate_folder):
-    """Writes the edited texts into a copy of the crate. A file's last span is written first, so other places stay valid."""
+    """Writes the edited texts into a copy of the crate.
+
+    A file's last span is written first, so other places stay valid.
+    """
     for file, (start, end, new) in sorted((it for edit in edits for it in edit.spans.items()), reverse=True):
         text = read(f"{crate_folder}/{file}")
         os.unlink(f"{crate_folder}/{file}")  # it may be a link

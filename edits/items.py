@@ -6,7 +6,9 @@ import re
 
 from layout import said, without_comments
 
-BEGINS = re.compile(r"#\[|(?:pub|ghost|fn|final|const|type|impl|trait|struct|enum|union|static|mod|use|unsafe|extern)\b")
+BEGINS = re.compile(
+    r"#\[|(?:pub|ghost|fn|final|const|type|impl|trait|struct|enum|union|static|mod|use|unsafe|extern)\b"
+)
 NAMED = re.compile(r"\b(fn|struct|enum|union|static|type|mod|trait|const|ghost) (?!fn\b|unsafe\b)(\w+)")
 USES = re.compile(r"(?:pub(?:\([^)]*\))? |ghost )*use\b")
 HOLDS_MEMBERS = re.compile(r"(?:pub(?:\([^)]*\))? |unsafe )*(?:impl|trait)\b")
@@ -21,7 +23,10 @@ Item = collections.namedtuple("Item", "head kind name text")
 
 @functools.lru_cache(maxsize=None)
 def items(text):
-    """Returns the items of a source, without imports. An impl or trait is only its header, and its members are own items."""
+    """Returns the items of a source, without imports.
+
+    An impl or trait is only its header, and its members are own items.
+    """
     found = []
     for line, lines in parts(without_comments(text).split("\n"), ""):
         if HOLDS_MEMBERS.match(line):
@@ -41,7 +46,10 @@ def item(head, line, lines):
 
 
 def parts(lines, indent):
-    """Returns the parts of a source at this indentation. Each has an item's first line, and all its lines with attributes."""
+    """Returns the parts of a source at this indentation.
+
+    Each has an item's first line, and all its lines with attributes.
+    """
     found, is_named = [], True
     for line in lines:
         begins = line.startswith(indent) and BEGINS.match(line[len(indent) :])
@@ -63,7 +71,8 @@ def header_and_body(lines):
 
 @functools.lru_cache(maxsize=None)
 def implemented(head):
-    """Returns the trait and the type of an impl's header, without text in angle brackets. An impl without a trait has ''.
+    """Returns the trait and the type of an impl's header, without text in angle brackets. An impl without a trait has
+    ''.
 
     For the header of a trait, returns its name and ''.
     """

@@ -58,10 +58,13 @@ def is_layout(before, gap, after):
 def said_by_definitions(text):
     """Returns the parts of a file of specs/, without comments and imports.
 
-    A part begins after an empty line with a line without indent. A line that is indented more than the fields of a record
-    continues the line before it.
+    A part begins after an empty line with a line without indent. A line that is indented more than the fields of a
+    record continues the line before it.
     """
-    parts = [[it for it in part.split("\n") if it.strip() and not UNSAID.match(it)] for part in re.split(r"\n\s*\n(?=\S)", text)]
+    parts = [
+        [it for it in part.split("\n") if it.strip() and not UNSAID.match(it)]
+        for part in re.split(r"\n\s*\n(?=\S)", text)
+    ]
     return [re.sub(r"\n {3,}", " ", "\n".join(map(in_one_space, it))) for it in parts if it]
 
 

@@ -24,13 +24,22 @@ PART = re.compile(r"'\w+|&mut\b|&|\[|\w+")
 def functions(crate_folder):
     """Returns the functions of a crate that have a body, each with its file."""
     files = [it for it in files_below(f"{crate_folder}/src") if it.endswith(".rt")]
-    return [(file, it) for file in files for it in items(without_comments(read(file))) if it.kind == "fn" and it.text.endswith("}")]
+    return [
+        (file, it)
+        for file in files
+        for it in items(without_comments(read(file)))
+        if it.kind == "fn" and it.text.endswith("}")
+    ]
 
 
 @functools.lru_cache(maxsize=None)
 def modules(crate_folder):
     """Returns the names of a crate's modules."""
-    return {part.removesuffix(".rt") for file in files_below(f"{crate_folder}/src") for part in file[len(crate_folder) + 5 :].split("/")}
+    return {
+        part.removesuffix(".rt")
+        for file in files_below(f"{crate_folder}/src")
+        for part in file[len(crate_folder) + 5 :].split("/")
+    }
 
 
 def name_of(crate_folder, path, function):

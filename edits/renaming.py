@@ -33,8 +33,8 @@ def declared_by_trait(text):
 def stand_ins(traits):
     """Returns a replacement for each trait and each of its ghost members, by name, for traits outside of the texts.
 
-    A trait's replacement has its methods, and a member's also has its place in the trait. A trait without methods has an
-    empty replacement.
+    A trait's replacement has its methods, and a member's also has its place in the trait. A trait without methods has
+    an empty replacement.
     """
     found, members = {}, collections.defaultdict(list)
     for name, text in traits.items():
@@ -48,15 +48,17 @@ def stand_ins(traits):
 def without_names(texts, names, others):
     """Returns texts in an order that no renaming changes, with places for names.
 
-    The place of a name's first use replaces the name. The other names get their replacements, or such places if these are
-    empty.
+    The place of a name's first use replaces the name. The other names get their replacements, or such places if these
+    are empty.
     """
     names = names | {it for it in others if not others[it]}
     texts = [replaced(text, others.keys() - names, others.get) for text in texts]
     alike, places, found = collections.defaultdict(list), {}, []
     for text in texts:
         alike[nameless(text, names)].append(text)
-    for _, left in sorted(alike.items(), key=lambda it: (len(it[1]), it[0])):  # other texts decide the order of equal ones
+    for _, left in sorted(
+        alike.items(), key=lambda it: (len(it[1]), it[0])
+    ):  # other texts decide the order of equal ones
         left.sort()
         while left:
             text = min(left, key=lambda it: placed(it, names, dict(places))) if len(left) > 1 else left[0]
@@ -72,7 +74,11 @@ def split(text):
     A called function keeps its name, as does a function after its type, because its contract isn't among the texts.
     """
     parts = WORDS.split(text)
-    places = [at for at in range(1, len(parts), 2) if parts[at][:1].isupper() or not (parts[at + 1].startswith("(") or parts[at - 1].endswith("::"))]
+    places = [
+        at
+        for at in range(1, len(parts), 2)
+        if parts[at][:1].isupper() or not (parts[at + 1].startswith("(") or parts[at - 1].endswith("::"))
+    ]
     return parts, places
 
 

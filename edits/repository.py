@@ -32,7 +32,7 @@ class Crates:
 
 
 def copy_repository(root, to, kept):
-    """Copies a repository with the results of earlier checks in out/ of these crates, so they needn't be proved again."""
+    """Copies a repository with the results of earlier checks in out/ of these crates."""
 
     def left_out(folder, names):
         return [it for it in names if it == ".git" or it == "out" and os.path.basename(folder) not in kept]
@@ -46,7 +46,7 @@ def copy_crate(folder, to):
 
 
 def copy_or_link(file, to):
-    """Copies a file, or links a file of out/, which has several GB. rt makes new files there, and changes no existing one."""
+    """Copies a file, or links a file of out/, which has several GB. rt changes no existing file there."""
     if "/out/" in file:
         try:
             os.link(file, to)

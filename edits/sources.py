@@ -22,7 +22,9 @@ Member = collections.namedtuple("Member", "name trait type text file")
 
 def checkout(root, revision, to):
     """Writes the crates of a commit into a folder."""
-    archive = subprocess.run(["git", "-C", root, "archive", revision, "crates", "crates.txt"], stdout=subprocess.PIPE, check=True)
+    archive = subprocess.run(
+        ["git", "-C", root, "archive", revision, "crates", "crates.txt"], stdout=subprocess.PIPE, check=True
+    )
     subprocess.run(["tar", "-x", "-C", to], input=archive.stdout, check=True)
 
 
@@ -38,7 +40,11 @@ def files_below(folder):
 
 def bare(path):
     """Returns the text of a file without its comments."""
-    return without_comments(read(path)) if path.endswith(".rt") else re.sub(r"^ *--.*\n?", "", read(path), flags=re.MULTILINE)
+    return (
+        without_comments(read(path))
+        if path.endswith(".rt")
+        else re.sub(r"^ *--.*\n?", "", read(path), flags=re.MULTILINE)
+    )
 
 
 class Sources:
@@ -57,7 +63,9 @@ class Sources:
 
     def defined(self):
         """Returns the names of definitions in specs/ and of items."""
-        return {name for parts in self.blocks.values() for it in parts for name in names_of(it)} | {it.name for it in self.items()}
+        return {name for parts in self.blocks.values() for it in parts for name in names_of(it)} | {
+            it.name for it in self.items()
+        }
 
     def definitions(self):
         """Returns the definitions of specs/ by name, each with its file."""
@@ -146,13 +154,17 @@ class Meaning:
     def meant_by(self, it, file):
         """Returns an item with all texts that its meaning depends on.
 
-        These are its trait with the supertraits, the ghost members of types that it names if it or the trait cites them, and
-        all definitions that one of these texts names, directly or through others.
+        These are its trait with the supertraits, the ghost members of types that it names if it or the trait cites
+        them, and all definitions that one of these texts names, directly or through others.
         """
         words = words_of(f"{it.head} {it.text}")
         traits = self.traits_of(implemented(it.head)[0])
         told = words | (words_of(traits[0][0]) if traits else set())
-        members = [(member.text, member.file) for member in self.members if told & {member.name, member.trait} and words & words_of(member.type)]
+        members = [
+            (member.text, member.file)
+            for member in self.members
+            if told & {member.name, member.trait} and words & words_of(member.type)
+        ]
         due = [(f"{it.head} {unlabelled(it.text)}", file), *traits, *members]
         seen = set(due)
         for text in due:
@@ -173,7 +185,9 @@ class Meaning:
         words = words_of(text) | others
         types = (self.types[it] for it in words & self.types.keys())
         definitions = self.definitions
-        visible = {it for it in words & definitions.keys() if it in used or any(at == file for _, at in definitions[it])}
+        visible = {
+            it for it in words & definitions.keys() if it in used or any(at == file for _, at in definitions[it])
+        }
         return set().union(*types, *(definitions[it] for it in visible))
 
     @functools.cached_property
@@ -181,7 +195,11 @@ class Meaning:
         """Returns the names that each definition, type and trait declares, by its text."""
         found = {text: declared_by_type(text) for of_name in self.types.values() for text, _ in of_name}
         found |= {text: declared_by_trait(text) for text, _ in self.traits.values()}
-        return found | {text: names_of(text) | set(FIELD_OF_RECORD.findall(text)) for of_name in self.definitions.values() for text, _ in of_name}
+        return found | {
+            text: names_of(text) | set(FIELD_OF_RECORD.findall(text))
+            for of_name in self.definitions.values()
+            for text, _ in of_name
+        }
 
     def declared_in(self, texts):
         """Returns the names that some of these texts declare, without names of other libraries."""

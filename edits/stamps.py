@@ -65,7 +65,9 @@ def kept_stamps(path=STAMPS):
     """Returns the stamps of a file by key."""
     text = read(path) if os.path.exists(path) else ""
     if LINE.sub("", text):
-        raise ValueError(f"edits/STAMPS has a line that is no stamp, perhaps from a merge: {LINE.sub('', text).split(chr(10))[0]}")
+        raise ValueError(
+            f"edits/STAMPS has a line that is no stamp, perhaps from a merge: {LINE.sub('', text).split(chr(10))[0]}"
+        )
     return {Key(*line[:3]): Stamp(*line[3:]) for line in LINE.findall(text)}
 
 

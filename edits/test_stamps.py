@@ -12,7 +12,12 @@ from repository import Crates
 from stamps import stamps_of
 
 VERSION = "kit logic 0123456789abcdef"
-LOWER, UPPER, SIZES, WIDE = "crates/lower/src/lib.rt", "crates/upper/src/lib.rt", "crates/lower/specs/Sizes.antt", "crates/upper/specs/Wide.antt"
+LOWER, UPPER, SIZES, WIDE = (
+    "crates/lower/src/lib.rt",
+    "crates/upper/src/lib.rt",
+    "crates/lower/specs/Sizes.antt",
+    "crates/upper/specs/Wide.antt",
+)
 EDITS, PROOF = "crates/upper/edits/lib.edits", "crates/upper/proofs/Lib.antt"
 FILES = {
     "crates.txt": "lower:\nupper: lower\n",
@@ -153,10 +158,25 @@ def exchanged(one, other, *paths):
 FIRST, ALL = ["first"], ["first", "measure", "next", "second", "weigh"]
 # The changes of each case (a file, an old text and a new one), and the functions whose stamps differ.
 CASES = {
-    "layout": ([(UPPER, "same(value)", "same(\n            value,\n        )"), (UPPER, "first(&self)", "first(\n        &self,\n    )")], []),
+    "layout": (
+        [
+            (UPPER, "same(value)", "same(\n            value,\n        )"),
+            (UPPER, "first(&self)", "first(\n        &self,\n    )"),
+        ],
+        [],
+    ),
     "layout of a definition": ([(WIDE, "wide = suc size", "wide =\n    suc  size")], []),
-    "comments": ([(UPPER, " // two", ""), (UPPER, "The first.", "Not the last."), (SIZES, "-- how many\n", "-- how\n-- many\n")], []),
-    "what is used": ([(UPPER, "use lower::Measured;", "use lower::{Measured, Other};"), (UPPER, "{wide, Kept}", "{below, wide, Kept}")], []),
+    "comments": (
+        [(UPPER, " // two", ""), (UPPER, "The first.", "Not the last."), (SIZES, "-- how many\n", "-- how\n-- many\n")],
+        [],
+    ),
+    "what is used": (
+        [
+            (UPPER, "use lower::Measured;", "use lower::{Measured, Other};"),
+            (UPPER, "{wide, Kept}", "{below, wide, Kept}"),
+        ],
+        [],
+    ),
     "a proof": ([(PROOF, "Lemmas", "Others")], []),
     "another function": ([(UPPER, "same(value)", "same(value + 0)")], ["second"]),
     "what a clause is called": ([(UPPER, "ensures kept", "ensures value")], []),
@@ -165,7 +185,13 @@ CASES = {
     "a definition": ([(WIDE, "wide = suc size", "wide = size + 1")], FIRST),
     "a definition that nothing cites": ([(WIDE, "below most = most", "below most = suc most")], []),
     "a definition with the name of a local": ([(WIDE, "value = 9", "value = 8")], []),
-    "a definition in another file": ([(WIDE, "abbrev pub wide : ℕ\nwide = suc size\n\n", ""), (SIZES, "-- how many\n", "abbrev pub wide : ℕ\nwide = suc size\n\n")], []),
+    "a definition in another file": (
+        [
+            (WIDE, "abbrev pub wide : ℕ\nwide = suc size\n\n", ""),
+            (SIZES, "-- how many\n", "abbrev pub wide : ℕ\nwide = suc size\n\n"),
+        ],
+        [],
+    ),
     "a field after an empty line": ([(WIDE, "n < 9", "n < 10")], ["second"]),
     "a definition below, by way of another": ([(SIZES, "size = 1", "size = suc 0")], FIRST),
     "a definition below that nothing cites": ([(SIZES, "other = 2", "other = 3")], []),
@@ -177,7 +203,10 @@ CASES = {
     "the proof of a law": ([(UPPER, "omega arith", "zero_less")], []),
     "a trait below": ([(LOWER, "≡ Self.width", "≡ Self.width + 0")], ["measure"]),
     "a trait of that trait": ([(LOWER, "0 < width", "1 < width")], ["measure"]),
-    "a function that is called": ([(UPPER, "pub fn second", "fn two(x: u32) -> u32 {\n        x\n    }\n\n    pub fn second")], []),
+    "a function that is called": (
+        [(UPPER, "pub fn second", "fn two(x: u32) -> u32 {\n        x\n    }\n\n    pub fn second")],
+        [],
+    ),
     "a definition of another name": (renamed("wide", "broad", UPPER, WIDE), []),
     "a definition below of another name": (renamed("size", "count", WIDE, SIZES), []),
     "a record of another name": (renamed("Kept", "Spared", UPPER, WIDE), []),
@@ -191,20 +220,56 @@ CASES = {
     "fields with the names of each other": (exchanged("front", "back", UPPER, EDITS), []),
     "a trait of another name": (renamed("Measured", "Weighed", LOWER, UPPER), []),
     "a ghost member of another name": (renamed("width", "breadth", LOWER, UPPER), []),
-    "all of other names": ([it for pair in (("wide", "broad"), ("Kept", "Aa"), ("Pile", "Zz"), ("Wide", "Qq"), ("width", "qq")) for it in renamed(*pair, *FILES)], []),
-    "another definition": ([(UPPER, "{wide, Kept}", "{value, Kept}"), (UPPER, "result ≡ wide", "result ≡ value")], ["first", "second"]),
+    "all of other names": (
+        [
+            it
+            for pair in (("wide", "broad"), ("Kept", "Aa"), ("Pile", "Zz"), ("Wide", "Qq"), ("width", "qq"))
+            for it in renamed(*pair, *FILES)
+        ],
+        [],
+    ),
+    "another definition": (
+        [(UPPER, "{wide, Kept}", "{value, Kept}"), (UPPER, "result ≡ wide", "result ≡ value")],
+        ["first", "second"],
+    ),
     "another field": ([(UPPER, "self.now.front", "self.now.back")], ["nearest"]),
-    "another field in a function and its edit": ([*exchanged("self.front", "self.back", EDITS), (UPPER, "now.front", "now.back"), (UPPER, "    self.front", "    self.back")], ["nearest"]),
-    "fields in another order": ([(UPPER, "    front: u32,\n    back: u32,", "    back: u32,\n    front: u32,")], ["nearest"]),
-    "a record's fields in another order": ([(WIDE, "0 < n", "n < 9 "), (WIDE, "few : n < 9", "few : 0 < n")], ["second"]),
+    "another field in a function and its edit": (
+        [
+            *exchanged("self.front", "self.back", EDITS),
+            (UPPER, "now.front", "now.back"),
+            (UPPER, "    self.front", "    self.back"),
+        ],
+        ["nearest"],
+    ),
+    "fields in another order": (
+        [(UPPER, "    front: u32,\n    back: u32,", "    back: u32,\n    front: u32,")],
+        ["nearest"],
+    ),
+    "a record's fields in another order": (
+        [(WIDE, "0 < n", "n < 9 "), (WIDE, "few : n < 9", "few : 0 < n")],
+        ["second"],
+    ),
     "a name that another library has": ([(UPPER, "elements pile.words", "length pile.words")], ALL),
     "another function that is called": ([(UPPER, "two(1)", "three(1)"), (EDITS, "two(", "three(")], FIRST),
     "an edit": ([(EDITS, "two(2)", "two(3)")], FIRST),
     "a heading": ([(EDITS, "first: one more", "first: one too many")], []),
 }
 # Pairs of texts that are equal without layout, and pairs that aren't.
-SAME = [("{ a }", "{\n    a\n}"), ("f  a\n  b", "f a b"), ("f(\n    a,\n    b,\n)", "f(a, b)"), ("F<\n    A,\n>::new()", "F<A>::new()"), ("a\n    .b()", "a.b()")]
-OTHER = [("(a,)", "(a)"), ("a && b", "a & &b"), ('"a  b"', '"a b"'), ("f x", "fx"), ("f (a, b)", "f (a, c)"), ("-x", "- x")]
+SAME = [
+    ("{ a }", "{\n    a\n}"),
+    ("f  a\n  b", "f a b"),
+    ("f(\n    a,\n    b,\n)", "f(a, b)"),
+    ("F<\n    A,\n>::new()", "F<A>::new()"),
+    ("a\n    .b()", "a.b()"),
+]
+OTHER = [
+    ("(a,)", "(a)"),
+    ("a && b", "a & &b"),
+    ('"a  b"', '"a b"'),
+    ("f x", "fx"),
+    ("f (a, b)", "f (a, c)"),
+    ("-x", "- x"),
+]
 # Headers of impls, and their parts of the checker's names.
 OWNERS = {
     "": [],
@@ -216,7 +281,9 @@ OWNERS = {
     "impl<Inner: Drop> Drop for Guard<'_, Inner> {": ["Guard"],
 }
 # Const parameters on lines of their own aren't items.
-LEAST = "pub fn least<\n    Word: Copy,\n    const MOST: usize,\n>(word: Word) -> usize {\n    MOST\n}\n\npub const ROOM: usize = 7;".split("\n")
+LEAST = "pub fn least<\n    Word: Copy,\n    const MOST: usize,\n>(word: Word) -> usize {\n    MOST\n}\n\npub const ROOM: usize = 7;".split(
+    "\n"
+)
 
 
 def stamps(files, changes):
@@ -248,7 +315,11 @@ def main():
     faults += [f"{pair} differ" for pair in SAME if said(pair[0]) != said(pair[1])]
     faults += [f"{pair} don't differ" for pair in OTHER if said(pair[0]) == said(pair[1])]
     faults += [f"{head}: {owner(head)}" for head in OWNERS if owner(head) != OWNERS[head]]
-    faults += [] if [function_at(LEAST, at) for at in (4, 7)] == ["least", "ROOM"] else ["a const parameter is taken for an item"]
+    faults += (
+        []
+        if [function_at(LEAST, at) for at in (4, 7)] == ["least", "ROOM"]
+        else ["a const parameter is taken for an item"]
+    )
     print("\n".join(faults))
     return bool(faults)
 

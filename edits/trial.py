@@ -39,7 +39,10 @@ class Trial:
         return passed
 
     def not_refused(self, batch, folder):
-        """Tries edits in one check over the results for the unedited crate. Returns the edits that it doesn't refuse."""
+        """Tries edits in one check over the results for the unedited crate.
+
+        Returns the edits that it doesn't refuse.
+        """
         shutil.rmtree(folder, ignore_errors=True)
         copy_crate(f"{self.proved}/crates/{self.crate}", folder)
         apply(batch, folder)
@@ -63,4 +66,6 @@ class Trial:
         if self.logs:
             os.makedirs(self.logs, exist_ok=True)
             with open(f"{self.logs}/{self.crate}-{self.checks}.log", "w", encoding="utf-8") as out:
-                out.write("\n".join([f"seconds: {ran.seconds:.1f}", *("edit: " + it.name for it in batch), *ran.lines, ""]))
+                out.write(
+                    "\n".join([f"seconds: {ran.seconds:.1f}", *("edit: " + it.name for it in batch), *ran.lines, ""])
+                )

@@ -44,7 +44,9 @@ def _metadata() -> bytes:
     lines += [
         "Summary: " + _said(r'^description = "(.*)"$', PROJECT),
         "Keywords: " + ",".join(re.findall('"(.*?)"', lists["keywords"])),
-        "Author-email: {} <{}>".format(*(_said(rf'^authors = .*{key} = "(.*?)"', PROJECT) for key in ("name", "email"))),
+        "Author-email: {} <{}>".format(
+            *(_said(rf'^authors = .*{key} = "(.*?)"', PROJECT) for key in ("name", "email"))
+        ),
     ]
     lines += [f"Project-URL: {name}, {url}" for name, url in urls]
     lines += [f"Classifier: {it}" for it in re.findall('"(.*?)"', lists["classifiers"])]

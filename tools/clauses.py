@@ -1,4 +1,4 @@
-"""Contracts of public functions: the clauses of functions, methods, traits and impls, by their places in the sources."""
+"""Contracts of public functions, methods, traits and impls, by their places in the sources."""
 
 import collections
 import functools
@@ -30,7 +30,7 @@ def length_of_group(tokens):
 
 
 def clauses(text):
-    """Returns the clauses of a function in one line, by their keyword and label, and what it says before them as its signature."""
+    """Returns the clauses of a function by keyword and label, each in one line, and its signature."""
     tokens, at, found, label, rest = without_attributes(TOKEN.findall(text)), 0, {}, "", []
     while at < len(tokens) and tokens[at] != ";":
         token, length = tokens[at], length_of_group(tokens[at:]) if tokens[at] in OPENING else 1

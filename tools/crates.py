@@ -11,7 +11,12 @@ class Crate:
 
     def __init__(self, top, name, kinds, uses, libraries):
         """Takes the line of a crate in crates.txt."""
-        self.top, self.name, self.uses, self.libraries = top, name, uses, libraries  # the libraries belong to the toolchain
+        self.top, self.name, self.uses, self.libraries = (
+            top,
+            name,
+            uses,
+            libraries,
+        )  # the libraries belong to the toolchain
         self.folder, self.kinds = f"{top}/crates/{name}", kinds
         self.is_static = "staticlib" in kinds
         self.is_program = os.path.isfile(f"{self.folder}/src/main.rt")
@@ -44,7 +49,8 @@ class Crate:
     def stamp(self, version):
         """Returns a checksum of everything that a proof of the crate depends on.
 
-        That is the toolchain's version, HANDLES, the lines of crates.txt for the crate and the crates below, and their files.
+        That is the toolchain's version, HANDLES, the lines of crates.txt for the crate and the crates below, and their
+        files.
         """
         handles = f"{self.top}/HANDLES"
         found = [version, content(handles) if os.path.isfile(handles) else b""]

@@ -1,8 +1,8 @@
 """Distribution functions by their formulas, in decimals of 100 digits, and their tables of whole numbers.
 
-The table of a family's standard distribution reaches from REACH scales below 0 to REACH scales above 0, in 2048 steps. Entry
-k is 2^32 times the distribution function at -REACH + k / STEPS, rounded to the nearest integer. STEPS is the number of steps
-in a scale.
+The table of a family's standard distribution reaches from REACH scales below 0 to REACH scales above 0, in 2048 steps.
+Entry k is 2^32 times the distribution function at -REACH + k / STEPS, rounded to the nearest integer. STEPS is the
+number of steps in a scale.
 """
 
 import bisect
@@ -32,7 +32,7 @@ ROOT_OF_2_PI = (2 * PI).sqrt()
 
 
 def gaussian(x):
-    """Returns the normal distribution function: 1/2 plus the density times the sum of x^n / (1 * 3 * .. * n) over odd n."""
+    """Returns the normal distribution function: 1/2 + density * sum of x^n / (1 * 3 * .. * n), for odd n."""
     if x < 0:
         return 1 - gaussian(-x)
     total, term, n = Decimal(0), x, 1

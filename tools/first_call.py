@@ -1,11 +1,11 @@
 """Proves a program or a static library and the crates below it, in parallel where possible, and builds it.
 
-The script keeps each library that an earlier run proved, even if that run was ended early, as long as the library and the
-crates below it are unchanged. With --over-gate, it uses the libraries that `rt ci` has just built. It reports progress on
-standard error: on a terminal, it redraws one line each second; elsewhere, it writes a line for each crate and each half
-minute (or each PROGRESS_SECONDS seconds). With --answer, a trial run answers a command of the program meanwhile; the
-launcher puts the command's input into a folder. With --target MACHINE, it builds the static library for Linux on that
-machine, and proves only this library again for the machine.
+The script keeps each library that an earlier run proved, even if that run was ended early, as long as the library and
+the crates below it are unchanged. With --over-gate, it uses the libraries that `rt ci` has just built. It reports
+progress on standard error: on a terminal, it redraws one line each second; elsewhere, it writes a line for each crate
+and each half minute (or each PROGRESS_SECONDS seconds). With --answer, a trial run answers a command of the program
+meanwhile; the launcher puts the command's input into a folder. With --target MACHINE, it builds the static library for
+Linux on that machine, and proves only this library again for the machine.
 
 usage: first_call.py KIT REPOSITORY CRATE [--over-gate] [--target MACHINE]
        first_call.py KIT REPOSITORY CRATE --answer FOLDER COMMAND.."""
@@ -101,11 +101,19 @@ class Record:
 
 
 class Run:
-    """A run that proves some crates, except those named in `done`. It shows the unproved answer meanwhile, if one is given."""
+    """A run that proves some crates, except those named in `done`.
+
+    It shows the unproved answer meanwhile, if one is given.
+    """
 
     def __init__(self, toolchain, crates, done, unit, progress, answer=None):
         """Takes the crates to prove, and the names of the crates that are done."""
-        self.toolchain, self.crates, self.done, self.progress = toolchain, {it.name: it for it in crates}, set(done), progress
+        self.toolchain, self.crates, self.done, self.progress = (
+            toolchain,
+            {it.name: it for it in crates},
+            set(done),
+            progress,
+        )
         self.unit = unit  # the seconds of a proof of weight 1 with one job, or None until the first proof has ended
         self.answer = [answer.said] if answer else []
         self.ended = []  # the seconds and the weight of each proof that ended here
@@ -179,7 +187,10 @@ class Run:
     def say_answer(self, answer):
         """Writes the answer of a trial run."""
         left = self.left()
-        self.progress.say(f"unproved, of a trial run:{answer}; the proof goes on" + (f", {about(left)} left" if left is not None else ""))
+        self.progress.say(
+            f"unproved, of a trial run:{answer}; the proof goes on"
+            + (f", {about(left)} left" if left is not None else "")
+        )
 
 
 def weight(crate):
@@ -199,7 +210,7 @@ def about(seconds):
 
 
 def kept_of(toolchain, crates):
-    """Returns the crates that an earlier run proved with all crates below, and the seconds of a unit of work in that run."""
+    """Returns the crates that an earlier run proved, and the seconds of a unit of work in that run."""
     kept, unit = set(), None
     for crate in crates:
         said = Record(toolchain, crate).kept() if kept.issuperset(it.name for it in crate.below()) else None

@@ -1,5 +1,5 @@
-"""Writes two files from a file large.rt of constriction_c: functions that differ from the file's functions in a few texts
-(large_kinds.rt), and the impls of its structs (large_parts.rt).
+"""Writes two files from a file large.rt of constriction_c: functions that differ from the file's functions in a few
+texts (large_kinds.rt), and the impls of its structs (large_parts.rt).
 
 A change turns one function into another: regexes, in order, each with the text that replaces its matches.
 """
@@ -37,20 +37,29 @@ def of_symbols(name, bits):
 
 
 EACH = of_models(
-    "each", r"\1 with a row of `width` weights for each symbol", "weights: &[u32], width: usize",
-    "by_rows width (map (lowest 32) weights.now)", "let models = Rows { weights, width }",
+    "each",
+    r"\1 with a row of `width` weights for each symbol",
+    "weights: &[u32], width: usize",
+    "by_rows width (map (lowest 32) weights.now)",
+    "let models = Rows { weights, width }",
 )
 COUNTS = of_models(
-    "counts", r"\1 with a row of `width` counts for each symbol ([`Counts`])", "counts: &[u32], width: usize",
-    "by_counts 32 width counts.now", "let models = Counts { counts, width }",
+    "counts",
+    r"\1 with a row of `width` counts for each symbol ([`Counts`])",
+    "counts: &[u32], width: usize",
+    "by_counts 32 width counts.now",
+    "let models = Counts { counts, width }",
 )
 QUANTIZED = of_models(
-    "quantized", ", each with the model of its own location and scale ([`Families`])",
-    "family: u32, min: i32, max: i32, locations: &[i64], scales: &[u32]", "in_family family min max locations.now scales.now",
+    "quantized",
+    ", each with the model of its own location and scale ([`Families`])",
+    "family: u32, min: i32, max: i32, locations: &[i64], scales: &[u32]",
+    "in_family family min max locations.now scales.now",
     "let models = Families::new(family, min, max, locations, scales)",
 )
 MIXTURE = of_models(
-    "mixture", ", each with its own mixture of a family's distributions ([`Mixtures`])",
+    "mixture",
+    ", each with its own mixture of a family's distributions ([`Mixtures`])",
     "family: u32, min: i32, max: i32, width: usize, component_weights: &[u32], locations: &[i64], scales: &[u32]",
     "in_mixture family min max width component_weights.now locations.now scales.now",
     "let components = Families::new(family, min, max, locations, scales); "
@@ -63,41 +72,59 @@ INTERVALS = {
     r"symbols (.*), with .*": r"intervals \1. Interval `i` begins at quantile `lefts[i]` and has length `ps[i]`.",
     r"weights: &\[u32\],\n    symbols: &\[usize\],": "lefts: &[u32],\n    ps: &[u32],",
     r"by_weights \(map \(lowest 32\) weights\.now\)": "intervals_from_u32 lefts.now",
-    r"length symbols\.now": "length ps.now", r"symbols\.now": "(map (lowest 32) ps.now)",
-    r"    let models = .*\n": "", r"Symbols \{ models, symbols \}": "Intervals { lefts, ps }",
+    r"length symbols\.now": "length ps.now",
+    r"symbols\.now": "(map (lowest 32) ps.now)",
+    r"    let models = .*\n": "",
+    r"Symbols \{ models, symbols \}": "Intervals { lefts, ps }",
 }
 ANS_BINARY = {
     r"Exports .*": "Exports the binary form: writes the bits of the head below its leading 1 after the first `len` words of `words`.",
-    r"into_compressed": "into_binary", r"\(AreCompressed 32\) \(.*?\)": "(AreBinary 32) (HasBinary 32)",
+    r"into_compressed": "into_binary",
+    r"\(AreCompressed 32\) \(.*?\)": "(AreBinary 32) (HasBinary 32)",
 }
 BINARY = {
     r"from compressed words": "from compressed words in binary form",
     r"Exports .*": "Exports the binary form: appends the remainders head's bits below its leading 1 to the compressed words.",
-    r"_compressed": "_binary", r"InCompressed": "InBinary",
+    r"_compressed": "_binary",
+    r"InCompressed": "InBinary",
 }
 REMAINDERS = {
     r"from compressed words\. .*": "from the words of remainders. The coder has no compressed words below its heads.",
     r"Exports .*": "Exports remainders: writes the words of both heads after the first `rest` words of `remainders`.",
-    r"_compressed": "_remainders", r"InCompressed": "InRemainders", r"\bcompressed(?=[:.,)])": "remainders", r"\bcount\b": "rest",
+    r"_compressed": "_remainders",
+    r"InCompressed": "InRemainders",
+    r"\bcompressed(?=[:.,)])": "remainders",
+    r"\bcount\b": "rest",
 }
 SELF_DELIMITED = {
-    r"into_compressed": "into_self_delimited", r"IsSealed": "IsSelfSealed", r"and a seal(.*\n.*\n)": r"and a self-delimiting seal\1"
+    r"into_compressed": "into_self_delimited",
+    r"IsSealed": "IsSelfSealed",
+    r"and a seal(.*\n.*\n)": r"and a self-delimiting seal\1"
     "/// A state is two words wide, so this function writes the same words as `constriction_range_into_compressed_u32`.\n///\n",
 }
 STACK = {r"_queue": "_stack", r"AsQueue": "AsStack", r"a queue": "a stack", r"in order": "from the last to the first"}
 HUFFMAN = {
-    r"exp_golomb": "huffman", r"numbers": "symbols", r"alloc: Global,": "alloc: Global,\n    weights: &[u32],",
-    r"with Exp-Golomb codewords": "with the Huffman tree of `weights`", r"symbols: &(mut )?\[u32\]": r"symbols: &\1[usize]",
-    r"\(lowest 32\)": "(λ s. s)", r"OfNumbers 32": "OfWeights 32 (map (lowest 32) weights.now)",
+    r"exp_golomb": "huffman",
+    r"numbers": "symbols",
+    r"alloc: Global,": "alloc: Global,\n    weights: &[u32],",
+    r"with Exp-Golomb codewords": "with the Huffman tree of `weights`",
+    r"symbols: &(mut )?\[u32\]": r"symbols: &\1[usize]",
+    r"\(lowest 32\)": "(λ s. s)",
+    r"OfNumbers 32": "OfWeights 32 (map (lowest 32) weights.now)",
     r"ExpGolomb::<u32>::new\(\)": "Tree { weights }",
 }
 
-# The changes of each module, with the ending of the names that they apply to. A function is from large.rt, or an earlier
-# change has written it.
-CODED = [("(encode|decode)(_reverse)?_u32", EACH), ("(encode|decode)(_reverse)?_u32", COUNTS),
-         ("encode(_reverse)?_u32", INTERVALS),
-         ("(encode|decode)(_reverse)?_u32", QUANTIZED), ("(encode|decode)(_reverse)?_u32", MIXTURE),
-         ("(encode|decode)(_reverse)?_u32", BYTES), ("(encode|decode)(_reverse)?_u32", SHORTS)]
+# The changes of each module, with the ending of the names that they apply to. A function is from large.rt, or from an
+# earlier change.
+CODED = [
+    ("(encode|decode)(_reverse)?_u32", EACH),
+    ("(encode|decode)(_reverse)?_u32", COUNTS),
+    ("encode(_reverse)?_u32", INTERVALS),
+    ("(encode|decode)(_reverse)?_u32", QUANTIZED),
+    ("(encode|decode)(_reverse)?_u32", MIXTURE),
+    ("(encode|decode)(_reverse)?_u32", BYTES),
+    ("(encode|decode)(_reverse)?_u32", SHORTS),
+]
 KINDS = {
     "ans": [*CODED, ("into_compressed_u32", ANS_BINARY)],
     "chain": [*CODED, ("_compressed_u32", BINARY), ("_compressed_u32", REMAINDERS)],
@@ -128,7 +155,7 @@ use constriction_inputs::intervals::Intervals;
 use constriction_inputs::models::{Counts, Families, Mixtures, Rows};
 """
 
-# For each struct: the type of constriction_calls with the same fields, and the definition that converts the struct to it.
+# For each struct: the type of constriction_calls with the same fields, and the definition of the conversion to it.
 STRUCTS = {
     "ChainHeadsU32": ("ChainHeads<u32, u64>", "large_heads"),
     "RangeEncoderU32": ("EncoderParts<u32, u64>", "large_encoder"),
@@ -158,26 +185,34 @@ PARTS = """impl {name} {{
 
 
 def changed(function, change):
-    """Returns a function after a change. Lines of its clause have at most 120 characters and break outside of brackets."""
+    """Returns a function after a change.
+
+    Lines of its clause have at most 120 characters and break outside of brackets.
+    """
     for regex, text in change.items():
         function = re.sub(regex, text, function)
     head, clause, body = re.split(r"\n    ensures |(?<=\})\n(?=\{)", function)
     brackets = r"\((?:[^()]|\((?:[^()]|\([^()]*\))*\))*\)"
     clause = re.sub(brackets, lambda it: it[0].replace(" ", "\0"), " ".join(clause.split())).replace(" }", "\0}")
-    lines = textwrap.fill(f"    ensures {clause}", 120, subsequent_indent=" " * 8, break_long_words=False, break_on_hyphens=False)
+    lines = textwrap.fill(
+        f"    ensures {clause}", 120, subsequent_indent=" " * 8, break_long_words=False, break_on_hyphens=False
+    )
     body = re.sub(r"^    (let answer = [^(]*\()(.*)\);$", wrapped, body, flags=re.M)
     return "\n".join([head, lines.replace("\0", " "), body])
 
 
 def wrapped(call):
-    """Returns a call in the layout of `rt fmt`: if it is longer than 100 characters, its arguments have their own line."""
+    """Returns a call in the layout of `rt fmt`: beyond 100 characters, its arguments have their own line."""
     return call[0] if len(call[0]) <= 100 else f"    {call[1]}\n        {call[2]},\n    );"
 
 
 def parts(name, fields):
     """Returns the impl of a struct with these fields."""
     kind, value = STRUCTS[name]
-    taken, put = ("\n".join(f"            {it}: {of}.{it}," for it in re.findall(r"pub (\w+):", fields)) for of in ("self", "parts"))
+    taken, put = (
+        "\n".join(f"            {it}: {of}.{it}," for it in re.findall(r"pub (\w+):", fields))
+        for of in ("self", "parts")
+    )
     return PARTS.format(name=name, type=kind, made=kind.split("<")[0], value=value, taken=taken, put=put)
 
 
@@ -193,7 +228,7 @@ def imports(text, body):
 
 
 def listed(names, is_ghost):
-    """Returns the names of a module in the layout of `rt fmt`: one alone, or several in lines of at most 100 characters."""
+    """Returns the names of a module in the layout of `rt fmt`: in lines of at most 100 characters."""
     text = ", ".join(names)
     if is_ghost or len(names) > 1 and len(text) < 60:
         return f"{{{text}}}"
@@ -220,7 +255,10 @@ def derived_files(module, text):
     given += [f"use crate::{module}::large::{{{', '.join(structs)}}};"] if structs else []
     written = {
         "kinds": (f"More C functions {MORE.get(module)}.", functions[count:]),
-        "parts": ("Converts the C functions' structs to the types that the calls of `constriction_calls` take, and back.", [parts(*it) for it in structs.items()]),
+        "parts": (
+            "Converts the C functions' structs to the types that the calls of `constriction_calls` take, and back.",
+            [parts(*it) for it in structs.items()],
+        ),
     }
     for name, (says, items) in written.items():
         body = "\n\n".join(items)

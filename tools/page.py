@@ -7,7 +7,10 @@ from wrapping import wrapped
 
 
 def write_or_check(arguments, usage, path, page):
-    """Writes the text that `page` returns, with wrapped prose, and returns the status. With --check it only compares."""
+    """Writes the text that `page` returns, with wrapped prose, and returns the status.
+
+    With --check it only compares.
+    """
     if arguments not in ([], ["--check"]):
         sys.exit(usage.split("\n", 1)[0])
     text = wrapped(page())

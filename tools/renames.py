@@ -37,16 +37,28 @@ class Renames:
 
     def checked(self, words):
         """Returns the words of a line, if they are a name, its new name and modules."""
-        if len(words) < 2 or words[0] == words[1] or not all(re.fullmatch(NAME, it) for it in words[:2]) or not all("." in it for it in words[2:]):
+        if (
+            len(words) < 2
+            or words[0] == words[1]
+            or not all(re.fullmatch(NAME, it) for it in words[:2])
+            or not all("." in it for it in words[2:])
+        ):
             raise ValueError(f"renamed: '{' '.join(words)}' is not a name and its new name")
         return words
 
     def refuse_taken(self, texts, defined, revision):
-        """Fails if that commit already defines a new name, or if a text has both names. Texts are given by their files."""
-        taken = [(*pair, f"{revision} has a definition {pair[1]} already") for pair in self.new.items() if pair[1] in defined]
+        """Fails if that commit already defines a new name, or if a text has both names.
+
+        Texts are given by their files.
+        """
+        taken = [
+            (*pair, f"{revision} has a definition {pair[1]} already") for pair in self.new.items() if pair[1] in defined
+        ]
         for file in sorted(texts):
             words, meant = words_of(texts[file]), {**self.new, **self.meant_in(file, texts[file])}
-            taken += [(*pair, f"{file} has both names at {revision}") for pair in meant.items() if words.issuperset(pair)]
+            taken += [
+                (*pair, f"{file} has both names at {revision}") for pair in meant.items() if words.issuperset(pair)
+            ]
         if taken:
             old, new, why = taken[0]
             raise ValueError(f"renamed: '{old} {new}', but {why}: the comparison can't tell the two apart")
@@ -56,7 +68,10 @@ class Renames:
         used = collections.defaultdict(set)
         for path, names in USE.findall(text) if self.within else []:
             used[path.strip(" .")] |= words_of(names)
-        here = {module: names if module == module_of(file) else {it: names[it] for it in names if it in used[module]} for module, names in self.within.items()}
+        here = {
+            module: names if module == module_of(file) else {it: names[it] for it in names if it in used[module]}
+            for module, names in self.within.items()
+        }
         return {old: new for names in here.values() for old, new in names.items()}
 
     def applied(self, text, file=""):

@@ -41,7 +41,10 @@ class Schedule:
         return self.parts[name].memory * (1 + FURTHER * (jobs - 1))
 
     def starts(self, done, running):
-        """Returns the parts that can begin now, with their jobs. A part gets the processors that no other part waits for."""
+        """Returns the parts that can begin now, with their jobs.
+
+        A part gets the processors that no other part waits for.
+        """
         ready = [it for it in self.order if it not in done and it not in running and self.parts[it].waits <= done]
         begun = {}
         for at, name in enumerate(ready):
@@ -57,7 +60,10 @@ class Schedule:
         return max(fit, default=1)
 
     def left(self, done, running, rest):
-        """Returns the time until all parts are done, in units of work with one job. `rest` is the work left on each part."""
+        """Returns the time until all parts are done, in units of work with one job.
+
+        `rest` is the work left on each part.
+        """
         done, running, rest, clock = set(done), dict(running), dict(rest), 0.0
         while done != set(self.parts):
             running.update(self.starts(done, running))

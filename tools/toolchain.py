@@ -1,8 +1,8 @@
 """The parts of the toolchain that the tools of this repository use. No other file uses the toolchain's own scripts.
 
-`rt` has no command that proves the crates of one program from nothing, in parallel. `rt ci` does so for a whole repository,
-with its tests and edits. `Toolchain` uses the parts of `bin/rt` that do so for a program. If a kit lacks one of these parts,
-`Commands` proves the crates one after the other by documented commands, which takes longer.
+`rt` has no command that proves the crates of one program from nothing, in parallel. `rt ci` does so for a whole
+repository, with its tests and edits. `Toolchain` uses the parts of `bin/rt` that do so for a program. If a kit lacks
+one of these parts, `Commands` proves the crates one after the other by documented commands, which takes longer.
 """
 
 import ctypes
@@ -17,7 +17,7 @@ import sys
 sys.dont_write_bytecode = True
 from crates import crates_of
 
-# The parts by their names in `rt`, and their purposes. A part `crate.NAME` belongs to each value of `rtlib.crates_below`.
+# The parts by their names in `rt`, and their purposes. A part `crate.NAME` belongs to a value of `rtlib.crates_below`.
 PARTS = {
     "handles_of": "the handles that the repository allows",
     "need": "the most memory that a proof is likely to take",
@@ -60,8 +60,14 @@ def kit_of_path():
 
 def version_of(kit):
     """Returns the line that `rt version` prints."""
-    said = subprocess.run([f"{kit}/bin/rt", "version"], stdin=subprocess.DEVNULL, capture_output=True, text=True, errors="replace")
-    return said.stdout.strip() if said.returncode == 0 and said.stdout.strip() else stop(f"{kit}/bin/rt version fails: {said.stderr.strip()}")
+    said = subprocess.run(
+        [f"{kit}/bin/rt", "version"], stdin=subprocess.DEVNULL, capture_output=True, text=True, errors="replace"
+    )
+    return (
+        said.stdout.strip()
+        if said.returncode == 0 and said.stdout.strip()
+        else stop(f"{kit}/bin/rt version fails: {said.stderr.strip()}")
+    )
 
 
 def loaded(kit):
@@ -96,7 +102,10 @@ def toolchain_of(kit, top):
     try:
         return Toolchain(kit, top)
     except Lacking as why:
-        print(f"toolchain: {why}; so the commands rt lib and rt run prove the crates one after the other, which takes longer", file=sys.stderr)
+        print(
+            f"toolchain: {why}; so the commands rt lib and rt run prove the crates one after the other, which takes longer",
+            file=sys.stderr,
+        )
         return Commands(kit, top)
 
 
@@ -133,7 +142,14 @@ class Toolchain(Kit):
         self.rt.Crate.cuts_libraries = True
         self.held, self.of_kit = [], {}
         for theirs in self.rt.rtlib.crates_below(top):
-            refuse_lacking(kit, [part for part in PARTS if part.startswith("crate.") and not hasattr(theirs, part.removeprefix("crate."))])
+            refuse_lacking(
+                kit,
+                [
+                    part
+                    for part in PARTS
+                    if part.startswith("crate.") and not hasattr(theirs, part.removeprefix("crate."))
+                ],
+            )
             self.of_kit[theirs.name] = theirs
 
     def lock(self, crates):
@@ -148,15 +164,25 @@ class Toolchain(Kit):
         return 0.85 * self.rt.free()
 
     def memory(self, crate):
-        """Returns the memory to reserve for the proof of a crate, in bytes. No crate of this repository takes more than 3 GB."""
+        """Returns the memory to reserve for the proof of a crate, in bytes.
+
+        No crate of this repository takes more than 3 GB.
+        """
         return min(self.rt.need(self.of_kit[crate.name]), MOST_MEMORY)
 
     def prove(self, crate, jobs, log):
-        """Proves a crate from nothing and builds it, and returns whether both succeeded. The log gets the prover's output."""
+        """Proves a crate from nothing and builds it, and returns whether both succeeded.
+
+        The log gets the prover's output.
+        """
         theirs, flags = self.of_kit[crate.name], ["--jobs", str(jobs)]
         with open(log, "w", encoding="utf-8", errors="replace") as theirs.out:
             try:
-                return not (self.build(crate, theirs, flags) if crate.is_program or crate.is_static else theirs.build_rlib(flags, anew=True))
+                return not (
+                    self.build(crate, theirs, flags)
+                    if crate.is_program or crate.is_static
+                    else theirs.build_rlib(flags, anew=True)
+                )
             except SystemExit:
                 return False
 
@@ -164,12 +190,15 @@ class Toolchain(Kit):
         """Proves a program or a static library and builds it, and returns the status."""
         made = f"out/{crate.name}.o" if crate.is_program else crate.built()
         words = [*theirs.words(flags, keeps=False), *crate.target()]
-        status = theirs.prove(["build", *words, "--toolchain", f"{self.kit}/toolchain", "--backend", "llvm", "-o", made])
+        status = theirs.prove(
+            ["build", *words, "--toolchain", f"{self.kit}/toolchain", "--backend", "llvm", "-o", made]
+        )
         return status or (theirs.link(made, f"out/{crate.name}") if crate.is_program else 0)
 
 
 class Commands(Kit):
-    """A kit that proves crates by documented commands: `rt lib`, `rt run` for a program, `rattle build` for another machine.
+    """A kit that proves crates by documented commands: `rt lib`, `rt run` for a program, `rattle build` for another
+    machine.
 
     `rt lib` and `rt run` reuse the results of `rt check`, and choose their jobs themselves.
     """
@@ -196,7 +225,18 @@ class Commands(Kit):
         command = [f"{self.kit}/bin/rt", "run" if crate.is_program else "lib"]
         if crate.machine:  # rt builds for x86-64 only
             rattle, _, *words = words_of_check(self.kit, crate)
-            command = [rattle, "build", *words, *crate.target(), "--toolchain", f"{self.kit}/toolchain", "--backend", "llvm", "-o", crate.built()]
+            command = [
+                rattle,
+                "build",
+                *words,
+                *crate.target(),
+                "--toolchain",
+                f"{self.kit}/toolchain",
+                "--backend",
+                "llvm",
+                "-o",
+                crate.built(),
+            ]
         with open(log, "w", encoding="utf-8", errors="replace") as out:
             how = {"cwd": crate.folder, "stdin": subprocess.DEVNULL, "stdout": out, "stderr": out}
             ran = subprocess.run(command, preexec_fn=end_with_parent, **how)
@@ -212,12 +252,25 @@ def end_with_parent():
 
 def words_of_check(kit, crate):
     """Returns the words of `rattle check` for a crate, over the libraries built below it. Its --help explains them."""
-    words = [f"{kit}/bin/rattle", "check", "--crate-name", crate.name, "src/main.rt" if crate.is_program else "src/lib.rt"]
+    words = [
+        f"{kit}/bin/rattle",
+        "check",
+        "--crate-name",
+        crate.name,
+        "src/main.rt" if crate.is_program else "src/lib.rt",
+    ]
     for it in ("std", *crate.libraries):
         words += ["--extern", f"{it}={kit}/rlibs/{it}.rlib"]
     for it in crate.uses:
         words += ["--extern", f"{it.name}={it.rlib}"]
     for folder in (f"{kit}/rlibs", *(os.path.dirname(it.rlib) for it in crate.below())):
         words += ["-L", f"dependency={folder}"]
-    words += ["--antt-project", f"{kit}/rattle/logic/antt-project.json", "--logic-built", f"{kit}/logic_built", "--links", f"{crate.name}="]
+    words += [
+        "--antt-project",
+        f"{kit}/rattle/logic/antt-project.json",
+        "--logic-built",
+        f"{kit}/logic_built",
+        "--links",
+        f"{crate.name}=",
+    ]
     return words + ["--crate-type", "staticlib"] * crate.is_static

@@ -17,8 +17,8 @@ MOST_SHOWN = 2000  # characters
 class UnprovedAnswer(threading.Thread):
     """A trial run, `rt try`, of a command of the program.
 
-    The launcher writes the command's input to the file `input` of a folder when it has read all of it, unless the input is
-    too long for a trial. `said` is a future of the text to show. A trial run that fails never sets it.
+    The launcher writes the command's input to the file `input` of a folder when it has read all of it, unless the input
+    is too long for a trial. `said` is a future of the text to show. A trial run that fails never sets it.
     """
 
     def __init__(self, kit, crate, room, command):
@@ -32,7 +32,13 @@ class UnprovedAnswer(threading.Thread):
             if self.is_over.wait(0.1):
                 return
         with open(self.input, "rb") as file:
-            how = {"stdin": file, "stdout": subprocess.PIPE, "stderr": subprocess.PIPE, "cwd": self.folder, "preexec_fn": end_with_parent}
+            how = {
+                "stdin": file,
+                "stdout": subprocess.PIPE,
+                "stderr": subprocess.PIPE,
+                "cwd": self.folder,
+                "preexec_fn": end_with_parent,
+            }
             self.running = subprocess.Popen(self.words, text=True, errors="replace", **how)
         answer, said = self.running.communicate()
         if answer.strip() and any(line.startswith(ENDED) for line in said.split("\n")):

@@ -35,7 +35,9 @@ def found_in(top, paths, names_of):
 
 def labels(top):
     """Returns the labels of the clauses of all crates, each with its files."""
-    paths = [path for crate in sorted(os.listdir(f"{top}/crates")) for path in files(f"{top}/crates/{crate}/src", ".rt")]
+    paths = [
+        path for crate in sorted(os.listdir(f"{top}/crates")) for path in files(f"{top}/crates/{crate}/src", ".rt")
+    ]
     return found_in(top, paths, lambda text: CLAUSE.findall(code_of(text)))
 
 
@@ -47,7 +49,9 @@ def functions(top, crates):
 
 def definitions(top):
     """Returns the names of the definitions of all crates, each with its files."""
-    paths = [path for crate in sorted(os.listdir(f"{top}/crates")) for path in files(f"{top}/crates/{crate}/specs", ".antt")]
+    paths = [
+        path for crate in sorted(os.listdir(f"{top}/crates")) for path in files(f"{top}/crates/{crate}/specs", ".antt")
+    ]
     return found_in(top, paths, names_in)
 
 
@@ -72,7 +76,9 @@ def sections(top):
     """Yields the sections of the file of labels: a heading, and rows of labels with what their clauses state."""
     for part in re.split(r"^\[", read(f"{top}/{LABELS}"), flags=re.M)[1:]:
         heading, *lines = part.strip().split("\n")
-        yield heading.rstrip("]"), [(names.split(", "), said) for names, said in (line.split(": ", 1) for line in lines)]
+        yield heading.rstrip("]"), [
+            (names.split(", "), said) for names, said in (line.split(": ", 1) for line in lines)
+        ]
 
 
 def described(top):

@@ -38,16 +38,25 @@ def quantiles(y):
         drawn += [box(x, y, CELL, COLOURS[symbol_of(quantile)]), text(x + CELL / 2, y + 23, quantile)]
     for symbol, length in enumerate(WEIGHTS):
         middle = MARGIN + CELL * (sum(WEIGHTS[:symbol]) + length / 2)
-        drawn.append(text(middle, y + HIGH + 18, f"{NAMES[symbol]}: left {sum(WEIGHTS[:symbol])}, p {length}", weight="bold"))
+        drawn.append(
+            text(middle, y + HIGH + 18, f"{NAMES[symbol]}: left {sum(WEIGHTS[:symbol])}, p {length}", weight="bold")
+        )
     return drawn
 
 
 def push(y, head, words, symbol):
     """One push: the head before, what moves out, the head after with its quantile in the symbol's colour."""
     after, below, moves, left_over = pushed(head, words, symbol)
-    drawn = [text(MARGIN, y + 23, f"push {NAMES[symbol]}", anchor="start", weight="bold"), box(92, y, 104, "#fff"), text(144, y + 23, f"head {head}")]
+    drawn = [
+        text(MARGIN, y + 23, f"push {NAMES[symbol]}", anchor="start", weight="bold"),
+        box(92, y, 104, "#fff"),
+        text(144, y + 23, f"head {head}"),
+    ]
     if moves:
-        drawn += [text(264, y + 14, f"word {head % 2**WORD_BITS} moves out", 11), text(264, y + 30, f"head {left_over} is left", 11)]
+        drawn += [
+            text(264, y + 14, f"word {head % 2**WORD_BITS} moves out", 11),
+            text(264, y + 30, f"head {left_over} is left", 11),
+        ]
     drawn += [text(335, y + 23, "→", 18), box(360, y, 110, "#fff"), text(415, y + 23, f"head {after}")]
     drawn += [box(480, y, 90, COLOURS[symbol]), text(525, y + 23, f"quantile {after % 2**PRECISION}")]
     drawn.append(text(590, y + 23, "words " + (", ".join(map(str, below)) or "none"), anchor="start"))

@@ -1,6 +1,7 @@
 #!/usr/bin/env python3
-"""Draws huffman.svg beside this file: the tree that merging makes of a few weights, each node with its index and weight, each
-edge with its bit, and the codewords below the leaves. The numbers are those of docs/HUFFMAN.md, computed here by merging."""
+"""Draws huffman.svg beside this file: the tree that merging makes of a few weights, each node with its index and
+weight, each edge with its bit, and the codewords below the leaves. The numbers are those of docs/HUFFMAN.md, computed
+here by merging."""
 
 import heapq
 import os

@@ -1,7 +1,7 @@
 #!/usr/bin/env python3
-"""Draws range.svg beside this file: how the interval of a range coder narrows, part by part, and which word is held back
-while the interval reaches over its end. The numbers are those of docs/RANGE.md, computed here from the definition of the
-run, in which nothing wraps and no carry is passed on."""
+"""Draws range.svg beside this file: how the interval of a range coder narrows, part by part, and which word is held
+back while the interval reaches over its end. The numbers are those of docs/RANGE.md, computed here from the definition
+of the run, in which nothing wraps and no carry is passed on."""
 
 import os
 
@@ -30,7 +30,9 @@ def text(x, y, words, size=13, anchor="middle", weight="normal"):
 def parts(length):
     """Where each symbol's part of the bar begins and how wide it is, in pixels."""
     scale, starts = length >> PRECISION, [sum(WEIGHTS[:symbol]) for symbol in range(len(WEIGHTS))]
-    return [(MARGIN + BAR * scale * start / length, BAR * scale * weight / length) for start, weight in zip(starts, WEIGHTS)]
+    return [
+        (MARGIN + BAR * scale * start / length, BAR * scale * weight / length) for start, weight in zip(starts, WEIGHTS)
+    ]
 
 
 def bar(y, title, run):
@@ -66,7 +68,10 @@ def main():
     """Writes the picture."""
     run, y = (0, 2**STATE_BITS - 1, 0), 54
     drawn = bar(y, "before the first symbol", run)
-    for symbol, title in [(1, "after symbol 1: the word 126 is held"), (3, "after symbol 3: 127 is released, and the word 127 is held")]:
+    for symbol, title in [
+        (1, "after symbol 1: the word 126 is held"),
+        (3, "after symbol 3: 127 is released, and the word 127 is held"),
+    ]:
         drawn = zoom(y, run[1], symbol) + drawn
         run, y = narrowed(*run, symbol), y + STEP
         drawn += bar(y, title, run)

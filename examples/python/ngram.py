@@ -64,7 +64,9 @@ def main(arguments: list[str]) -> None:
 
     def plot(axes: Any) -> None:
         so_far = list(accumulate(content))
-        axes.plot(range(100, COUNT + 1), [so_far[i - 1] / i for i in range(100, COUNT + 1)], label="information content")
+        axes.plot(
+            range(100, COUNT + 1), [so_far[i - 1] / i for i in range(100, COUNT + 1)], label="information content"
+        )
         axes.axhline(bits, color="gray", linestyle="--", label="range coder, whole text")
 
     draw(plot, arguments, "A text under a row of probabilities for each letter", "letters so far", "bits per letter")

@@ -50,7 +50,9 @@ class Coder:
         """
         with self._lock:
             if self._busy:
-                raise RuntimeError("expected no call of the coder from inside its own call, got one, as from a model's function")
+                raise RuntimeError(
+                    "expected no call of the coder from inside its own call, got one, as from a model's function"
+                )
             try:
                 self._busy = True
                 state, found = change(self._state)

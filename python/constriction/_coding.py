@@ -11,6 +11,7 @@ from ._answers import Wanted, shape_counted, shifted
 from ._buffers import ANSWER, SYMBOL, Numbers, Symbols, lent, listed, room
 from ._numbers import count_of, is_one, listed_of, sequence_of, whole
 from ._places import places_of
+
 from .errors import (
     ImpossibleSymbolError, Refusal, WrongLengthError, WrongWeightsError, impossible, wrong_weights,
 )  # fmt: skip
@@ -91,7 +92,9 @@ def _encoded(
         parts = _parts(len(places), len(weights))
         for part in reversed(parts) if backwards else parts:
             models, count = listed(weights) if located is None else located.lent(part), part.stop - part.start
-            state = encode(places.form if located is None else located.form, state, count, (*models, places.lent(part), count))
+            state = encode(
+                places.form if located is None else located.form, state, count, (*models, places.lent(part), count)
+            )
     finally:
         places.close()
     return state
@@ -163,9 +166,7 @@ def _encoded_under_rows(
     return state
 
 
-def _in_parts(
-    state: Any, symbols: Any, weights: int, decode: Callable[[Any, slice], Any]
-) -> tuple[Any, Any]:
+def _in_parts(state: Any, symbols: Any, weights: int, decode: Callable[[Any, slice], Any]) -> tuple[Any, Any]:
     """Returns the state after decoding symbols in several parts to this list, and the list."""
     for part in _parts(len(symbols), weights):
         state = decode(state, part)

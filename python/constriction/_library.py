@@ -79,7 +79,9 @@ def _load() -> ctypes.CDLL:
     Calls release the interpreter's lock.
     """
     if not PATH.is_file():
-        raise ImportError(f"expected the library at {PATH}, got no file: run tools/library, or set CONSTRICTION_LIBRARY to its path")
+        raise ImportError(
+            f"expected the library at {PATH}, got no file: run tools/library, or set CONSTRICTION_LIBRARY to its path"
+        )
     library = ctypes.CDLL(str(PATH))
     ask = getattr(library, "constriction_version", None)
     found = f"version {_version(ask())}" if ask else "no version"
@@ -215,7 +217,9 @@ def plain_function(name: str) -> Any:
     """
     if name not in _FUNCTIONS:
         return lambda *arguments: 1
-    function = _LIBRARY[f"constriction_{name}"]  # An object of its own, without types of arguments. An attribute has them.
+    function = _LIBRARY[
+        f"constriction_{name}"
+    ]  # An object of its own, without types of arguments. An attribute has them.
     function.restype = c_uint32
     return function
 

@@ -85,9 +85,7 @@ def count_of(number: Any) -> int:
 def unmasked(numbers: Any) -> None:
     masked = sys.modules.get("numpy.ma")
     if masked is not None and isinstance(numbers, masked.MaskedArray):
-        raise TypeError(
-            "expected numbers, got a masked array: pass array.filled(0) or array.compressed()"
-        )
+        raise TypeError("expected numbers, got a masked array: pass array.filled(0) or array.compressed()")
 
 
 def as_numpy(numbers: Any) -> Any:
@@ -147,7 +145,9 @@ def plain_of(numbers: Any) -> Any:
 
 def _flat(dimensions: int) -> None:
     if dimensions != 1:
-        raise TypeError(f"expected a list of numbers, got an array of {dimensions} dimensions: array.ravel() converts it")
+        raise TypeError(
+            f"expected a list of numbers, got an array of {dimensions} dimensions: array.ravel() converts it"
+        )
 
 
 def past(code: str, numbers: Any) -> bool:
@@ -209,7 +209,9 @@ def own_of(code: str, numbers: Any) -> array[Any] | None:
     return memory
 
 
-def words_of(words: List, name: str = "word", refused: type[Refusal] = InvalidDataError, code: str = WORD) -> array[Any]:
+def words_of(
+    words: List, name: str = "word", refused: type[Refusal] = InvalidDataError, code: str = WORD
+) -> array[Any]:
     """Returns a copy of words, each below 2^32, or below 2^16 for the typecode of these.
 
     Raises TypeError for numbers that aren't whole, and ``refused`` for a number that doesn't fit a word.
@@ -222,7 +224,9 @@ def words_of(words: List, name: str = "word", refused: type[Refusal] = InvalidDa
     except OverflowError:
         bits = 8 * array(code).itemsize
         place, number = next((i, it) for i, it in enumerate(map(whole, listed_of(given))) if it >> bits)
-        raise refused(f"expected a {name} of at least 0 and below 2^{bits}, got {shown(number)} at place {place}") from None
+        raise refused(
+            f"expected a {name} of at least 0 and below 2^{bits}, got {shown(number)} at place {place}"
+        ) from None
 
 
 def doubles(table: Any) -> Any:
@@ -291,7 +295,9 @@ def grid_of(numbers: Any) -> tuple[Any, int]:
     width = len(rows[0]) if rows else 1
     for place, row in enumerate(rows):
         if len(row) != width:
-            raise WrongLengthError(f"expected {width} components for each symbol, as for symbol 0, got {len(row)} for symbol {place}")
+            raise WrongLengthError(
+                f"expected {width} components for each symbol, as for symbol 0, got {len(row)} for symbol {place}"
+            )
     return array(NUMBER, (it for row in rows for it in row)), width
 
 

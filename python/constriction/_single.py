@@ -224,8 +224,7 @@ class Buffer:
         self._memory: Any = None
 
     def take(self, memory: Any) -> None:
-        """Stores the address of ``memory``. The memory doesn't move while it exists, because no code makes it longer.
-        """
+        """Stores the address of ``memory``. The memory doesn't move while it exists, because no code makes it longer."""
         if memory is not self._memory:
             self.address.value = memory.buffer_info()[0] if isinstance(memory, array) else memory.ctypes.data
             self.capacity.value, self._memory = len(memory), memory

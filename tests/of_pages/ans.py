@@ -19,7 +19,7 @@ def pop(weights, head, words):
 
 
 def push(weights, symbol, head, words):
-    """Returns the one state whose pop returns this symbol and this state, by a search with and without one more word."""
+    """Returns the one state whose pop returns this symbol and this state, by a search."""
     left, length = entries(weights)[symbol]
     found = []
     for moved in (0, 1):
@@ -39,7 +39,11 @@ def pushes(page, head, words):
         (left, length), old, top = entries(WEIGHTS)[symbol], head, head // 2**12
         before.append((head, words))
         moved, low, below, head, words = push(WEIGHTS, symbol, head, words)
-        room = f"{top} < {length} fails: the word {low} moves out, the head becomes {below}" if moved else f"{top} < {length}"
+        room = (
+            f"{top} < {length} fails: the word {low} moves out, the head becomes {below}"
+            if moved
+            else f"{top} < {length}"
+        )
         room += " (by chance equal)" if low == below else ""
         judge(moved == (top >= length), "the room of a push")
         after = f"{below} / {length} * 16 + {left} + {below} % {length} = {head}"
@@ -70,16 +74,20 @@ def rounds_within(head, length, precision, word, state, bits):
 
 
 def rounding(page):
-    """Checks the rounding errors of all heads and weights here, and of the default coder's heads with the greatest errors."""
+    """Checks the rounding errors of all heads and weights here, and of the default coder's extreme ones."""
     for length in range(1, 2**4):
         near = all(rounds_within(head, length, 4, 8, 16, 4) for head in range(2**8, 2**16))
         judge(near, f"{page.name}: the rounding error of a push of weight {length}")
     lengths = {2**power + more for power in range(25) for more in (-1, 0, 1)}
     for length in (it for it in sorted(lengths) if 0 < it < 2**24):
-        heads = [head + (rest << word) for head in (2**32, length << 40) for word in (0, 32) for rest in (0, length - 1)]
+        heads = [
+            head + (rest << word) for head in (2**32, length << 40) for word in (0, 32) for rest in (0, length - 1)
+        ]
         near = all(rounds_within(head, length, 24, 32, 64, 8) for head in heads)
         judge(near, f"{page.name}: the rounding error of a push of weight {length} in 24 bits")
-    page.has("If the head is at least 2^8 before the push, rounding changes the new head by at most 2^-4 of its exact value")
+    page.has(
+        "If the head is at least 2^8 before the push, rounding changes the new head by at most 2^-4 of its exact value"
+    )
     page.has("For `DefaultAnsCoder` at 24 bits and heads of at least 2^32, the bound is 2^-8")
 
 
@@ -89,7 +97,9 @@ def commands(page):
     (left, length), precision = entries(weights)[1], 24
     judge(sum(weights) == 2**precision and length << state - precision == 2**41, "the program's table")
     page.has(f"The program's tables have {precision} bits of precision, and its words have {word} bits")
-    page.has(f"The weights 3, 2 and {weights[2]} belong to the symbols 0, 1 and 2. Symbol 1 has `left = {left}` and `p = {length}`")
+    page.has(
+        f"The weights 3, 2 and {weights[2]} belong to the symbols 0, 1 and 2. Symbol 1 has `left = {left}` and `p = {length}`"
+    )
     page.has(f"a head below 2^41 gives `head / {length} * 2^{precision} + {left} + head % {length}`")
     heads = [0]
     for _ in range(2):
@@ -105,7 +115,9 @@ def test():
     for (left, length), name in zip(entries(WEIGHTS), NAMES):
         page.row(name, left, length, quantiles(left, length), bits_of_information(length, 4))
     head = 29 * 256 + 237
-    page.has(f"imports the words `[237, 29]`, last word first. Its head becomes `29 * 256 + 237 = {head}`, with no words below")
+    page.has(
+        f"imports the words `[237, 29]`, last word first. Its head becomes `29 * 256 + 237 = {head}`, with no words below"
+    )
     head, words, before = pushes(page, head, [])
     export = words + list(reversed(digits(head, 2)))
     page.has(f"`{listed(export)}`, since `{head} = {head // 256} * 256 + {head % 256}`")

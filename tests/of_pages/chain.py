@@ -30,7 +30,7 @@ class Decode(NamedTuple):
 
 
 def walk(bits, words):
-    """Returns a quantile from the bits left over or from a word, as bits; the bits left over; the words; the word read."""
+    """Returns a quantile as bits, the bits left over, the words left, and the word read."""
     if len(bits) >= 4:
         return bits[-4:], bits[:-4], words, None
     word = format(words[-1], "08b")
@@ -65,7 +65,9 @@ def way_there(page):
         page.row(name, it.bits or "none", word, f"{it.answer}, which is {quantile}", it.left_over or "none")
         page.row(name, quantile, it.symbol, it.place, it.way())
     heads = [int("1" + bits, 2) for bits in ("", decodes[0].left_over, decodes[1].left_over)]
-    page.has(f"a 1 and then the bits. Here the number is {heads[0]}, then {heads[1]} (1 {decodes[0].left_over}), then {heads[2]} again")
+    page.has(
+        f"a 1 and then the bits. Here the number is {heads[0]}, then {heads[1]} (1 {decodes[0].left_over}), then {heads[2]} again"
+    )
     page.has("If the new `r` is 2^12 or more, its low word moves out")
     judge((decodes[-1].left_over, words) == ("", []), "no bits and no words are left")
     high, low = divmod(decodes[-1].grown, 256)

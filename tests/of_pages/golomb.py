@@ -59,7 +59,9 @@ def one_after_another(page):
     page.has(f"The numbers 0, 5, 7 are the bits {shown}")
     page.has(f"printf '0 5 7\\n' | ./constriction golomb # prints {shown}, and then {as_word(queue)}")
     suffixes = [golomb(number)[::-1] for number in reversed(numbers)]
-    page.has(f"For 0, 5, 7 the bits are {series(suffixes)} and the end bit: the word is {as_word(''.join(suffixes) + '1')}")
+    page.has(
+        f"For 0, 5, 7 the bits are {series(suffixes)} and the end bit: the word is {as_word(''.join(suffixes) + '1')}"
+    )
 
 
 def reading(page):

@@ -79,7 +79,9 @@ def nodes(page, steps, ways):
     for bit in ways[3]:
         down.append(steps[down[-1] - len(WEIGHTS)][1 + int(bit)])
     page.has(f"The decoder begins at the root, {down[0]}, and takes a bit")
-    page.has(f"After the bits {series(ways[3])} it has gone from {down[0]} through {down[1]} and {down[2]} to {down[3]}")
+    page.has(
+        f"After the bits {series(ways[3])} it has gone from {down[0]} through {down[1]} and {down[2]} to {down[3]}"
+    )
     judge(down[3] == 3 and ways[0] == "00" and ways[5] == "10", "where first bits lead")
     page.has("Here 00, 000 and 0011 lead to symbol 0, by their first 2 bits. The bits 10 lead to union 5")
 

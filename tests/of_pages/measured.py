@@ -4,8 +4,6 @@ from __future__ import annotations
 
 import re
 import subprocess
-from importlib.machinery import SourceFileLoader
-from importlib.util import module_from_spec, spec_from_loader
 
 from judging import TOP, judge, read
 
@@ -15,8 +13,10 @@ PAGE = "docs/MEASUREMENTS.md"
 def tables():
     """Returns the text of each table by its name, and its rows of bare cells."""
     found = {}
-    for name, text in re.findall(r"<!-- table: (.*?) -->\n(.*?)\n<!-- end of table -->", read(PAGE), flags=re.S):
-        rows = [[cell.strip(" *") for cell in line.split("|")[1:-1]] for line in text.splitlines() if line.startswith("|")]
+    for name, text in re.findall(r"<!-- table: (.*?) -->\n(.*?)\n?<!-- end of table -->", read(PAGE), flags=re.S):
+        rows = [
+            [cell.strip(" *") for cell in line.split("|")[1:-1]] for line in text.splitlines() if line.startswith("|")
+        ]
         found[name] = text, rows[2:]
     return found
 
@@ -75,13 +75,14 @@ def program(rows):
 
 def sentences(found):
     """Judges what other pages say of tables."""
-    loader = SourceFileLoader("table", f"{TOP}/bench/table")
-    module = module_from_spec(spec_from_loader("table", loader))
-    loader.exec_module(module)
-    for page, name, pattern, said in module.SENTENCES:
-        shown = re.findall(pattern, read(page))
-        wanted = said(found[name][0])
-        judge(shown == [wanted], f"{page} says {shown} of '{name}', and not {wanted}")
+    names = {"__name__": "table", "__file__": f"{TOP}/bench/table"}
+    exec(compile(read("bench/table"), "bench/table", "exec"), names)
+    for page, name, pattern, said in names["SENTENCES"]:
+        text, rows = found[name]
+        judge(rows, f"{PAGE}: the table '{name}' is empty")
+        if rows:
+            shown, wanted = re.findall(pattern, read(page)), said(text)
+            judge(shown == [wanted], f"{page} says {shown} of '{name}', not {wanted}")
 
 
 def test():
@@ -99,5 +100,8 @@ def test():
     for name, (text, rows) in found.items():
         run = "\n".join([*head(text), *lines[name](rows)])
         done = subprocess.run([f"{TOP}/bench/table"], input=run, capture_output=True, text=True)
-        judge(done.stdout == f"{text}\n", f"{PAGE}: the table '{name}' isn't what bench/table writes\n{done.stdout}{done.stderr}")
+        judge(
+            done.stdout == f"{text}\n",
+            f"{PAGE}: the table '{name}' isn't what bench/table writes\n{done.stdout}{done.stderr}",
+        )
     sentences(found)

@@ -20,7 +20,9 @@ def table(page):
     """Finds the normal distribution of mean 0.5 and deviation 1 over five symbols, at 8 bits."""
     location, scale, count = models.location_of(0.5), models.scale_of(1.0), GREATEST - LEAST + 1
     starts = models.starts(models.GAUSSIAN, location, scale, LEAST, count, PRECISION)
-    page.has(f"This table has the symbols {LEAST} to {GREATEST}, {PRECISION} bits, and the normal distribution of mean 0.5 and")
+    page.has(
+        f"This table has the symbols {LEAST} to {GREATEST}, {PRECISION} bits, and the normal distribution of mean 0.5 and"
+    )
     for k in range(count + 1):
         place = (LEAST + k) * models.UNIT - models.UNIT // 2
         below = 0 if k == 0 else models.ALL if k == count else models.below(models.GAUSSIAN, location, scale, place)
@@ -91,7 +93,7 @@ def margin(page):
 
 
 def mixtures(page):
-    """Finds a mixture of that distribution, weight 3, and one of mean -1 and deviation 0.5, weight 1, below symbol 0."""
+    """Finds a mixture of that distribution (weight 3) and one of mean -1 and deviation 0.5 (weight 1)."""
     parts = [(3, models.location_of(0.5), models.scale_of(1.0)), (1, models.location_of(-1.0), models.scale_of(0.5))]
     place, count = -models.UNIT // 2, GREATEST - LEAST + 1
     first, other = (models.below(models.GAUSSIAN, location, scale, place) for _, location, scale in parts)
@@ -116,7 +118,9 @@ def rows_of_counts(page):
     said = {}
     exec(re.findall(r"^```python\n(.*?)^```$", read("docs/MODELS.md"), flags=re.M | re.S)[1], said)
     starts = models.starts_of_counts([3, 1, 0, 4], 8)
-    page.has(f"The counts 3, 1, 0 and 4 at 8 bits begin at {series(starts[:-1])}: a count of 0 has the weight {starts[3] - starts[2]}.")
+    page.has(
+        f"The counts 3, 1, 0 and 4 at 8 bits begin at {series(starts[:-1])}: a count of 0 has the weight {starts[3] - starts[2]}."
+    )
     dice = random.Random(2)
     for _ in range(200):
         n, bits = dice.choice((1, 2, 9, 101, 256)), dice.choice((12, 24))

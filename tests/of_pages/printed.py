@@ -75,18 +75,21 @@ def paths(text):
 
 
 def family():
-    """Checks that the files of the steps for a family of distributions exist for `Laplace`, name it, and are as many as the page says."""
+    """Checks that the files of the steps for a family exist for `Laplace` and name it, and their number."""
     text = read(MODEL).partition("\n## A family of distributions\n")[2]
     files = [path for cells in re.findall(r"^\|.*\|(.*)\|$", text, flags=re.M)[2:] for path in paths(cells)]
     for path in files:
         found = glob.glob(f"{TOP}/{path.replace('NAME', '[Ll]aplace')}")
         judge(len(found) == 1, f"{MODEL}: there is no {path}")
-        judge(all("laplace" in f"{it}{read(os.path.relpath(it, TOP))}".lower() for it in found), f"{MODEL}: {path} doesn't name Laplace")
+        judge(
+            all("laplace" in f"{it}{read(os.path.relpath(it, TOP))}".lower() for it in found),
+            f"{MODEL}: {path} doesn't name Laplace",
+        )
     judge(f"change or add {len(files)} files" in text, f"{MODEL}: the steps name {len(files)} files")
 
 
 def model():
-    """Checks that code of the guide is in the file that is named above it, and commands of `rt` name functions that exist."""
+    """Checks that code of the guide is in the named files, and that commands of `rt` name functions."""
     for above, language, text in blocks(MODEL):
         named = re.findall(r"`(crates/[\w/]+\.rt)`", above)
         if language == "rust":

@@ -139,12 +139,16 @@ def following(page):
     """Finds the self-delimiting seal, with states of 32 bits."""
     tables, symbols = [[27, 229], [19, 237], [128, 128]], [0, 0, 1]
     weights = [f"`{listed(table)}`" for table in tables]
-    page.has(f"With states of 32 bits `q` is `2^24`. The symbols {symbols[0]}, {symbols[1]} and {symbols[2]}, under the weights {weights[0]}, {weights[1]} and {weights[2]}, leave")
+    page.has(
+        f"With states of 32 bits `q` is `2^24`. The symbols {symbols[0]}, {symbols[1]} and {symbols[2]}, under the weights {weights[0]}, {weights[1]} and {weights[2]}, leave"
+    )
     low, length, moves = steps(page, tables, symbols, 32)[-1]
     number, words = sealed(low, length, moves, 32)
     room, zeros = low + length - number * 2**24, zero_words(low, length, 32)
     page.has(f"So `c = {number}`, and `A + R` is {low + length}, which is `c * q + {room}`")
-    page.has(f"The interval has {room} numbers at or above `c * q`. With `t` zero words the seal needs `q / 256^t` such numbers: `2^24`, {2**24 // 256} or {2**24 // 256**2}. So `t` is {zeros}")
+    page.has(
+        f"The interval has {room} numbers at or above `c * q`. With `t` zero words the seal needs `q / 256^t` such numbers: `2^24`, {2**24 // 256} or {2**24 // 256**2}. So `t` is {zeros}"
+    )
     longer = digits(number, moves + 1) + [0] * zeros
     others, within = words + [255, 255], words + [0, 255]
     judge(found(tables, words, 32)[0] == found(tables, within, 32)[0] == symbols, "what may follow the seal")
@@ -158,13 +162,20 @@ def joined(page):
     tables, symbols = [WEIGHTS] * 2, [1, 3]
     other, later = [129, 127], [0, 1, 1]
     first, second = self_delimited(tables, symbols), self_delimited([other] * 3, later)
-    page.has(f"With states of 32 bits, the symbols `{listed(symbols)}` under the weights `{listed(WEIGHTS)}` give `{listed(first)}`")
+    page.has(
+        f"With states of 32 bits, the symbols `{listed(symbols)}` under the weights `{listed(WEIGHTS)}` give `{listed(first)}`"
+    )
     page.has(f"The symbols `{listed(later)}` under `{listed(other)}` give `{listed(second)}`")
     words = first + second
-    judge(found(tables, words, 32)[0] == symbols and found([other] * 3, words[len(first) :], 32)[0] == later, "both lists come back")
+    judge(
+        found(tables, words, 32)[0] == symbols and found([other] * 3, words[len(first) :], 32)[0] == later,
+        "both lists come back",
+    )
     page.has(f"In `{listed(words)}` the second list begins at place {len(first)}")
     judge(len(words) == 4, "the fourth word")
-    page.has(f"A decoder at place 0 reads {words[3]} as its fourth word and still returns {symbols[0]} and {symbols[1]}")
+    page.has(
+        f"A decoder at place 0 reads {words[3]} as its fourth word and still returns {symbols[0]} and {symbols[1]}"
+    )
 
 
 def self_delimited(tables, symbols, state=32):

@@ -53,7 +53,7 @@ def speed(page):
 
 
 def gate():
-    """README has the gate's multiple: the sum of the columns of the table of costs and of the number below the table."""
+    """README has the gate's multiple: the sum of the table of costs and of the number below it."""
     times = read(PAGE).partition("\n## Cost of the gate\n")[2]
     *rows, whole = [line.split("|")[1:-1] for line in times.splitlines() if line.startswith("|")][2:]
     sums = [round(sum(float(row[column]) for row in rows if row[column].strip())) for column in (1, 3)]
@@ -68,12 +68,21 @@ def gate():
 def shares(rows):
     """The first call has the shares of the table of costs, whose rows may have two crates each."""
     tree = ast.parse(read("tools/first_call.py"))
-    weights = next(ast.literal_eval(it.value) for it in tree.body if isinstance(it, ast.Assign) and getattr(it.targets[0], "id", "") == "WEIGHTS")
+    weights = next(
+        ast.literal_eval(it.value)
+        for it in tree.body
+        if isinstance(it, ast.Assign) and getattr(it.targets[0], "id", "") == "WEIGHTS"
+    )
     told = {tuple(re.findall(r"`(\w+)`", row[0])): float(row[1]) for row in rows if row[1].strip()}
     for crates, share in told.items():
         known = [weights[it] for it in crates if it in weights]
-        judge(not known or abs(sum(known) - share) < 0.05, f"tools/first_call.py: the share of {', '.join(crates)} is {share} in {PAGE}")
-    judge(weights.keys() <= {it for crates in told for it in crates}, f"{PAGE}: a share for each crate of the first call")
+        judge(
+            not known or abs(sum(known) - share) < 0.05,
+            f"tools/first_call.py: the share of {', '.join(crates)} is {share} in {PAGE}",
+        )
+    judge(
+        weights.keys() <= {it for crates in told for it in crates}, f"{PAGE}: a share for each crate of the first call"
+    )
 
 
 def crates_below(name):
@@ -162,4 +171,6 @@ def test():
     speed(page)
     gate()
     rounding = f"{ceil(10000 * log2(1 + 2 ** -(64 - 32 - 24))) / 10000:.4f}"
-    page.has(f"rounding adds at most {rounding} bits a symbol to the information content (24-bit precision, 32-bit words,")
+    page.has(
+        f"rounding adds at most {rounding} bits a symbol to the information content (24-bit precision, 32-bit words,"
+    )

@@ -2,8 +2,8 @@
 
 The classes are coders over backends, at any sizes. A backend has the methods of `Words`; one that refuses calls raises
 `Refused`. A step computes its numbers first, and assigns them after its last call of a backend, so a refusal leaves the
-numbers unchanged. The functions code whole lists. Their words have 32 bits, their states 64, and the precision is 24 bits,
-unless `at_size` sets others.
+numbers unchanged. The functions code whole lists. Their words have 32 bits, their states 64, and the precision is 24
+bits, unless `at_size` sets others.
 """
 
 from __future__ import annotations
@@ -147,8 +147,9 @@ class Stack:
 class Encoder:
     """A range encoder by one growing number: its interval, without carries.
 
-    The interval begins at `start` and was shifted by `shifts` words. `written` words of the number are on the backend. The
-    others are pending: the last word and the words of ones before it, as long as a number of the interval has other words.
+    The interval begins at `start` and was shifted by `shifts` words. `written` words of the number are on the backend.
+    The others are pending: the last word and the words of ones before it, as long as a number of the interval has other
+    words.
     """
 
     def __init__(self, sizes: Sizes, side: Any, start: int = 0, length: Optional[int] = None, shifts: int = 0) -> None:
@@ -199,7 +200,9 @@ class Encoder:
 class Decoder:
     """A range decoder: its interval modulo a state, and the point, which is the number of the words that were read."""
 
-    def __init__(self, sizes: Sizes, side: Any, interval: Optional[tuple[int, int]] = None, point: Optional[int] = None) -> None:
+    def __init__(
+        self, sizes: Sizes, side: Any, interval: Optional[tuple[int, int]] = None, point: Optional[int] = None
+    ) -> None:
         self.sizes, self.side = sizes, side
         self.lower, self.length = interval or (0, (1 << sizes.state) - 1)
         self.point = self.begin() if point is None else point

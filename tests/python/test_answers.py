@@ -56,8 +56,18 @@ class Single(unittest.TestCase):
 
     def test_one_row(self) -> None:
         """One row of weights or probabilities, in any form, decodes to an int."""
-        rows: list[Any] = [[0.1, 0.6, 0.3], (0.1, 0.6, 0.3), array("d", [0.1, 0.6, 0.3]), [1, 6, 3], memoryview(array("d", [0.1, 0.6, 0.3]))]
-        weights: list[Any] = [[1 << 22, 1 << 23, 1 << 22], (1 << 22, 1 << 23, 1 << 22), array("I", [1 << 22, 1 << 23, 1 << 22])]
+        rows: list[Any] = [
+            [0.1, 0.6, 0.3],
+            (0.1, 0.6, 0.3),
+            array("d", [0.1, 0.6, 0.3]),
+            [1, 6, 3],
+            memoryview(array("d", [0.1, 0.6, 0.3])),
+        ]
+        weights: list[Any] = [
+            [1 << 22, 1 << 23, 1 << 22],
+            (1 << 22, 1 << 23, 1 << 22),
+            array("I", [1 << 22, 1 << 23, 1 << 22]),
+        ]
         for model, some in ((Categorical(), rows), (WeightTable(), weights)):
             for row in some:
                 for coder in (AnsCoder([5, 6, 7]), RangeDecoder([5, 6, 7]), ChainCoder(range(1, 9))):
@@ -72,7 +82,12 @@ class Single(unittest.TestCase):
 
     def test_other_parameters(self) -> None:
         """One set of parameters, in any form, decodes to an int."""
-        mixture, weights, means, stds = QuantizedMixture(QuantizedGaussian(-9, 9)), [0.25, 0.75], [1.0, -1.0], [2.0, 0.5]
+        mixture, weights, means, stds = (
+            QuantizedMixture(QuantizedGaussian(-9, 9)),
+            [0.25, 0.75],
+            [1.0, -1.0],
+            [2.0, 0.5],
+        )
         for forms in (list, tuple, iter, lambda it: (x for x in it), lambda it: array("d", it)):
             coder = AnsCoder([5, 6, 7])
             other = coder.clone()
@@ -94,9 +109,16 @@ class QuickWays(unittest.TestCase):
         dice, mixture, family = random.Random(5), QuantizedMixture(QuantizedGaussian(-9, 9)), QuantizedGaussian(-9, 9)
         far = QuantizedMixture(QuantizedGaussian(1 << 40, (1 << 40) + 6))
         for _ in range(60):
-            shares = [dice.choice((0.0, 1e-9, 0.5, dice.random() * 10 ** dice.randint(-30, 30))) for _ in range(dice.choice((2, 5, 16)))] + [0.25]
+            shares = [
+                dice.choice((0.0, 1e-9, 0.5, dice.random() * 10 ** dice.randint(-30, 30)))
+                for _ in range(dice.choice((2, 5, 16)))
+            ] + [0.25]
             weights = by.random_weights(dice, 3)
-            components = [dice.random() / 2 for _ in range(3)], [dice.uniform(-12, 12) for _ in range(3)], [dice.uniform(0.01, 70) for _ in range(3)]
+            components = (
+                [dice.random() / 2 for _ in range(3)],
+                [dice.uniform(-12, 12) for _ in range(3)],
+                [dice.uniform(0.01, 70) for _ in range(3)],
+            )
             for model, given, symbol in (
                 (Categorical(), (shares,), 0), (WeightTable(), (weights,), by.random_symbol(dice, weights)), (mixture, components, 3),
                 (far, (components[0], [2.0**40] * 3, components[2]), (1 << 40) + 2), (family, ([components[1][0]], [components[2][0]]), -4),
@@ -112,7 +134,10 @@ class QuickWays(unittest.TestCase):
                         coder, other = coder.get_decoder(), other.get_decoder()
                     with slow:
                         found: Any = coder.decode(model, *given)
-                    self.assertEqual(found if model is family else [found], other.decode(model, *(given if model is family else ([it] for it in given))))
+                    self.assertEqual(
+                        found if model is family else [found],
+                        other.decode(model, *(given if model is family else ([it] for it in given))),
+                    )
                     self.assertEqual([found] if model is not family else found, [symbol])
 
     def test_refusals(self) -> None:
@@ -141,7 +166,11 @@ class OneForAll(unittest.TestCase):
     def test_parameters(self) -> None:
         """Single parameters have the same words as lists that repeat them. Other lengths are refused."""
         symbols, means, stds = [3, -2, 0, 5], [2.5, -1.0, 0.25, 4.0], [2.0] * 4
-        family, mixture, weights = QuantizedGaussian(-9, 9), QuantizedMixture(QuantizedGaussian(-9, 9)), [1 << 22, 1 << 23, 1 << 22]
+        family, mixture, weights = (
+            QuantizedGaussian(-9, 9),
+            QuantizedMixture(QuantizedGaussian(-9, 9)),
+            [1 << 22, 1 << 23, 1 << 22],
+        )
         two = [[0.25, 0.75]] * 4
         cases: list[tuple[Any, Any, tuple[Any, ...], list[tuple[Any, ...]]]] = [
             (family, symbols, (means, stds), [(means, 2.0), (means, [2.0]), (means, array("d", [2.0])), (tuple(means), 2)]),
@@ -183,7 +212,10 @@ class Bytes(unittest.TestCase):
             for it in (coder, encoder):
                 words = list(it.get_compressed())
                 self.assertEqual(it.to_bytes(), b"".join(word.to_bytes(4, "little") for word in words))
-            self.assertEqual(encoder.to_bytes(self_delimiting=True), struct.pack(f"<{len(encoder.get_compressed(True))}I", *encoder.get_compressed(True)))
+            self.assertEqual(
+                encoder.to_bytes(self_delimiting=True),
+                struct.pack(f"<{len(encoder.get_compressed(True))}I", *encoder.get_compressed(True)),
+            )
             for kind in (bytes, bytearray, memoryview, lambda it: array("B", it)):
                 self.assertEqual(list(AnsCoder.from_bytes(kind(coder.to_bytes())).decode(model, count)), symbols)
                 self.assertEqual(list(RangeDecoder.from_bytes(kind(encoder.to_bytes())).decode(model, count)), symbols)
@@ -196,7 +228,9 @@ class Bytes(unittest.TestCase):
         """Bytes that aren't whole words, and values that aren't bytes, are refused."""
         for make in (AnsCoder.from_bytes, RangeDecoder.from_bytes):
             for size in (1, 2, 3, 5):
-                self.assertRaisesRegex(errors.InvalidDataError, f"^expected 4 bytes for each word, got {size} bytes$", make, bytes(size))
+                self.assertRaisesRegex(
+                    errors.InvalidDataError, f"^expected 4 bytes for each word, got {size} bytes$", make, bytes(size)
+                )
             for wrong in ([1, 2], "abcd", 4, None):
                 self.assertRaisesRegex(TypeError, f"^expected bytes, got {type(wrong).__name__}$", make, wrong)
         self.assertRaises(errors.InvalidDataError, AnsCoder.from_bytes, bytes(4))
@@ -204,7 +238,11 @@ class Bytes(unittest.TestCase):
     def test_a_library_of_another_version(self) -> None:
         for version in ("0.6.0", "0.5.1", "1.5.0"):
             with mock.patch.object(_library, "VERSION", version):
-                self.assertRaisesRegex(ImportError, f"^expected a library of version {version}, as this package, got version 0.5.0 at /", _library._load)
+                self.assertRaisesRegex(
+                    ImportError,
+                    f"^expected a library of version {version}, as this package, got version 0.5.0 at /",
+                    _library._load,
+                )
 
 
 if __name__ == "__main__":

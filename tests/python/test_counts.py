@@ -70,7 +70,10 @@ class Tables(unittest.TestCase):
         self.assertEqual(Categorical([1, 1, 1], perfect=False, lazy=False), quick)
         self.assertNotEqual(quick, perfect)
         self.assertNotEqual(QUICK, Categorical())
-        self.assertEqual((repr(QUICK), repr(quick)), ("Categorical(perfect=False)", f"Categorical({quick.table().tolist()}, perfect=False)"))
+        self.assertEqual(
+            (repr(QUICK), repr(quick)),
+            ("Categorical(perfect=False)", f"Categorical({quick.table().tolist()}, perfect=False)"),
+        )
         for it in (QUICK, quick):
             self.assertEqual(it, copy.deepcopy(it))
             self.assertEqual(it, pickle.loads(pickle.dumps(it)))
@@ -134,7 +137,9 @@ class Words(unittest.TestCase):
                 coder.encode_reverse([count - 1], QUICK, [[1] * count])
                 self.assertEqual(list(coder.decode(QUICK, [[1] * count])), [count - 1])
             else:
-                with self.assertRaisesRegex(ValueError, r"^expected a model of 1 to 2\^12 - 1 symbols, got 4096 in row 0$"):
+                with self.assertRaisesRegex(
+                    ValueError, r"^expected a model of 1 to 2\^12 - 1 symbols, got 4096 in row 0$"
+                ):
                     coder.encode_reverse([0], QUICK, [[1] * count])
 
     def test_widths_and_own_table(self) -> None:
@@ -178,7 +183,9 @@ class Faults(unittest.TestCase):
 
     def test_symbols(self) -> None:
         rows = [[1.0, 0.0], [0.5, 0.5]]
-        self.refused(errors.ImpossibleSymbolError, "^Impossible symbol. Expected 0 .. 1, got 2 at place 1.$", [1, 2], rows)
+        self.refused(
+            errors.ImpossibleSymbolError, "^Impossible symbol. Expected 0 .. 1, got 2 at place 1.$", [1, 2], rows
+        )
         self.refused(errors.WrongLengthError, "2 rows of probabilities and 3 symbols$", [0, 1, 0], rows)
         with self.assertRaises(errors.ImpossibleSymbolError):
             AnsCoder().encode_reverse(2, QUICK, rows[0])

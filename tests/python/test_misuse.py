@@ -125,8 +125,16 @@ print(perf_counter() - begun < 1)
             twin: Any = coder.clone()
             for count in (0, 1, 3):
                 self.assertEqual(coder.decode(THREE, amt=count), twin.decode(THREE, count))
-        self.unchanged(TypeError, r"^expected 2 lists of parameters after the model \(mean, std\), got a number of symbols$", lambda it: it.decode(FAMILY, amt=3))
-        self.unchanged(TypeError, "^expected parameters or a number of symbols, got both$", lambda it: it.decode(FAMILY, [0.5], [1.0], amt=1))
+        self.unchanged(
+            TypeError,
+            r"^expected 2 lists of parameters after the model \(mean, std\), got a number of symbols$",
+            lambda it: it.decode(FAMILY, amt=3),
+        )
+        self.unchanged(
+            TypeError,
+            "^expected parameters or a number of symbols, got both$",
+            lambda it: it.decode(FAMILY, [0.5], [1.0], amt=1),
+        )
 
 
 class Lists(Misuse):
@@ -146,9 +154,7 @@ class Lists(Misuse):
             self.refused(TypeError, "number", lambda: WeightTable(wrong))  # type: ignore[arg-type]
             self.refused(TypeError, "number", lambda: EncoderHuffmanTree(wrong))  # type: ignore[arg-type]
             self.refused(TypeError, "number", lambda: AnsCoder(wrong))  # type: ignore[arg-type]
-        self.unchanged(
-            TypeError, "^expected a list of numbers, got str$", lambda it: it.encode_reverse("abc", THREE)
-        )
+        self.unchanged(TypeError, "^expected a list of numbers, got str$", lambda it: it.encode_reverse("abc", THREE))
         self.unchanged(TypeError, r"array\('I', data\)", lambda it: it.encode_reverse(b"\1\2", THREE))
 
     def test_what_has_no_order(self) -> None:
@@ -190,11 +196,11 @@ class Lists(Misuse):
                 lambda it: it.decode(wrong, 3),
                 lambda it: it.encode_reverse([1], wrong),
             ):
-                self.unchanged(
-                    TypeError, r"^expected a model \(see constriction\.stream\.model\), got ", call
-                )
+                self.unchanged(TypeError, r"^expected a model \(see constriction\.stream\.model\), got ", call)
         self.unchanged(
-            TypeError, "^expected the symbols and then the model, got the model first$", lambda it: it.encode_reverse(THREE, [1])
+            TypeError,
+            "^expected the symbols and then the model, got the model first$",
+            lambda it: it.encode_reverse(THREE, [1]),
         )
         self.unchanged(TypeError, "^expected a model ", lambda it: it.decode(3, THREE))
         for call in (
@@ -305,20 +311,32 @@ class Places(Misuse):
                 lambda: AnsCoder().decode(FAMILY, [0.0] * 3, [1.0, -2.5, 1.0]),
                 "^expected a std that is positive and finite, got -2.5 at place 1$",
             ),
-            (lambda: AnsCoder().decode(FAMILY, [0.0] * 40, [1.0] * 39 + [0.0]), "^expected a std .*, got 0.0 at place 39$"),
-            (lambda: AnsCoder().decode(FAMILY, [0.0, math.nan], [1.0] * 2), "^expected a mean that is finite, got nan at place 1$"),
+            (
+                lambda: AnsCoder().decode(FAMILY, [0.0] * 40, [1.0] * 39 + [0.0]),
+                "^expected a std .*, got 0.0 at place 39$",
+            ),
+            (
+                lambda: AnsCoder().decode(FAMILY, [0.0, math.nan], [1.0] * 2),
+                "^expected a mean that is finite, got nan at place 1$",
+            ),
             (lambda: AnsCoder().decode(FAMILY, 0.0, -1.0), "^expected a std .*, got -1.0$"),
             (lambda: QuantizedGaussian(0, 9, std=-1.0), "^expected a std .*, got -1.0$"),
             (lambda: QuantizedLaplace(0, 9, math.inf), "^expected a mean .*, got inf$"),
             (lambda: Bernoulli(1.5), "^expected a probability between 0 and 1, got 1.5$"),
-            (lambda: Categorical([0.5, -0.5]), "^expected a probability that is at least 0 and finite, got -0.5 at place 1$"),
+            (
+                lambda: Categorical([0.5, -0.5]),
+                "^expected a probability that is at least 0 and finite, got -0.5 at place 1$",
+            ),
             (lambda: Categorical([5, -1]), "^expected a probability that is at least 0, got -1 at place 1$"),
             (lambda: Categorical([0, 0]), "^expected a probability above 0, got none$"),
             (
                 lambda: AnsCoder().decode(Categorical(), [[0.5, 0.5]] * 7 + [[0.5, math.nan]]),
                 "^expected a probability that is at least 0 and finite, got nan at place 1 in row 7$",
             ),
-            (lambda: AnsCoder().decode(WeightTable(), [[1 << 24], [-1]]), r"^expected a weight .*, got -1 at place 0 in row 1$"),
+            (
+                lambda: AnsCoder().decode(WeightTable(), [[1 << 24], [-1]]),
+                r"^expected a weight .*, got -1 at place 0 in row 1$",
+            ),
         ):
             self.refused(ValueError, text, call)
 
@@ -334,7 +352,9 @@ class Places(Misuse):
         text = "^expected weights with a sum of 16777216, got a sum of 8388613 in row 1$"
         self.unchanged(errors.WrongWeightsError, text, lambda it: it.decode(WeightTable(), rows))
         self.unchanged(errors.WrongWeightsError, text, lambda it: it.encode_reverse([0, 0], WeightTable(), rows))
-        self.unchanged(errors.Refusal, "^expected at least one weight, got none$", lambda it: it.decode(WeightTable([])))
+        self.unchanged(
+            errors.Refusal, "^expected at least one weight, got none$", lambda it: it.decode(WeightTable([]))
+        )
         for wrong in (-1, 1 << 32):
             self.refused(
                 errors.WrongWeightsError,
@@ -345,10 +365,20 @@ class Places(Misuse):
                 text = rf"^expected a word of at least 0 and below 2\^32, got {wrong} at place 2$"
                 self.refused(errors.InvalidDataError, text, lambda: make(iter([1, 2, wrong])))  # type: ignore[operator]
         self.refused(
-            errors.WrongWeightsError, "^expected a weight of at least 0, got -1 at place 0$", lambda: EncoderHuffmanTree([-1, 2])
+            errors.WrongWeightsError,
+            "^expected a weight of at least 0, got -1 at place 0$",
+            lambda: EncoderHuffmanTree([-1, 2]),
         )
-        self.refused(errors.WrongWeightsError, "^expected a probability .*, got -0.5 at place 1$", lambda: EncoderHuffmanTree([0.5, -0.5]))
-        self.refused(errors.WrongWeightsError, r"^expected weights with a sum below 2\^32, got a greater sum$", lambda: EncoderHuffmanTree([1, 1 << 40]))
+        self.refused(
+            errors.WrongWeightsError,
+            "^expected a probability .*, got -0.5 at place 1$",
+            lambda: EncoderHuffmanTree([0.5, -0.5]),
+        )
+        self.refused(
+            errors.WrongWeightsError,
+            r"^expected weights with a sum below 2\^32, got a greater sum$",
+            lambda: EncoderHuffmanTree([1, 1 << 40]),
+        )
 
 
 class Ranges(Misuse):
@@ -359,9 +389,13 @@ class Ranges(Misuse):
         kinds: tuple[Any, ...] = (QuantizedGaussian, QuantizedLaplace, QuantizedCauchy)
         for least, greatest in ((1 << 63, (1 << 63) + 10), ((1 << 63) - 4, 1 << 63), (-(1 << 63) - 1, -(1 << 63) + 4)):
             for kind in kinds:
-                self.refused(ValueError, r"^expected symbols between -2\^63 and 2\^63 - 1, got ", lambda: kind(least, greatest))
+                self.refused(
+                    ValueError, r"^expected symbols between -2\^63 and 2\^63 - 1, got ", lambda: kind(least, greatest)
+                )
                 self.refused(ValueError, "^expected symbols between ", lambda: kind(least, greatest, float(least), 2.0))
-            self.refused(ValueError, "^expected symbols between ", lambda: CustomModel(lambda x: 0.5, None, least, greatest))
+            self.refused(
+                ValueError, "^expected symbols between ", lambda: CustomModel(lambda x: 0.5, None, least, greatest)
+            )
         for least in ((1 << 63) - 11, -(1 << 63)):
             for kind in kinds:
                 model, coder, symbols = kind(least, least + 10), AnsCoder(), [least, least + 10, least + 3]
@@ -413,7 +447,11 @@ class PastFloats(Misuse):
             for call in calls:
                 self.assertRaises(ValueError, call)
         for size in (10**400, -(10**400), 10**5000):
-            for call in (lambda: Binomial(size, 0.5), lambda: Uniform(size), lambda: AnsCoder([5]).decode(Uniform(3), size)):
+            for call in (
+                lambda: Binomial(size, 0.5),
+                lambda: Uniform(size),
+                lambda: AnsCoder([5]).decode(Uniform(3), size),
+            ):
                 self.assertRaises(ValueError, call)
             self.assertRaises(errors.ImpossibleSymbolError, AnsCoder().encode_reverse, size, Uniform(3))
             self.assertRaises(errors.WrongWeightsError, WeightTable, [size])
@@ -422,7 +460,10 @@ class PastFloats(Misuse):
         of, coder = QuantizedMixture(QuantizedGaussian(-9, 9)), AnsCoder([5, 6])
         for weights in ([1e308], [1e308, 1e308], [0.5, 1.7e308], [1e10, 1.0]):
             rest = [0.0] * len(weights), [1.0] * len(weights)
-            for calls in ((coder.decode, (of, [weights], [rest[0]], [rest[1]])), (coder.encode_reverse, (1, of, weights, *rest))):
+            for calls in (
+                (coder.decode, (of, [weights], [rest[0]], [rest[1]])),
+                (coder.encode_reverse, (1, of, weights, *rest)),
+            ):
                 self.assertRaisesRegex(errors.WrongWeightsError, "sum", calls[0], *calls[1])  # type: ignore[arg-type]
 
     def test_rows_of_an_unknown_format(self) -> None:
@@ -437,6 +478,7 @@ class WholeNumbersOfClasses(unittest.TestCase):
 
     def test_counts(self) -> None:
         """Values with `__index__` are counts."""
+
         class Count:
             def __init__(self, of: int) -> None:
                 self.of = of

@@ -11,6 +11,7 @@ import definitions as by
 import definitions_of_models as models
 from constriction import errors
 from constriction.stream.chain import ChainCoder
+
 from constriction.stream.model import (
     QuantizedGaussian, QuantizedLaplace, QuantizedLogistic, QuantizedMixture, Uniform,
 )  # fmt: skip
@@ -131,13 +132,27 @@ class Faults(unittest.TestCase):
         much[4] = [7.0, 0.0, 0.0]
         self.refused(errors.WrongWeightsError, f"{why}, got a sum of 7.0 for symbol 4", much, MEANS, SCALES)
         none[3][1] = -0.5
-        self.refused(ValueError, "expected a weight that is at least 0 and finite, got -0.5 for component 1 of symbol 3", none, MEANS, SCALES)
+        self.refused(
+            ValueError,
+            "expected a weight that is at least 0 and finite, got -0.5 for component 1 of symbol 3",
+            none,
+            MEANS,
+            SCALES,
+        )
 
     def test_parameters(self) -> None:
         means, scales = [list(it) for it in MEANS], [list(it) for it in SCALES]
         means[2][1], scales[5][0] = float("inf"), 0.0
-        self.refused(ValueError, "expected a mean that is finite, got inf for component 1 of symbol 2", WEIGHTS, means, SCALES)
-        self.refused(ValueError, "expected a scale that is positive and finite, got 0.0 for component 0 of symbol 5", WEIGHTS, MEANS, scales)
+        self.refused(
+            ValueError, "expected a mean that is finite, got inf for component 1 of symbol 2", WEIGHTS, means, SCALES
+        )
+        self.refused(
+            ValueError,
+            "expected a scale that is positive and finite, got 0.0 for component 0 of symbol 5",
+            WEIGHTS,
+            MEANS,
+            scales,
+        )
 
     def test_lengths(self) -> None:
         """Arrays of other shapes, ragged rows and rows without components are refused."""
@@ -146,7 +161,13 @@ class Faults(unittest.TestCase):
         narrow = [it[:2] for it in SCALES]
         self.refused(errors.WrongLengthError, f"{shapes} (6, 3) and (6, 3) and (6, 2)", WEIGHTS, MEANS, narrow)
         ragged = [*SCALES[:4], [1.0], SCALES[5]]
-        self.refused(errors.WrongLengthError, "expected 3 components for each symbol, as for symbol 0, got 1 for symbol 4", WEIGHTS, MEANS, ragged)
+        self.refused(
+            errors.WrongLengthError,
+            "expected 3 components for each symbol, as for symbol 0, got 1 for symbol 4",
+            WEIGHTS,
+            MEANS,
+            ragged,
+        )
         empty: Any = [[]] * 6
         self.refused(
             errors.WrongWeightsError, "expected at least one component, got rows without components", empty, empty, empty,
@@ -178,13 +199,31 @@ class Alone(unittest.TestCase):
         dice = random.Random(31)
         weights = (0.5, 0.0, 1e-12, -1e-12, 2.0**-31, 1.9999999999, 2.0, math.nan, 1, -1, -0.0)
         means = (0.0, 1e15, -1e15, 2.0**46, 2.0**47, 1e300, -1e300, math.inf, math.nan, 3, 0.5 / 65536, 1.5 / 65536)
-        scales = (1.0, 1e-9, 2.0**-17, 2.0**-16, 2.0**-18, 65535.9999, 65535.99999999, 65536.0, -1e-12, 0.0, math.nan, 7)
-        model: Any = QuantizedMixture(QuantizedGaussian((1 << 40) - 9, (1 << 40) + 9)), QuantizedMixture(QuantizedLogistic(-9, 9))
+        scales = (
+            1.0,
+            1e-9,
+            2.0**-17,
+            2.0**-16,
+            2.0**-18,
+            65535.9999,
+            65535.99999999,
+            65536.0,
+            -1e-12,
+            0.0,
+            math.nan,
+            7,
+        )
+        model: Any = QuantizedMixture(QuantizedGaussian((1 << 40) - 9, (1 << 40) + 9)), QuantizedMixture(
+            QuantizedLogistic(-9, 9)
+        )
         refused = done = 0
         for _ in range(4000):
             of = dice.choice(model)
             count = dice.choice((1, 1, 2, 3))
-            given = [[dice.choice(few if dice.random() < 0.8 else few[:1]) for _ in range(count)] for few in (weights, means, scales)]
+            given = [
+                [dice.choice(few if dice.random() < 0.8 else few[:1]) for _ in range(count)]
+                for few in (weights, means, scales)
+            ]
             symbol, results = of.first + dice.randrange(19), []
             for coder in (AnsCoder([5, 6, 7]), AnsCoder([5, 6, 7])):
                 one = len(results) == 0

@@ -14,6 +14,7 @@ import definitions as by
 import definitions_of_models as models
 from constriction import errors
 from constriction.stream.chain import ChainCoder
+
 from constriction.stream.model import (
     Bernoulli, Binomial, Categorical, CustomModel, Model, QuantizedCauchy, QuantizedGaussian, QuantizedLaplace,
     QuantizedLogistic, QuantizedMixture,
@@ -175,17 +176,43 @@ class Families(unittest.TestCase):
     def test_extremes(self) -> None:
         """Extreme parameters have the tables of the definitions."""
         widest = (2**32 - 1) * UNIT
-        stds = [UNIT, 3 * UNIT, (2**31 - 1) * UNIT, widest, widest + UNIT / 2, 65536.0 - 2.0**-37, UNIT / 2, UNIT / 3]
+        stds = [
+            UNIT,
+            3 * UNIT,
+            (2**31 - 1) * UNIT,
+            widest,
+            widest + UNIT / 2,
+            65536.0 - 2.0**-37,
+            UNIT / 2,
+            UNIT / 3,
+        ]
         for family in FAMILIES:
             for std in [*stds, 5e-324]:
-                for mean in (0.0, 0.5, -4.5, 4.4999, 10.0, -1e5, 2.0**31, 2.0**46, 2.0**47, -(2.0**60), 1e300, -1e300):
+                for mean in (
+                    0.0,
+                    0.5,
+                    -4.5,
+                    4.4999,
+                    10.0,
+                    -1e5,
+                    2.0**31,
+                    2.0**46,
+                    2.0**47,
+                    -(2.0**60),
+                    1e300,
+                    -1e300,
+                ):
                     self.agrees(family, -4, 5, mean, std)
 
     def test_scales_past_the_limit(self) -> None:
         """Scales past the limit are refused in all calls, and the error names the limit."""
         for kind, name in ((QuantizedGaussian, "std"), (QuantizedLaplace, "scale"), (QuantizedLogistic, "scale")):
             for wide in (65536.0, 65536, 200000.0, 1e30, 1e308):
-                text, family, mixture = f"^expected a {name} below 65536, got ", kind(-9, 9), QuantizedMixture(kind(-9, 9))
+                text, family, mixture = (
+                    f"^expected a {name} below 65536, got ",
+                    kind(-9, 9),
+                    QuantizedMixture(kind(-9, 9)),
+                )
                 for coder in (AnsCoder([5, 6]), RangeDecoder([5, 6]), ChainCoder(range(1, 9))):
                     for call in (
                         lambda: kind(-9, 9, 0.0, wide), lambda: kind(-9, 9, None, wide), lambda: coder.decode(family, 0.0, wide),
@@ -361,7 +388,18 @@ class Proportions(unittest.TestCase):
     def test_two_symbols(self) -> None:
         """Probabilities of two symbols have the weights of the definition."""
         dice = random.Random(13)
-        chances = [0.0, -0.0, 1.0, 0.5, 2.0**-24, 2.0**-25, 1.5 * 2**-24, 2.5 * 2**-24, 1 - 2.0**-24, 1 - 2.0**-26]
+        chances = [
+            0.0,
+            -0.0,
+            1.0,
+            0.5,
+            2.0**-24,
+            2.0**-25,
+            1.5 * 2**-24,
+            2.5 * 2**-24,
+            1 - 2.0**-24,
+            1 - 2.0**-26,
+        ]
         chances.append(5e-324)
         chances += [dice.random() for _ in range(50)] + [math.exp(-20 * dice.random()) for _ in range(50)]
         rows = []
@@ -429,7 +467,11 @@ class Proportions(unittest.TestCase):
             [2.0**-62, 1.0], [1.5 * 2.0**-61, 1.0], [3, 0, 2**53 + 1, 3], [99, 1, 100, 50, 7, 3],
             [1e-9, 0.5, 0.5, 1e-9],
         ]  # fmt: skip
-        lists += [[1.0, 1.0, 1 + 2.0**-45], [1.0, 1 + 2.0**-52, 1.0], [2.0**-9, 2.0**-9 + 2.0**-61, 1.0, 2.0**-9]]
+        lists += [
+            [1.0, 1.0, 1 + 2.0**-45],
+            [1.0, 1 + 2.0**-52, 1.0],
+            [2.0**-9, 2.0**-9 + 2.0**-61, 1.0, 2.0**-9],
+        ]
         for length in range(1, 90, 2):
             lists.append([dice.choice((0.0, dice.random(), math.exp(-30 * dice.random()))) for _ in range(length)])
         for probabilities in lists:

@@ -50,7 +50,9 @@ class BesideTheProgram(unittest.TestCase):
             self.assertEqual([list(found)], answers("range-decode", weights, [count, *words]))
             chain = ChainCoder(words)
             found = chain.decode(model, count)
-            self.assertEqual([list(it) for it in (found, *chain.get_remainders())], answers("chain-split", weights, [count, *words]))
+            self.assertEqual(
+                [list(it) for it in (found, *chain.get_remainders())], answers("chain-split", weights, [count, *words])
+            )
 
     def test_codewords(self) -> None:
         """The program has the words of Exp-Golomb codewords."""

@@ -13,6 +13,7 @@ from unittest import mock
 
 from constriction import errors
 from constriction.stream.chain import ChainCoder
+
 from constriction.stream.model import (
     Binomial, Categorical, Model, QuantizedCauchy, QuantizedGaussian, QuantizedLaplace, QuantizedLogistic, WeightTable,
 )  # fmt: skip
@@ -62,6 +63,7 @@ class Quantiles(unittest.TestCase):
 
     def test_wide_models_are_no_slower(self) -> None:
         """A decode doesn't look at all symbols."""
+
         def seconds(width: int) -> float:
             """Returns the time of a decode with a model of this width."""
             family, coder = QuantizedCauchy(-width, width), AnsCoder(range(1, 1001))

@@ -20,12 +20,20 @@ from unittest import mock
 import definitions
 from constriction import _library, _words, errors
 from constriction.stream.chain import ChainCoder
+
 from constriction.stream.model import (
     Bernoulli, Binomial, Categorical, CustomModel, QuantizedCauchy, QuantizedGaussian, QuantizedLaplace, QuantizedLogistic, Uniform, WeightTable,
 )  # fmt: skip
 from constriction.stream.queue import RangeDecoder, RangeEncoder
 from constriction.stream.stack import AnsCoder
-from constriction.symbol import DecoderHuffmanTree, EncoderHuffmanTree, ExpGolomb, QueueDecoder, QueueEncoder, StackCoder
+from constriction.symbol import (
+    DecoderHuffmanTree,
+    EncoderHuffmanTree,
+    ExpGolomb,
+    QueueDecoder,
+    QueueEncoder,
+    StackCoder,
+)
 
 PACKAGE = str(Path(_library.__file__).parents[1])
 HALVES = WeightTable([8388608, 8388608])
@@ -44,15 +52,31 @@ def coders() -> dict[str, tuple[Any, Callable[[Any], Any], Callable[[Any], Any]]
     queue.encode(symbols, golomb), stack.encode_reverse(symbols, golomb)
     words = array("I", range(1, 1001))
     return {
-        "AnsCoder": (ans, lambda it: it.encode_reverse(symbols, Uniform(300)), lambda it: (it.pos(), it.get_compressed())),
-        "AnsCoder, decode": (AnsCoder(words), lambda it: it.decode(family, *given), lambda it: (it.pos(), it.get_compressed())),
+        "AnsCoder": (
+            ans,
+            lambda it: it.encode_reverse(symbols, Uniform(300)),
+            lambda it: (it.pos(), it.get_compressed()),
+        ),
+        "AnsCoder, decode": (
+            AnsCoder(words),
+            lambda it: it.decode(family, *given),
+            lambda it: (it.pos(), it.get_compressed()),
+        ),
         "AnsCoder, means": (
-            ans.clone(), lambda it: it.encode_reverse(symbols[:50], family, *given), lambda it: (it.pos(), it.get_compressed()),
+            ans.clone(),
+            lambda it: it.encode_reverse(symbols[:50], family, *given),
+            lambda it: (it.pos(), it.get_compressed()),
         ),
         "RangeEncoder, rows": (
-            encoder.clone(), lambda it: it.encode([0, 1] * 25, Bernoulli(), [0.25] * 50), lambda it: (it.pos(), it.get_compressed()),
+            encoder.clone(),
+            lambda it: it.encode([0, 1] * 25, Bernoulli(), [0.25] * 50),
+            lambda it: (it.pos(), it.get_compressed()),
         ),
-        "RangeEncoder": (encoder, lambda it: it.encode(symbols, Uniform(300)), lambda it: (it.pos(), it.get_compressed())),
+        "RangeEncoder": (
+            encoder,
+            lambda it: it.encode(symbols, Uniform(300)),
+            lambda it: (it.pos(), it.get_compressed()),
+        ),
         "RangeDecoder": (RangeDecoder(words), lambda it: it.decode(family, *given), lambda it: it._state.numbers),
         "ChainCoder": (ChainCoder(words), lambda it: it.decode(Uniform(7), 200), lambda it: it.get_remainders()),
         "QueueEncoder": (queue, lambda it: it.encode(symbols * 9, golomb), lambda it: it.get_compressed()),
@@ -120,6 +144,7 @@ class Copies(unittest.TestCase):
 
     def test_what_is_put_beside(self) -> None:
         """Copies of a subclass keep further attributes."""
+
         class Named(AnsCoder):
             pass
 
@@ -178,6 +203,7 @@ class Equal(unittest.TestCase):
 
     def test_models(self) -> None:
         """Models are equal if their parameters are, and have readable representations."""
+
         def made() -> list[Any]:
             """Returns new models."""
             return [
@@ -341,7 +367,10 @@ class Memory(unittest.TestCase):
     """Lack of memory."""
 
     def refused(self, call: Callable[[], Any], shown: Callable[[], Any]) -> int:
-        """Refuses the first request for room, then the second, and so on, until the call succeeds. Returns how many were refused."""
+        """Refuses the first request for room, then the second, and so on, until the call succeeds.
+
+        Returns how many were refused.
+        """
         before = shown()
         for place in range(1000):
             seen = 0
@@ -368,7 +397,13 @@ class Memory(unittest.TestCase):
         for name, (coder, change, shown) in coders().items():
             twin, wanted = coder.clone(), coder.clone()
             change(wanted)
-            self.assertGreater(self.refused(lambda: change(twin), lambda: shown(twin)) + name.startswith("Queue") + name.startswith("Stack"), 0, name)
+            self.assertGreater(
+                self.refused(lambda: change(twin), lambda: shown(twin))
+                + name.startswith("Queue")
+                + name.startswith("Stack"),
+                0,
+                name,
+            )
             self.assertEqual(shown(twin), shown(wanted), name)
 
     def test_exports(self) -> None:
@@ -380,6 +415,7 @@ class Memory(unittest.TestCase):
 
     def test_bits_that_find_no_room(self) -> None:
         """If a bit coder lacks memory, it stays unchanged."""
+
         class Full(bytearray):
             def __setitem__(self, place: Any, value: Any) -> None:
                 raise MemoryError
@@ -426,7 +462,9 @@ print(coder.decode(model, 1002) == [1, 0] + [1] * 1000)
         # Without numpy, which wants more memory than the process may have.
         folders = str(Path(__file__).parent / "without_numpy"), PACKAGE
         path = {"PYTHONPATH": os.pathsep.join(folders), "CONSTRICTION_LIBRARY": str(_library.PATH)}
-        ran = subprocess.run([sys.executable, "-c", program], env={**os.environ, **path}, capture_output=True, text=True)
+        ran = subprocess.run(
+            [sys.executable, "-c", program], env={**os.environ, **path}, capture_output=True, text=True
+        )
         self.assertEqual((ran.stdout, ran.stderr), ("refused True True\nTrue\n", ""))
 
 
@@ -460,7 +498,9 @@ class WholeNumbers(unittest.TestCase):
                 self.assertRaisesRegex(TypeError, "expected whole numbers, got ", call, wrong)
         for call in (AnsCoder().encode_reverse, RangeEncoder().encode):
             for wrong in ([1.9, -2.9], array("d", [1.9, -2.9])):
-                self.assertRaisesRegex(TypeError, "expected whole numbers, got ", call, wrong, family, [0.0, 0.0], [1.0, 1.0])
+                self.assertRaisesRegex(
+                    TypeError, "expected whole numbers, got ", call, wrong, family, [0.0, 0.0], [1.0, 1.0]
+                )
             self.assertRaisesRegex(TypeError, "expected whole numbers, got ", call, 1.0, family, 0.0, 1.0)
             self.assertRaisesRegex(TypeError, "expected whole numbers, got ", call, 1.0, fixed)
         for call in (QueueEncoder().encode_symbol, StackCoder().encode_symbol):
@@ -471,6 +511,7 @@ class WholeNumbers(unittest.TestCase):
 
     def test_whole_numbers_of_a_class(self) -> None:
         """Values with `__index__` are whole numbers."""
+
         class Three:
             def __index__(self) -> int:
                 return 3

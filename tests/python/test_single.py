@@ -235,7 +235,10 @@ class Single(unittest.TestCase):
             signal.signal(signal.SIGALRM, before)
 
     def is_done(self, coder: AnsCoder, steps: list[Step], start: tuple[int, int]) -> bool:
-        """Returns whether the last symbol is on the stack. All symbols have to come back, and the words below them stay."""
+        """Returns whether the last symbol is on the stack.
+
+        All symbols have to come back, and the words below them stay.
+        """
         twin = coder.clone()
         return all(twin.decode(*it[1:2], *it[2]) == it[0] for it in reversed(steps)) and twin.pos() == start
 

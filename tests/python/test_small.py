@@ -14,6 +14,7 @@ import definitions as by
 import definitions_of_models as models
 from constriction import errors
 from constriction.stream.chain import ChainCoder, SmallChainCoder
+
 from constriction.stream.model import (
     Bernoulli, Binomial, Categorical, CustomModel, Model, QuantizedCauchy, QuantizedGaussian, QuantizedLaplace, QuantizedLogistic, QuantizedMixture,
     Uniform, WeightTable,
@@ -40,7 +41,11 @@ def table(family: str, mean: float, deviation: float) -> list[int]:
 def some_case(dice: random.Random) -> Case:
     """Returns a random model, with parameters of one symbol."""
     mean, std = dice.uniform(-15, 15), math.exp(dice.uniform(-12, 11))
-    weights, size, p = by.random_weights(dice, dice.choice((1, 2, 16, 70))), dice.choice((1, 2, 7, 300, TOTAL)), dice.random()
+    weights, size, p = (
+        by.random_weights(dice, dice.choice((1, 2, 16, 70))),
+        dice.choice((1, 2, 7, 300, TOTAL)),
+        dice.random(),
+    )
     counts = [dice.choice((0, 1, 5, dice.randrange(1 << 40))) for _ in range(dice.choice((1, 2, 9, 300)))] + [3]
     kind, family = dice.choice(FAMILIES)
     shares = [dice.uniform(0.1, 0.3) for _ in range(3)]
@@ -205,7 +210,9 @@ class Small(unittest.TestCase):
             with self.assertRaisesRegex(errors.WrongWeightsError, "sum of 16777216, got a sum of 4096"):
                 AnsCoder().encode_reverse([1], WeightTable([1, 4095]))
         self.assertRaisesRegex(errors.InvalidDataError, r"below 2\^16, got 65536", SmallAnsCoder, [1, 65536])
-        self.assertRaisesRegex(errors.InvalidDataError, r"2 bytes for each word, got 3", SmallAnsCoder.from_bytes, b"abc")
+        self.assertRaisesRegex(
+            errors.InvalidDataError, r"2 bytes for each word, got 3", SmallAnsCoder.from_bytes, b"abc"
+        )
         self.assertRaises(errors.WrongLengthError, coder.seek, 0, 1 << 32)
         self.assertEqual([pickle.dumps(it) for it in (coder, encoder, chain)], before)
 
@@ -225,7 +232,10 @@ class Small(unittest.TestCase):
         self.assertEqual(pickle.loads(pickle.dumps(model)), model)
         self.assertEqual(Categorical([3, 1, 4, 1, 5]), model)
         sealed = SmallAnsCoder([5, 0], seal=True)
-        self.assertEqual((sealed.get_binary().tolist(), SmallChainCoder([1, 2, 0], seal=True).get_data(unseal=True)[1].tolist()), ([5, 0], [1, 2, 0]))
+        self.assertEqual(
+            (sealed.get_binary().tolist(), SmallChainCoder([1, 2, 0], seal=True).get_data(unseal=True)[1].tolist()),
+            ([5, 0], [1, 2, 0]),
+        )
         for kind in (SmallAnsCoder, SmallRangeDecoder, SmallRangeEncoder, SmallChainCoder):
             self.assertTrue(issubclass(kind, (AnsCoder, RangeDecoder, RangeEncoder, ChainCoder)))
 

@@ -193,7 +193,9 @@ class Stores(unittest.TestCase):
         for kinds in (2, 5, 300):
             weights = random_weights(draw, kinds)
             model = WeightTable(weights)
-            chunks = [[random_symbol(draw, weights) for _ in range(draw.randrange(30))] for _ in range(draw.randrange(40))]
+            chunks = [
+                [random_symbol(draw, weights) for _ in range(draw.randrange(30))] for _ in range(draw.randrange(40))
+            ]
             built = Store.build(chunks, model)
             words, index = built_by_function(chunks, model)
             self.assertEqual(list(built.words), words)
@@ -205,8 +207,12 @@ class Stores(unittest.TestCase):
         """Random words and entries have the results of the C functions."""
         draw = random.Random(12)
         for _ in range(3000):
-            words = [draw.choice((0, 1, 1 << 31, (1 << 32) - 1, draw.randrange(1 << 32))) for _ in range(draw.randrange(4))]
-            state = draw.choice((0, (1 << 64) - 1, draw.randrange(1 << 64))), draw.choice((0, (1 << 64) - 1, draw.randrange(1 << 64)))
+            words = [
+                draw.choice((0, 1, 1 << 31, (1 << 32) - 1, draw.randrange(1 << 32))) for _ in range(draw.randrange(4))
+            ]
+            state = draw.choice((0, (1 << 64) - 1, draw.randrange(1 << 64))), draw.choice(
+                (0, (1 << 64) - 1, draw.randrange(1 << 64))
+            )
             entry = draw.randrange(len(words) + 1), state, draw.randrange(5)
             found = Store.from_parts(array("I", words), [entry], HALVES)
             try:

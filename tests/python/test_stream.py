@@ -186,7 +186,9 @@ class Ans(unittest.TestCase):
                     self.assertRaises(errors.ImpossibleSymbolError, coder.encode_reverse, [symbol], model)
         with self.assertRaises(errors.ImpossibleSymbolError):
             coder.encode_reverse([51], QuantizedGaussian(-50, 50), [0.0], [1.0])
-        with self.assertRaisesRegex(errors.WrongWeightsError, "^expected weights with a sum of 16777216, got a sum of 3$"):
+        with self.assertRaisesRegex(
+            errors.WrongWeightsError, "^expected weights with a sum of 16777216, got a sum of 3$"
+        ):
             coder.encode_reverse(0, WeightTable([1, 2]))
         with self.assertRaises(errors.WrongWeightsError):
             coder.decode(WeightTable(), [[16777216, 0], [16777216, 1]])
@@ -323,7 +325,9 @@ class Range(unittest.TestCase):
         """A decoder seeks to recorded positions in any order, and refuses invalid ones."""
         dice = random.Random(4)
         encoder, positions = RangeEncoder(), []
-        lists = [[definitions.random_symbol(dice, [1, 2, 16777213]) for _ in range(dice.randrange(30))] for _ in range(30)]
+        lists = [
+            [definitions.random_symbol(dice, [1, 2, 16777213]) for _ in range(dice.randrange(30))] for _ in range(30)
+        ]
         for it in lists:
             positions.append(encoder.pos())
             encoder.encode(it, SEVERAL)
@@ -347,7 +351,9 @@ class Range(unittest.TestCase):
         decoder.decode(TWO, 100)
         self.assertTrue(decoder.maybe_exhausted())
 
-    @unittest.skipUnless("range_into_self_delimited_u32" in _library._FUNCTIONS, "the library has no self-delimiting seal")
+    @unittest.skipUnless(
+        "range_into_self_delimited_u32" in _library._FUNCTIONS, "the library has no self-delimiting seal"
+    )
     def test_self_delimiting(self) -> None:
         """Any words may follow self-delimiting words."""
         dice = random.Random(14)
@@ -477,7 +483,9 @@ class Chain(unittest.TestCase):
                 with mock.patch.object(_coding, "room", room), mock.patch.object(_words, "room", room):
                     for count in (most + 1, most + 2, 10**6, 10**13):
                         before, asked[:] = coder.get_remainders(), []
-                        self.assertRaisesRegex(errors.OutOfDataError, r"^Out of compressed data\.$", coder.decode, Uniform(7), count)
+                        self.assertRaisesRegex(
+                            errors.OutOfDataError, r"^Out of compressed data\.$", coder.decode, Uniform(7), count
+                        )
                         self.assertRaises(errors.WrongWeightsError, coder.decode, WeightTable([5]), count)
                         self.assertLess(max(asked), 200)
                         self.assertEqual(coder.get_remainders(), before)

@@ -12,7 +12,14 @@ from array import array
 import constriction.symbol
 import definitions
 from constriction import errors
-from constriction.symbol import DecoderHuffmanTree, EncoderHuffmanTree, ExpGolomb, QueueDecoder, QueueEncoder, StackCoder
+from constriction.symbol import (
+    DecoderHuffmanTree,
+    EncoderHuffmanTree,
+    ExpGolomb,
+    QueueDecoder,
+    QueueEncoder,
+    StackCoder,
+)
 
 
 class Codewords(unittest.TestCase):
@@ -54,7 +61,9 @@ class Codewords(unittest.TestCase):
             self.assertEqual(encoder.get_compressed(), (definitions.queue_words(bits), len(bits)))
         with self.assertRaisesRegex(errors.WrongWeightsError, "^expected at least one weight, got none$"):
             EncoderHuffmanTree([])
-        with self.assertRaisesRegex(errors.WrongWeightsError, r"^expected weights with a sum below 2\^32, got a greater sum$"):
+        with self.assertRaisesRegex(
+            errors.WrongWeightsError, r"^expected weights with a sum below 2\^32, got a greater sum$"
+        ):
             DecoderHuffmanTree([(1 << 32) - 1, 1])
         with self.assertRaises(errors.ImpossibleSymbolError):
             QueueEncoder().encode([0, 5], EncoderHuffmanTree([2, 2, 4, 1, 1]))
@@ -171,7 +180,9 @@ class Codewords(unittest.TestCase):
             encoder.encode(symbols, canonical)
             bits = "".join(wanted[it] for it in symbols)
             self.assertEqual(encoder.get_compressed(), (definitions.queue_words(bits), len(bits)))
-            found = QueueDecoder(encoder.get_compressed()).decode(DecoderHuffmanTree.from_lengths(lengths), len(symbols))
+            found = QueueDecoder(encoder.get_compressed()).decode(
+                DecoderHuffmanTree.from_lengths(lengths), len(symbols)
+            )
             self.assertEqual(found.tolist(), symbols)
         deep = DecoderHuffmanTree.from_lengths([*range(1, 32), 31])
         self.assertEqual(deep.code_lengths().tolist(), [*range(1, 32), 31])
@@ -207,7 +218,13 @@ class Codewords(unittest.TestCase):
         """The pair that an encoder returns ends with its codewords. The words alone end with the last word."""
         tree, encoder, stack = DecoderHuffmanTree([1, 1]), QueueEncoder(), StackCoder()
         encoder.encode([1, 0, 0], tree), stack.encode_reverse([1, 0, 0], tree)
-        for given, count in ((encoder.get_compressed(), 3), (encoder.get_compressed()[0], 32), ([1], 32), ((1, 1), 64), ([1, 1], 64)):
+        for given, count in (
+            (encoder.get_compressed(), 3),
+            (encoder.get_compressed()[0], 32),
+            ([1], 32),
+            ((1, 1), 64),
+            ([1, 1], 64),
+        ):
             decoder = QueueDecoder(given)  # type: ignore[arg-type]
             self.assertEqual(decoder.decode(tree, count)[:3].tolist(), [1, 0, 0])
             self.assertEqual(decoder.pos(), count)
@@ -223,6 +240,7 @@ class Codewords(unittest.TestCase):
 
     def test_a_symbol_at_a_time_is_linear(self) -> None:
         """The time of decoding symbol by symbol is linear."""
+
         def seconds(count: int) -> float:
             """Returns the time of decoding `count` symbols."""
             encoder = QueueEncoder()

@@ -1,4 +1,4 @@
-"""The package's types, by mypy if it is installed: it accepts the package, and refuses each call of a list of misuses."""
+"""The package's types, by mypy if it is installed."""
 
 from __future__ import annotations
 

@@ -22,6 +22,7 @@ from unittest import mock
 import definitions as by
 from constriction import _buffers, _coding, errors
 from constriction.stream.chain import ChainCoder, SmallChainCoder
+
 from constriction.stream.model import (
     Bernoulli, Categorical, CustomModel, Model, QuantizedGaussian, QuantizedLaplace, QuantizedLogistic, QuantizedMixture, Uniform, WeightTable,
 )  # fmt: skip
@@ -81,10 +82,20 @@ def twin_of(coder: Any) -> Any:
 def whole(coder: Any) -> tuple[Any, ...]:
     """Returns all that a coder's calls tell without a change of the coder."""
     told: list[Any] = [pickle.dumps(coder), repr(coder)]
-    for name in ("pos", "get_compressed", "num_words", "num_valid_bits", "get_remainders", "maybe_exhausted", "is_empty"):
+    for name in (
+        "pos",
+        "get_compressed",
+        "num_words",
+        "num_valid_bits",
+        "get_remainders",
+        "maybe_exhausted",
+        "is_empty",
+    ):
         if hasattr(coder, name):
             found = getattr(coder, name)()
-            told.append([it.tolist() if hasattr(it, "tolist") else it for it in found] if type(found) is tuple else found)
+            told.append(
+                [it.tolist() if hasattr(it, "tolist") else it for it in found] if type(found) is tuple else found
+            )
     return tuple(it.tolist() if hasattr(it, "tolist") else it for it in told)
 
 
@@ -242,6 +253,7 @@ class Case:
 
         def model(coder: Any = None, raised: Any = None) -> Model:
             """Returns a model whose distribution function uses the coder."""
+
             def cdf(x: float) -> float:
                 if coder is not None:
                     using(inner, coder, raised)
@@ -250,7 +262,10 @@ class Case:
             return CustomModel(cdf, None, -4, 4)
 
         calls: list[tuple[Callable[[list[Any]], Change], Change]] = [
-            (lambda raised: lambda it: getattr(it, encode)(3, model(it, raised)), lambda it: getattr(it, encode)(3, model())),
+            (
+                lambda raised: lambda it: getattr(it, encode)(3, model(it, raised)),
+                lambda it: getattr(it, encode)(3, model()),
+            ),
             (lambda raised: lambda it: getattr(it, decode)(model(it, raised)), lambda it: getattr(it, decode)(model())),
             (
                 lambda raised: lambda it: getattr(it, encode)([1, number(2, it, raised), 3], Uniform(9)),
@@ -416,7 +431,11 @@ class Bits(Case):
             symbol = (dice.randrange(size),) if encodes else ()
             return lambda it: getattr(it, name)(*symbol, book)
         symbols = [dice.randrange(size) for _ in range(dice.choice((0, 1, 5, 70)))]
-        return (lambda it: getattr(it, name)(symbols, book)) if encodes else lambda it: getattr(it, name)(book, len(symbols) // 9)
+        return (
+            (lambda it: getattr(it, name)(symbols, book))
+            if encodes
+            else lambda it: getattr(it, name)(book, len(symbols) // 9)
+        )
 
     def refused(self) -> Change:
         book, dice, name = EncoderHuffmanTree([2, 2, 4, 1, 1]), self.dice, self.encode
@@ -635,7 +654,10 @@ class Whole(unittest.TestCase):
         return stack
 
     def inside(self, case: Case, coder: Any, twin: Any) -> None:
-        """Makes a call whose arguments call the same coder. The inner call raises RuntimeError, and the outer one may go on."""
+        """Makes a call whose arguments call the same coder.
+
+        The inner call raises RuntimeError, and the outer one may go on.
+        """
         using, plain = case.from_inside(case.change(case.dice.random() < 0.7))
         after, again = twin_of(twin), case.dice.random() < 0.5
         raised: list[Any] = ["again"] * again
@@ -664,7 +686,11 @@ class Whole(unittest.TestCase):
             other(first), change(first)
         except errors.Refusal:
             return
-        before, place, told = (coder.pos()[0] if isinstance(case, Ans) else 0), case.dice.randrange(1, count + 1), list[str]()
+        before, place, told = (
+            (coder.pos()[0] if isinstance(case, Ans) else 0),
+            case.dice.randrange(1, count + 1),
+            list[str](),
+        )
 
         def handler(number: int) -> None:
             if number == place:

@@ -23,6 +23,7 @@ Self = TypeVar("Self", bound="RangeDecoder")
 #: The models whose parameters are rows.
 RowModel = Union[Categorical, WeightTable, QuantizedMixture]
 
+
 class _Writing(NamedTuple):
     """The words that an encoder wrote, and the encoder's numbers."""
 
@@ -268,9 +269,7 @@ class RangeDecoder(Coder):
     ) -> Answer:
         ...
 
-    def decode(
-        self, model: Model, *amt_or_parameters: Any, amt: Any = None, dtype: Any = None, out: Any = None
-    ) -> Any:
+    def decode(self, model: Model, *amt_or_parameters: Any, amt: Any = None, dtype: Any = None, out: Any = None) -> Any:
         """Decodes one symbol, ``amt`` symbols, or one symbol for each set of parameters.
 
         ``amt`` is a number of symbols, or the shape of an array of them. Parameters may have any shape, and the answer

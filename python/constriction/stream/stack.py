@@ -152,7 +152,9 @@ class AnsCoder(Coder):
         ):
             return
         if not self._encoded_alone(symbols, model, parameters):
-            self._changed(lambda it: (encoded(it, self._size, symbols, model, parameters, self._encode, True, self._ready), None))
+            self._changed(
+                lambda it: (encoded(it, self._size, symbols, model, parameters, self._encode, True, self._ready), None)
+            )
 
     def _encode(self, kind: str, state: _State, count: int, arguments: tuple[Any, ...]) -> _State:
         words = state.words.reserve(count, state.top)  # A step writes at most one word.
@@ -192,9 +194,7 @@ class AnsCoder(Coder):
     ) -> Answer:
         ...
 
-    def decode(
-        self, model: Model, *amt_or_parameters: Any, amt: Any = None, dtype: Any = None, out: Any = None
-    ) -> Any:
+    def decode(self, model: Model, *amt_or_parameters: Any, amt: Any = None, dtype: Any = None, out: Any = None) -> Any:
         """Decodes one symbol, ``amt`` symbols, or one symbol for each set of parameters.
 
         ``amt`` is a number of symbols, or the shape of an array of them. Parameters may have any shape, and the answer

@@ -16,9 +16,7 @@ __all__ = ["Codebook", "codebook_wanted"]
 def codebook_wanted(codebook: Any) -> None:
     """Raises TypeError if ``codebook`` isn't a codebook."""
     if not isinstance(codebook, Codebook):
-        raise TypeError(
-            f"expected a codebook, such as a Huffman tree or ExpGolomb(), got {type(codebook).__name__}"
-        )
+        raise TypeError(f"expected a codebook, such as a Huffman tree or ExpGolomb(), got {type(codebook).__name__}")
 
 
 class Codebook:

@@ -38,14 +38,18 @@ def _weights(probabilities: List) -> array[int]:
     except OverflowError:
         for place, weight in enumerate(map(whole, listed_of(given))):
             if weight < 0:
-                raise errors.WrongWeightsError(f"expected a weight of at least 0, got {errors.shown(weight)} at place {place}") from None
+                raise errors.WrongWeightsError(
+                    f"expected a weight of at least 0, got {errors.shown(weight)} at place {place}"
+                ) from None
         raise errors.WrongWeightsError(_TOO_LARGE) from None
     except TypeError:
         shares = floats_of(given)
     total = sum(shares)
     for place, share in enumerate(shares):
         if not 0 <= share < math.inf:
-            raise errors.WrongWeightsError(f"expected a probability that is at least 0 and finite, got {share} at place {place}")
+            raise errors.WrongWeightsError(
+                f"expected a probability that is at least 0 and finite, got {share} at place {place}"
+            )
     if not 0 < total < math.inf:
         raise errors.WrongWeightsError(f"expected probabilities with a finite sum above 0, got a sum of {total}")
     return array(WORD, (int(it / total * _SHARES) for it in shares))
@@ -66,7 +70,10 @@ class _Tree(Codebook):
         or not finite.
         """
         self._weights = _weights(probabilities)
-        self._texts = {2: _TOO_LARGE if len(self._weights) else "expected at least one weight, got none", 8: errors.CODEWORD_ENDED}
+        self._texts = {
+            2: _TOO_LARGE if len(self._weights) else "expected at least one weight, got none",
+            8: errors.CODEWORD_ENDED,
+        }
         self._grown: tuple[list[tuple[int, int]], list[tuple[int, int]]] | None = None
         # Encodes no symbols: this only checks the weights.
         self.encoded(array(SYMBOL), False)
@@ -85,11 +92,15 @@ class _Tree(Codebook):
         given = wholes_of(SYMBOL, sequence_of(lengths))
         for place, length in enumerate(given):
             if not 0 <= length <= _LONGEST:
-                raise errors.WrongWeightsError(f"expected a length between 0 and {_LONGEST}, got {length} at place {place}")
+                raise errors.WrongWeightsError(
+                    f"expected a length between 0 and {_LONGEST}, got {length} at place {place}"
+                )
         longest = max(given, default=0)
         weights = [1 << longest - length for length in given]
         if sum(weights) != 1 << longest:
-            raise errors.WrongWeightsError(f"expected lengths that fill a tree, got a share of {sum(weights) / (1 << longest):.6g}")
+            raise errors.WrongWeightsError(
+                f"expected lengths that fill a tree, got a share of {sum(weights) / (1 << longest):.6g}"
+            )
         return cls(weights)
 
     def code_lengths(self) -> Answer:

@@ -1,4 +1,4 @@
-"""Calls that the types refuse, each marked, and calls that they accept. tests/python/test_types.py passes this file to mypy."""
+"""Calls that the types refuse, each marked, and calls that they accept, for tests/python/test_types.py."""
 
 from array import array
 

@@ -74,7 +74,13 @@ class Arrays(unittest.TestCase):
 
     def test_other_layouts(self) -> None:
         table = numpy.random.default_rng(4).random((20, 6))
-        for it in (table[::2], table[:, ::-1], numpy.asfortranarray(table), table.astype(">f8"), table.astype("float32")[::-3]):
+        for it in (
+            table[::2],
+            table[:, ::-1],
+            numpy.asfortranarray(table),
+            table.astype(">f8"),
+            table.astype("float32")[::-3],
+        ):
             self.coded(it)
 
     def test_many_rows(self) -> None:

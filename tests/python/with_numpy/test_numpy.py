@@ -18,12 +18,20 @@ from constriction import _units, errors
 from constriction._sizes import LARGE
 from constriction.store import Store
 from constriction.stream.chain import ChainCoder
+
 from constriction.stream.model import (
     Bernoulli, Categorical, QuantizedGaussian, QuantizedLaplace, QuantizedLogistic, Uniform, WeightTable,
 )  # fmt: skip
 from constriction.stream.queue import RangeDecoder, RangeEncoder
 from constriction.stream.stack import AnsCoder
-from constriction.symbol import DecoderHuffmanTree, EncoderHuffmanTree, ExpGolomb, QueueDecoder, QueueEncoder, StackCoder
+from constriction.symbol import (
+    DecoderHuffmanTree,
+    EncoderHuffmanTree,
+    ExpGolomb,
+    QueueDecoder,
+    QueueEncoder,
+    StackCoder,
+)
 
 numpy: Any
 try:
@@ -175,7 +183,9 @@ print(*kinds, type(coder.decode(Uniform(3), 2)).__name__)
             self.assertRaises(ValueError, AnsCoder().decode, family, good, numpy.array([0.5, wrong, 1.0]))
         self.assertRaises(ValueError, AnsCoder().decode, family, good, good[:2])
         self.assertRaises(ValueError, AnsCoder().encode_reverse, numpy.arange(2), family, good, good)
-        self.assertRaises(errors.ImpossibleSymbolError, AnsCoder().encode_reverse, numpy.array([1, 10, 2]), family, good, good)
+        self.assertRaises(
+            errors.ImpossibleSymbolError, AnsCoder().encode_reverse, numpy.array([1, 10, 2]), family, good, good
+        )
         self.assertRaises(TypeError, AnsCoder().decode, family, good.astype("complex128"), good)
 
     def test_floats_of_more_bits(self) -> None:
@@ -186,7 +196,11 @@ print(*kinds, type(coder.decode(Uniform(3), 2)).__name__)
         wanted.encode_reverse([1, 2], family, [float(long(0.1)), 0.2], [1.5, 2.5])
         self.assertEqual(coder, wanted)
         self.assertEqual(Categorical(numpy.array([0.1, 0.9], dtype=long)).table(), Categorical([0.1, 0.9]).table())
-        huge = numpy.array([1.0, 2.0], dtype=long) * long(10) ** 400 if numpy.finfo(long).max > 1e308 else numpy.array([numpy.inf] * 2)
+        huge = (
+            numpy.array([1.0, 2.0], dtype=long) * long(10) ** 400
+            if numpy.finfo(long).max > 1e308
+            else numpy.array([numpy.inf] * 2)
+        )
         for call in (
             lambda: coder.decode(family, huge, [1.0, 1.0]), lambda: coder.decode(family, [0.0, 0.0], huge), lambda: Categorical(huge),
             lambda: coder.decode(Bernoulli(), huge), lambda: coder.decode(Categorical(), huge.reshape(1, 2)), lambda: coder.decode(family, huge[0], 1.0),
@@ -200,7 +214,9 @@ print(*kinds, type(coder.decode(Uniform(3), 2)).__name__)
             given = chances.astype(kind)
             self.assertEqual(list(Categorical(given).table()), list(Categorical(given.tolist()).table()))
         self.assertEqual(list(Categorical(numpy.array([3, 1, 4])).table()), list(Categorical([3, 1, 4]).table()))
-        self.assertEqual(list(Bernoulli(numpy.float32(0.3)).table()), list(Bernoulli(float(numpy.float32(0.3))).table()))
+        self.assertEqual(
+            list(Bernoulli(numpy.float32(0.3)).table()), list(Bernoulli(float(numpy.float32(0.3))).table())
+        )
 
     def test_rows(self) -> None:
         """Rows of weights and of probabilities may be arrays of two dimensions."""
@@ -250,7 +266,12 @@ print(*kinds, type(coder.decode(Uniform(3), 2)).__name__)
 
     def test_text_is_no_number(self) -> None:
         """Arrays of texts, objects and complex numbers are refused."""
-        for wrong in (numpy.array(["1", "2"]), [numpy.str_("1"), numpy.str_("2")], numpy.array([None, 1.0]), numpy.array([1j])):
+        for wrong in (
+            numpy.array(["1", "2"]),
+            [numpy.str_("1"), numpy.str_("2")],
+            numpy.array([None, 1.0]),
+            numpy.array([1j]),
+        ):
             for call in (
                 lambda: Categorical(wrong), lambda: WeightTable(wrong), lambda: AnsCoder().decode(QuantizedGaussian(-9, 9), wrong, [1.0, 2.0]),
                 lambda: AnsCoder().encode_reverse(wrong, WeightTable(WEIGHTS)),
@@ -288,13 +309,15 @@ print(*kinds, type(coder.decode(Uniform(3), 2)).__name__)
                 self.assertEqual(Categorical(numpy.array(counts, dtype=kind)).table(), Categorical(counts).table())
         dice = random.Random(4)
         for length in (1, 31, 33, 200):
-            chances = [dice.choice((0.0, dice.random(), math.exp(-40 * dice.random()), 5e-324)) for _ in range(length)] + [2.0 ** dice.randint(-1060, 1020)]
+            chances = [
+                dice.choice((0.0, dice.random(), math.exp(-40 * dice.random()), 5e-324)) for _ in range(length)
+            ] + [2.0 ** dice.randint(-1060, 1020)]
             ours = _units.counts_of(array("d", chances))
             with mock.patch.object(_units, "numpy_module", return_value=None):
                 self.assertEqual(ours, _units.counts_of(array("d", chances)))
 
     def test_lists_of_whole_numbers(self) -> None:
-        """Lists of numpy's whole numbers, and of arrays without dimensions, are counts, under both rules of promotion."""
+        """Lists of numpy's whole numbers are counts, under both rules of promotion."""
         program = """
 import numpy as np
 from constriction.stream.model import Categorical
@@ -325,12 +348,18 @@ print("done")
             rows[:, -1] += 1e-9
             for kind in ("float64", "float32", ">f8"):
                 some = numpy.minimum(rows, 1e38 if kind == "float32" else 1e300).astype(kind)
-                together = [list(row) for weights, _, _ in Categorical().rows((some,)) for row in numpy.asarray(weights).reshape(-1, width).tolist()]
+                together = [
+                    list(row)
+                    for weights, _, _ in Categorical().rows((some,))
+                    for row in numpy.asarray(weights).reshape(-1, width).tolist()
+                ]
                 self.assertEqual(together, [list(Categorical(row).table()) for row in some.tolist()])
         for wrong in (-1.0, numpy.nan, numpy.inf):
             rows = numpy.full((4, 3), 0.25)
             rows[2, 1] = wrong
-            with self.assertRaisesRegex(ValueError, "^expected a probability that is at least 0 and finite, got .* at place 1 in row 2$"):
+            with self.assertRaisesRegex(
+                ValueError, "^expected a probability that is at least 0 and finite, got .* at place 1 in row 2$"
+            ):
                 AnsCoder().decode(Categorical(), rows)
         with self.assertRaisesRegex(ValueError, "^expected a probability above 0, got none in row 0$"):
             AnsCoder().decode(Categorical(), numpy.zeros((2, 3)))

@@ -20,6 +20,7 @@ except ImportError:
 from constriction import errors
 from constriction._sizes import Size
 from constriction.stream.chain import ChainCoder
+
 from constriction.stream.model import (
     Bernoulli, Binomial, Categorical, CustomModel, Model, QuantizedCauchy, QuantizedGaussian, QuantizedLaplace, QuantizedMixture, Uniform, WeightTable,
 )  # fmt: skip
@@ -67,7 +68,11 @@ class Shapes(unittest.TestCase):
         means, stds, symbols = dice.uniform(-5, 5, shape), dice.uniform(0.5, 5, shape), dice.integers(-9, 10, shape)
         rows, three = dice.random((*shape, 4)) + 0.01, dice.integers(0, 3, shape)
         mixture = QuantizedMixture(QuantizedLaplace(-9, 9))
-        components = [dice.random((*shape, 2)) + 0.1, dice.uniform(-5, 5, (*shape, 2)), dice.uniform(0.5, 5, (*shape, 2))]
+        components = [
+            dice.random((*shape, 2)) + 0.1,
+            dice.uniform(-5, 5, (*shape, 2)),
+            dice.uniform(0.5, 5, (*shape, 2)),
+        ]
         step: Any = CustomModel(lambda x, k: min(max((x - k) / 40 + 0.5, 0), 1), None, -9, 9)
         return [
             (QuantizedGaussian(-9, 9), symbols, (means, stds), 0), (QuantizedGaussian(-9, 9, std=2.0), symbols, (means,), 0),
@@ -116,7 +121,11 @@ class Shapes(unittest.TestCase):
                         part = it[axes]
                         while part.ndim > core and part.shape[0] == 1 and dice.random() < 0.5:
                             part = part[0]
-                        cut.append(float(part) if part.ndim == 0 and dice.random() < 0.5 and type(model) is not Uniform else part)
+                        cut.append(
+                            float(part)
+                            if part.ndim == 0 and dice.random() < 0.5 and type(model) is not Uniform
+                            else part
+                        )
                     whole = [np.broadcast_to(it, (*shape, it.shape[-1]) if core else shape) for it in cut]
                     coder, wanted = AnsCoder(), AnsCoder()
                     coder.encode_reverse(symbols, model, *cut), wanted.encode_reverse(symbols, model, *whole)
@@ -129,7 +138,13 @@ class Shapes(unittest.TestCase):
     def test_lists_beside_arrays(self) -> None:
         """Lists, arrays and buffers can be mixed."""
         family, means = QuantizedGaussian(-9, 9), np.array([[0.5, 1.5], [-3.0, 2.0]])
-        for stds in ([2.0, 3.0], (2.0, 3.0), array("d", [2.0, 3.0]), np.array([2.0, 3.0]), memoryview(array("d", [2.0, 3.0]))):
+        for stds in (
+            [2.0, 3.0],
+            (2.0, 3.0),
+            array("d", [2.0, 3.0]),
+            np.array([2.0, 3.0]),
+            memoryview(array("d", [2.0, 3.0])),
+        ):
             coder, wanted = AnsCoder(), AnsCoder()
             coder.encode_reverse(np.array([[1, 2], [3, 4]]), family, means, stds)
             wanted.encode_reverse([1, 2, 3, 4], family, means.ravel(), [2.0, 3.0, 2.0, 3.0])
@@ -138,6 +153,7 @@ class Shapes(unittest.TestCase):
 
     def test_what_offers_an_array(self) -> None:
         """Objects with `__array__` are arrays."""
+
         class Offers:
             """An object with `__array__`."""
 
@@ -153,7 +169,9 @@ class Shapes(unittest.TestCase):
 
         coder: Any = AnsCoder()
         coder.encode_reverse(Offers([[1, 2]]), QuantizedGaussian(-9, 9), Offers([[0.5, 1.0]]), Offers([[2.0]]))
-        self.assertEqual(coder.decode(QuantizedGaussian(-9, 9), Offers([[0.5, 1.0]]), Offers([[2.0]])).tolist(), [[1, 2]])
+        self.assertEqual(
+            coder.decode(QuantizedGaussian(-9, 9), Offers([[0.5, 1.0]]), Offers([[2.0]])).tolist(), [[1, 2]]
+        )
         view = memoryview(np.array([[1, 2], [3, 4]]))
         coder.encode_reverse(view, Uniform(5))
         self.assertEqual(coder.decode(Uniform(5), amt=(2, 2)).tolist(), [[1, 2], [3, 4]])
@@ -164,27 +182,39 @@ class Shapes(unittest.TestCase):
         for kind in ("int8", "int16", ">i4", np.int64, np.dtype("int32")):
             for coder in (AnsCoder(), RangeEncoder()):
                 encoder: Any = coder
-                (encoder.encode if isinstance(coder, RangeEncoder) else encoder.encode_reverse)(symbols, family, symbols * 1.0, 2.0)
+                (encoder.encode if isinstance(coder, RangeEncoder) else encoder.encode_reverse)(
+                    symbols, family, symbols * 1.0, 2.0
+                )
                 decoder: Any = coder.get_decoder() if isinstance(coder, RangeEncoder) else coder
                 found = decoder.decode(family, symbols * 1.0, 2.0, dtype=kind)
                 np.testing.assert_array_equal(found, symbols)
                 self.assertEqual(found.dtype, np.dtype(kind))
         for kind, wrong in (("uint8", -3), ("int8", 200), ("uint16", -1)):
             coder = AnsCoder([5, 6])
-            coder.encode_reverse([1, wrong, 2], Uniform(300) if wrong > 0 else family, *(() if wrong > 0 else ([0.0] * 3, 9.0)))
+            coder.encode_reverse(
+                [1, wrong, 2], Uniform(300) if wrong > 0 else family, *(() if wrong > 0 else ([0.0] * 3, 9.0))
+            )
             before = coder.clone()
             given = (3,) if wrong > 0 else ([0.0] * 3, 9.0)
             self.assertRaisesRegex(ValueError, f"^expected symbols that fit {kind}, got {wrong}$", lambda: coder.decode(Uniform(300) if wrong > 0 else family, *given, dtype=kind))  # type: ignore[call-overload]
             self.assertEqual(coder, before)
         self.assertEqual(AnsCoder([5]).decode(Uniform(9), amt=(0, 2), dtype="uint8").shape, (0, 2))  # type: ignore[attr-defined]
         self.assertIs(type(ChainCoder([5, 6, 7, 8]).decode(Uniform(9), dtype="uint8")), int)  # type: ignore[call-overload]
-        self.assertRaisesRegex(TypeError, "^expected an integer type, got float64$", AnsCoder([5]).decode, Uniform(9), 3, dtype="float64")
+        self.assertRaisesRegex(
+            TypeError, "^expected an integer type, got float64$", AnsCoder([5]).decode, Uniform(9), 3, dtype="float64"
+        )
 
     def test_the_callers_own_array(self) -> None:
         """``out`` gets the symbols, whatever its type and the order of its memory."""
-        family, symbols, means = QuantizedGaussian(-9, 9), np.array([[-3, 7, 1], [9, 0, 2]]), np.array([[-2.5, 6.5, 0.0], [8.0, 0.5, 2.0]])
+        family, symbols, means = (
+            QuantizedGaussian(-9, 9),
+            np.array([[-3, 7, 1], [9, 0, 2]]),
+            np.array([[-2.5, 6.5, 0.0], [8.0, 0.5, 2.0]]),
+        )
         rows = np.random.default_rng(3).random((2, 3, 19))
-        for kind, (model, given) in product(("int8", "int64", ">i4"), ((family, (means, 2.0)), (Categorical(), (rows,)), (Uniform(19), ()))):
+        for kind, (model, given) in product(
+            ("int8", "int64", ">i4"), ((family, (means, 2.0)), (Categorical(), (rows,)), (Uniform(19), ()))
+        ):
             shift = 0 if model is family else 9
             for out in orders(np.zeros((2, 3), dtype=kind)):
                 coder: Any = AnsCoder()
@@ -220,13 +250,22 @@ class Shapes(unittest.TestCase):
         self.assertRaisesRegex(TypeError, "for an array of symbols", lambda: coder.decode(Uniform(301), out=one))  # type: ignore[call-overload]
         wrong, some = RangeDecoder([(1 << 32) - 1] * 3), np.full(70_000, 7)
         before = wrong.clone()
-        self.assertRaises(errors.InvalidDataError, lambda: wrong.decode(WeightTable([1, (1 << 24) - 1]), 70_000, out=some))
+        self.assertRaises(
+            errors.InvalidDataError, lambda: wrong.decode(WeightTable([1, (1 << 24) - 1]), 70_000, out=some)
+        )
         self.assertEqual((wrong, set(some.tolist())), (before, {7}))
 
     def test_types_of_symbols(self) -> None:
         """Arrays of 8 and of 16 bits go to the C functions of their type, and others to those of 64 bits."""
         model, symbols = WeightTable([1 << 16] * 256), self.dice.integers(0, 256, 70_000)
-        for kind, of in (("uint8", "_bytes"), ("uint16", "_shorts"), ("int64", ""), ("int8", ""), (">u2", ""), ("uint32", "")):
+        for kind, of in (
+            ("uint8", "_bytes"),
+            ("uint16", "_shorts"),
+            ("int64", ""),
+            ("int8", ""),
+            (">u2", ""),
+            ("uint32", ""),
+        ):
             some = symbols.astype(kind) if kind != "int8" else (symbols % 128).astype(kind)
             coder, encoder, chain = AnsCoder(), RangeEncoder(), ChainCoder(np.arange(5, 90_000, dtype="uint32"))
             called: list[str] = []
@@ -239,11 +278,19 @@ class Shapes(unittest.TestCase):
             with mock.patch.object(Size, "call", call):
                 coder.encode_reverse(some, model), encoder.encode(some, model)
                 chain.decode(model, 70_000), chain.encode_reverse(some, model)
-                narrow = coder.decode(model, 70_000, dtype=kind), encoder.get_decoder().decode(model, 70_000, dtype=kind)
+                narrow = coder.decode(model, 70_000, dtype=kind), encoder.get_decoder().decode(
+                    model, 70_000, dtype=kind
+                )
             for found in narrow:
                 np.testing.assert_array_equal(found, some)
                 self.assertEqual(found.dtype, np.dtype(kind))
-            for name in ("ans_encode{}_reverse", "range_encode{}", "chain_encode{}_reverse", "ans_decode{}", "range_decode{}"):
+            for name in (
+                "ans_encode{}_reverse",
+                "range_encode{}",
+                "chain_encode{}_reverse",
+                "ans_decode{}",
+                "range_decode{}",
+            ):
                 self.assertIn(name.format(of), called)
 
     @unittest.skipUnless(find_spec("torch"), "Debian's python3-torch isn't there")
@@ -253,8 +300,13 @@ class Shapes(unittest.TestCase):
         family, symbols = QuantizedGaussian(-9, 9), torch.tensor([[1, -2, 3], [4, 0, 9]])
         means, stds, coder = torch.tensor([[1.5, -2.0, 2.5], [3.0, 0.5, 8.0]]), torch.tensor(2.0), AnsCoder()
         coder.encode_reverse(symbols, family, means, stds)
-        coder.encode_reverse(symbols[0].to(torch.uint8) % 3, Categorical(), torch.rand(3, 4, generator=torch.manual_seed(1)))
-        self.assertEqual(coder.decode(Categorical(), torch.rand(3, 4, generator=torch.manual_seed(1))).tolist(), (symbols[0].to(torch.uint8) % 3).tolist())
+        coder.encode_reverse(
+            symbols[0].to(torch.uint8) % 3, Categorical(), torch.rand(3, 4, generator=torch.manual_seed(1))
+        )
+        self.assertEqual(
+            coder.decode(Categorical(), torch.rand(3, 4, generator=torch.manual_seed(1))).tolist(),
+            (symbols[0].to(torch.uint8) % 3).tolist(),
+        )
         found: Any = coder.decode(family, means, stds)
         np.testing.assert_array_equal(found, symbols.numpy())
         self.assertTrue(torch.equal(torch.from_numpy(found), symbols))

@@ -1,5 +1,5 @@
-"""Calls of programs for the Rust crate's package, with its names, int32 symbols and float32 parameters. Results are arrays of
-numpy. Words are compared with the definitions in whole numbers."""
+"""Calls of programs for the Rust crate's package, with its names, int32 symbols and float32 parameters. Results are
+arrays of numpy. Words are compared with the definitions in whole numbers."""
 
 from __future__ import annotations
 
@@ -176,7 +176,7 @@ class Readings(unittest.TestCase):
         np.testing.assert_array_equal(np.concatenate(again.get_data(unseal=True)), words)
 
     def test_functions_of_the_caller(self) -> None:
-        """Models of the caller's functions, with or without parameters, or of objects such as those of ``scipy.stats``."""
+        """Models of the caller's functions or objects, with or without parameters."""
 
         class Gumbel:
             def cdf(self, x: float, loc: float = 0.0, scale: float = 1.0) -> Any:

@@ -38,7 +38,9 @@ class WithNumpy(unittest.TestCase):
             *of.Case.forms, np.array, lambda it: np.array(it, dtype=">i4"), lambda it: np.array(it, dtype="int64").reshape(1, -1),
             lambda it: np.array(of.narrow(it)),
         )  # fmt: skip
-        with mock.patch.multiple(of.Case, forms=forms, forms_of_parameters=(*of.Case.forms_of_parameters, table, table)):
+        with mock.patch.multiple(
+            of.Case, forms=forms, forms_of_parameters=(*of.Case.forms_of_parameters, table, table)
+        ):
             whole.test_random_calls()
 
 

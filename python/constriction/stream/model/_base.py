@@ -66,7 +66,15 @@ class Located(NamedTuple):
     def lent(self, part: slice) -> tuple[Any, ...]:
         """Returns the arguments for C functions, with the parameters of a part of the symbols."""
         start, count = part.start, part.stop - part.start
-        return self.family, self.least, self.greatest, lent(self.locations, start), count, lent(self.scales, start), count
+        return (
+            self.family,
+            self.least,
+            self.greatest,
+            lent(self.locations, start),
+            count,
+            lent(self.scales, start),
+            count,
+        )
 
 
 class Model:

@@ -59,4 +59,6 @@ class QuantizedCauchy(Model):
         if not (math.isfinite(location) and 0 < scale < math.inf):
             raise ValueError(f"expected a finite loc and a positive and finite scale, got {location} and {scale}")
         start = self.first - 0.5 - location
-        return self._count, spread(self._count, self.words.total, lambda place: 0.5 + math.atan((start + place) / scale) / math.pi)
+        return self._count, spread(
+            self._count, self.words.total, lambda place: 0.5 + math.atan((start + place) / scale) / math.pi
+        )

@@ -128,7 +128,9 @@ class _Quantized(Model):
             count = len(places)
             alike = it._replace(locations=it.locations * count, scales=it.scales * count)
             lefts, ps = room(self.words.code, count, array), room(self.words.code, count, array)
-            self.words.call("quantized_intervals", *alike.lent(slice(0, count)), *listed(places), *listed(lefts), *listed(ps))
+            self.words.call(
+                "quantized_intervals", *alike.lent(slice(0, count)), *listed(places), *listed(lefts), *listed(ps)
+            )
             weights += ps
         return weights
 

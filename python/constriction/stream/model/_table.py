@@ -8,7 +8,19 @@ from operator import index
 from typing import Any
 
 from ..._buffers import List, Reals, room
-from ..._numbers import as_numpy, is_one, is_row, plain_of, reals_of, rows_of, sequence_of, table_of, wholes_of, words_of
+from ..._numbers import (
+    as_numpy,
+    is_one,
+    is_row,
+    plain_of,
+    reals_of,
+    rows_of,
+    sequence_of,
+    table_of,
+    wholes_of,
+    words_of,
+)
+
 from ..._quick import (
     quick_counts_of, quick_counts_of_row, quick_counts_of_rows, quick_counts_of_wholes, quick_weights,
 )  # fmt: skip
