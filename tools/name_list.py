@@ -21,6 +21,7 @@ class Name:
     """A line of a list: an old name, a new one, and where the old one is meant."""
 
     def __init__(self, words):
+        """Reads the words of a line."""
         self.old, self.new, *scopes = words
         self.modules = [scopes[at + 1] for at, it in enumerate(scopes) if it == "in"]
         self.paths = [it for it in scopes if "/" in it]
@@ -53,6 +54,7 @@ class NameList:
     """The lines of a list: names, paths, and texts of some files."""
 
     def __init__(self, path, groups=()):
+        """Reads the lines of some groups, or all lines."""
         self.names, self.paths, self.texts, group = [], [], [], ""
         for line in read(path).split("\n"):
             heading = re.match(r"# ---- (\w+)", line)
@@ -62,6 +64,7 @@ class NameList:
                 self.add(words)
 
     def add(self, words):
+        """Adds a line."""
         if len(words) < 2:
             raise ValueError(f"'{' '.join(words)}' is no old name and new one")
         if NAME.fullmatch(words[0]):

@@ -236,6 +236,7 @@ class Bytes(unittest.TestCase):
         self.assertRaises(errors.InvalidDataError, AnsCoder.from_bytes, bytes(4))
 
     def test_a_library_of_another_version(self) -> None:
+        """A library of another version is refused."""
         for version in ("0.6.0", "0.5.1", "1.5.0"):
             with mock.patch.object(_library, "VERSION", version):
                 self.assertRaisesRegex(

@@ -30,6 +30,8 @@ def random_row(dice: random.Random, width: int) -> list[float]:
 
 
 class Tables(unittest.TestCase):
+    """Tables of counts."""
+
     def same(self, numbers: Any) -> None:
         self.assertEqual(list(Categorical(numbers, perfect=False).table()), models.quick_weights(numbers))
 
@@ -54,6 +56,7 @@ class Tables(unittest.TestCase):
         self.assertEqual(sum(models.quick_counts([1.0] * 512)), 2**39)
 
     def test_whole_numbers(self) -> None:
+        """Whole numbers are counts."""
         for numbers in (
             [1, 2, 1], [0, 5, 0], [2**32 - 1] * 256, [2**32 - 1] * 257, [2**32, 1, 2**31], [2**70, 3 * 2**40, 2**39, 1], range(5),
             [2**32 - 1, *[0] * 40],
@@ -63,6 +66,7 @@ class Tables(unittest.TestCase):
         self.assertEqual(Categorical([3, 1, 0, 4], perfect=False), Categorical([0.75, 0.25, 0.0, 1.0], perfect=False))
 
     def test_which_rule(self) -> None:
+        """`perfect` chooses between the two rules."""
         quick, perfect = Categorical([1, 1, 1], perfect=False), Categorical([1, 1, 1])
         self.assertEqual(list(quick.table()), [5592405, 5592405, 5592406])
         self.assertEqual(list(perfect.table()), [5592406, 5592405, 5592405])
@@ -80,7 +84,10 @@ class Tables(unittest.TestCase):
 
 
 class Words(unittest.TestCase):
+    """Words under rows of counts."""
+
     def test_rows(self) -> None:
+        """Rows have the words of the definition."""
         dice = random.Random(2)
         for width in (1, 2, 7, 40):
             rows = [random_row(dice, width) for _ in range(9)]
@@ -103,6 +110,7 @@ class Words(unittest.TestCase):
             self.chain(rows, tables)
 
     def chain(self, rows: list[list[float]], tables: list[list[int]]) -> None:
+        """Decodes and encodes back with a chain coder."""
         words = [5 + 7919 * i for i in range(len(rows) + 4)]
         symbols, _, _ = by.chain_split(tables, words)
         coder, alone = ChainCoder(words), ChainCoder(words)
@@ -113,6 +121,7 @@ class Words(unittest.TestCase):
         self.assertEqual(coder, ChainCoder(words))
 
     def test_words_of_16_bits(self) -> None:
+        """Rows of counts have the words of the definition at 16 bits."""
         dice = random.Random(3)
         for width in (1, 5, 40):
             rows = [random_row(dice, width) for _ in range(9)]
@@ -143,6 +152,7 @@ class Words(unittest.TestCase):
                     coder.encode_reverse([0], QUICK, [[1] * count])
 
     def test_widths_and_own_table(self) -> None:
+        """Rows may have different widths, and a model may have its own counts."""
         rows, symbols = [[0.5, 0.5], [0.25, 0.25, 0.5], [1.0]], [1, 2, 0]
         coder, other = AnsCoder(), AnsCoder()
         coder.encode_reverse(symbols, QUICK, rows)
@@ -153,7 +163,10 @@ class Words(unittest.TestCase):
 
 
 class Faults(unittest.TestCase):
+    """Errors of rows of counts."""
+
     def refused(self, kind: type[Exception], text: str, symbols: list[int], rows: list[Any]) -> None:
+        """Expects an error that changes nothing."""
         coder = AnsCoder([5, 6, 7])
         before = coder.clone()
         with self.assertRaisesRegex(kind, text):
@@ -165,6 +178,7 @@ class Faults(unittest.TestCase):
             self.assertEqual(coder, before)
 
     def test_rows(self) -> None:
+        """Rows with wrong counts are refused."""
         good = [0.5, 0.5]
         for wrong, text in (
             ([0.5, math.nan], "^expected a probability that is at least 0 and finite, got nan at place 1 in row 2$"),
@@ -182,6 +196,7 @@ class Faults(unittest.TestCase):
                 AnsCoder().encode_reverse(0, QUICK, wrong)
 
     def test_symbols(self) -> None:
+        """Impossible symbols are refused."""
         rows = [[1.0, 0.0], [0.5, 0.5]]
         self.refused(
             errors.ImpossibleSymbolError, "^Impossible symbol. Expected 0 .. 1, got 2 at place 1.$", [1, 2], rows

@@ -457,6 +457,7 @@ class PastFloats(Misuse):
             self.assertRaises(errors.WrongWeightsError, WeightTable, [size])
 
     def test_weights_of_a_mixture(self) -> None:
+        """Weights of a mixture past their greatest sum are refused."""
         of, coder = QuantizedMixture(QuantizedGaussian(-9, 9)), AnsCoder([5, 6])
         for weights in ([1e308], [1e308, 1e308], [0.5, 1.7e308], [1e10, 1.0]):
             rest = [0.0] * len(weights), [1.0] * len(weights)

@@ -141,6 +141,7 @@ class Faults(unittest.TestCase):
         )
 
     def test_parameters(self) -> None:
+        """Wrong parameters are refused."""
         means, scales = [list(it) for it in MEANS], [list(it) for it in SCALES]
         means[2][1], scales[5][0] = float("inf"), 0.0
         self.refused(
@@ -194,6 +195,8 @@ class Faults(unittest.TestCase):
 
 
 class Alone(unittest.TestCase):
+    """Mixtures of one symbol."""
+
     def test_edges(self) -> None:
         """A call with one symbol rounds, limits and refuses components as a list of one symbol does."""
         dice = random.Random(31)

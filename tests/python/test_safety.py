@@ -394,6 +394,7 @@ class Memory(unittest.TestCase):
         raise AssertionError("it is never done")
 
     def test_each_growth(self) -> None:
+        """Each refused request for room leaves the coder unchanged."""
         for name, (coder, change, shown) in coders().items():
             twin, wanted = coder.clone(), coder.clone()
             change(wanted)

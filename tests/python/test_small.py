@@ -76,6 +76,8 @@ def rows_of(case: Case) -> tuple[Any, ...]:
 
 
 class Small(unittest.TestCase):
+    """Coders with words of 16 bits."""
+
     def setUp(self) -> None:
         by.at_size(16, 12)
         self.addCleanup(by.at_size, 32, 24)
@@ -88,6 +90,7 @@ class Small(unittest.TestCase):
         return cases, [it[2] for it in cases], places, [case[0].first + it for case, it in zip(cases, places)]
 
     def test_stack_coder(self) -> None:
+        """The stack coder has the words of the definition."""
         for seed in range(8):
             cases, tables, places, symbols = self.drawn(seed, 60)
             one, other = SmallAnsCoder(), SmallAnsCoder()
@@ -107,6 +110,7 @@ class Small(unittest.TestCase):
             self.assertEqual(coder.get_compressed().tolist(), left)
 
     def test_range_coder(self) -> None:
+        """The range coder has the words of the definition."""
         for seed in range(20, 28):
             cases, tables, places, symbols = self.drawn(seed, 60)
             one, other, positions = SmallRangeEncoder(), SmallRangeEncoder(), []
@@ -127,6 +131,7 @@ class Small(unittest.TestCase):
                 self.assertEqual(int(decoder.decode(cases[place][0], *cases[place][1])), symbols[place])
 
     def test_chain_coder(self) -> None:
+        """The chain coder has the symbols and words of the definition."""
         for seed in range(40, 48):
             cases, tables, _, _ = self.drawn(seed, 40)
             words = [random.Random(seed).randrange(1, 1 << 16) for _ in range(60)]
@@ -217,6 +222,7 @@ class Small(unittest.TestCase):
         self.assertEqual([pickle.dumps(it) for it in (coder, encoder, chain)], before)
 
     def test_copies_bytes_and_kinds(self) -> None:
+        """Copies and bytes keep the size of words, and sizes don't mix."""
         coder, encoder, model = SmallAnsCoder(), SmallRangeEncoder(), Categorical([3, 1, 4, 1, 5])
         coder.encode_reverse([0, 4, 2, 2, 1] * 9, model), encoder.encode([0, 4, 2, 2, 1] * 9, model)
         words = coder.get_compressed().tolist()
@@ -240,6 +246,7 @@ class Small(unittest.TestCase):
             self.assertTrue(issubclass(kind, (AnsCoder, RangeDecoder, RangeEncoder, ChainCoder)))
 
     def test_positions(self) -> None:
+        """Seeks return to recorded positions."""
         coder, positions = SmallAnsCoder(), []
         for symbol in range(300):
             positions.append(coder.pos())

@@ -25,6 +25,8 @@ QUICK = Categorical(perfect=False)
 
 
 class Arrays(unittest.TestCase):
+    """Rows of counts in arrays."""
+
     def coded(self, table: Any) -> None:
         """The table's rows have the weights of the definition, in one call, in a call for each, and as fixed models."""
         dice = numpy.random.default_rng(len(table))
@@ -41,6 +43,7 @@ class Arrays(unittest.TestCase):
         self.assertEqual([Categorical(row, perfect=False).table().tolist() for row in table], weights)
 
     def test_floats(self) -> None:
+        """Arrays of floats have the words of lists."""
         dice = numpy.random.default_rng(1)
         for width in (1, 2, 33, 300):
             for kind in ("float32", "float64", "float16"):
@@ -54,6 +57,7 @@ class Arrays(unittest.TestCase):
         self.coded(numpy.array([[1e-45, 3e-45], [1.0, 2.0]], dtype="float32"))
 
     def test_sums_of_2_to_40(self) -> None:
+        """Rows whose counts have the greatest sum have the words of lists."""
         dice = numpy.random.default_rng(2)
         for width in (511, 512, 513, 2000):
             table = numpy.ones((3, width))
@@ -63,6 +67,7 @@ class Arrays(unittest.TestCase):
                 self.coded(table.astype(kind))
 
     def test_whole_numbers(self) -> None:
+        """Arrays of whole numbers have the words of lists."""
         dice = numpy.random.default_rng(3)
         for kind in ("uint8", "int32", "uint32", "int64", "uint64", "bool"):
             table = dice.integers(0, 2, (5, 30)).astype(kind)
@@ -73,6 +78,7 @@ class Arrays(unittest.TestCase):
         self.coded(dice.integers(0, 2**63, (3, 20)))
 
     def test_other_layouts(self) -> None:
+        """Arrays in other orders of memory and bytes have the words of lists."""
         table = numpy.random.default_rng(4).random((20, 6))
         for it in (
             table[::2],
@@ -95,6 +101,7 @@ class Arrays(unittest.TestCase):
         self.assertEqual(coder.decode(QUICK, table).tolist(), symbols.tolist())
 
     def test_faults(self) -> None:
+        """Errors name the row and the index of a wrong count, and nothing changes."""
         for wrong, text in (
             ([0.5, math.nan], "got nan at place 1 in row 1500"), ([-0.5, 1], "got -0.5 at place 0 in row 1500"),
             ([math.inf, 1], "got inf at place 0 in row 1500"), ([0, 0], "above 0, got none in row 1500"),
