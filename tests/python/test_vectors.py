@@ -306,7 +306,11 @@ class OfTheProgram(unittest.TestCase):
     def test_program(self) -> None:
         """Each case of the program's size and commands."""
         for case in cases():
-            is_of_program = not {"family", "width"} & case.keys() and case["case"][0] not in ("counts", "row", "uniform")
+            is_of_program = not {"family", "width"} & case.keys() and case["case"][0] not in (
+                "counts",
+                "row",
+                "uniform",
+            )
             if case["bits"][0] == 32 and is_of_program:
                 command, lines, answer = asked(case)
                 ran = subprocess.run([PROGRAM, command], input="\n".join(lines) + "\n", capture_output=True, text=True)
