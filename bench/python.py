@@ -11,7 +11,7 @@ words. The model exists before a case begins. Cases of `gaussian` have a mean an
 100, as in bench/models.c. In their cases of `array`, the package can't import numpy, and all values are in array('d')
 and array('q').
 
-Cases of `one` code one symbol per call, 20,000 times, in nanoseconds per call: `table` with a fixed model of 256
+Cases of `one` code one symbol per call, 2,000 times, in nanoseconds per call: `table` with a fixed model of 256
 symbols, `gaussian` with a mean and a deviation of its own over -100 .. 100, `row` with a row of 16 weights. With numpy,
 `numpy256` has a row of 256 probabilities, `slice` has a mean and a deviation as slices with one number, and `mixture`
 has five logistic distributions over -100 .. 100. `bare` only calls the C function ans_decode for one symbol with three
@@ -49,7 +49,7 @@ COUNT, RUNS, PRECISION = 1_000_000, 11, 24
 #: The number of symbols with mixtures.
 MIXED = 100_000
 #: The number of calls of one symbol that are timed together.
-CALLS = 20_000
+CALLS = 2_000
 
 
 def random_numbers(x: int, count: int) -> list[int]:
@@ -80,7 +80,7 @@ def driver_symbols(weights: list[int]) -> array[int]:
 def least(run: Callable[[], Any], count: int = COUNT) -> float:
     """Returns the least time of a run, in nanoseconds per symbol. The result of a run is dropped after its time."""
     times = []
-    for _ in range(RUNS):
+    for _ in range(RUNS if count > CALLS else 10 * RUNS):
         start = perf_counter_ns()
         answer = run()
         times.append(perf_counter_ns() - start)

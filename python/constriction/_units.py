@@ -112,21 +112,22 @@ def unit_of(number: Any, origin: float, least: float, greatest: float) -> int | 
 
     Returns None for a float outside the bounds, and for a list, unless it is a list of one float.
     """
-    if type(number) is not float and hasattr(number, "__len__"):
-        number = _only(number)
     if type(number) is not float:
-        if not hasattr(number, "__float__") and type(number) is not int:
-            return None
-        number = real(number)
+        if hasattr(number, "__len__"):
+            number = _only(number)
+        if type(number) is not float:
+            if not hasattr(number, "__float__") and type(number) is not int:
+                return None
+            number = real(number)
     number -= origin
     return round(number * UNITS_OF_ONE) if least <= number <= greatest else None
 
 
 def _only(numbers: Any) -> Any:
     """Returns the number of a list of one number. Returns None for other lists."""
-    item = getattr(numbers, "item", None)
-    if item is not None:
-        return item() if numbers.size == 1 and numbers.ndim < 2 else None
+    dimensions = getattr(numbers, "ndim", None)
+    if dimensions is not None and hasattr(numbers, "item"):
+        return numbers.item() if dimensions == 0 or dimensions == 1 and len(numbers) == 1 else None
     number = numbers[0] if isinstance(numbers, (list, tuple, array)) and len(numbers) == 1 else None
     return None if hasattr(number, "__len__") else number
 
