@@ -190,9 +190,20 @@ def copied_part(memory: Any, start: int, end: int) -> Any:
     return memory[start:end] if isinstance(memory, array) else memory[start:end].copy()
 
 
+#: numpy after its import, or None before it was seen so.
+_numpy: Any = None
+
+
 def numpy_module() -> Any:
-    """Returns numpy if the program has loaded it. Otherwise returns None."""
-    return sys.modules.get("numpy")
+    """Returns numpy if the program has loaded it, and not while a thread imports it. Otherwise returns None."""
+    global _numpy
+    found = sys.modules.get("numpy")
+    if found is None or found is _numpy:
+        return found
+    if getattr(getattr(found, "__spec__", None), "_initializing", False):
+        return None
+    _numpy = found
+    return found
 
 
 _is_numpy_sought = False
@@ -201,15 +212,15 @@ _is_numpy_sought = False
 def numpy_for_answers() -> Any:
     """Returns numpy, which the first call imports if it can be imported. Otherwise returns None.
 
-    So answers are of one kind in a program, whatever else the program imports.
+    So answers are of one kind in a program, whatever else the program imports. A call waits while a thread imports numpy.
     """
     global _is_numpy_sought
     if not _is_numpy_sought:
-        _is_numpy_sought = True
         try:
             import_module("numpy")
         except ImportError:
             pass
+        _is_numpy_sought = True
     return numpy_module()
 
 

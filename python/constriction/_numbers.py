@@ -83,8 +83,8 @@ def count_of(number: Any) -> int:
 
 
 def unmasked(numbers: Any) -> None:
-    masked = sys.modules.get("numpy.ma")
-    if masked is not None and isinstance(numbers, masked.MaskedArray):
+    masked = getattr(sys.modules.get("numpy.ma"), "MaskedArray", None)
+    if masked is not None and isinstance(numbers, masked):
         raise TypeError("expected numbers, got a masked array: pass array.filled(0) or array.compressed()")
 
 

@@ -77,6 +77,30 @@ print(*kinds, type(coder.decode(Uniform(3), 2)).__name__)
             ran = subprocess.run([sys.executable, "-c", program.format(line)], capture_output=True, text=True)
             self.assertEqual((ran.stdout, ran.stderr), (f"{kind} {kind} {kind}\n", ""))
 
+    def test_a_thread_that_imports_numpy(self) -> None:
+        """Calls beside the import find numpy whole or not at all, and each answer is an array of numpy."""
+        program = """
+import sys
+from threading import Thread
+from constriction.stream.model import Categorical, QuantizedGaussian, Uniform
+from constriction.stream.stack import AnsCoder
+sys.setswitchinterval(1e-6)
+model, family, coder, calls = Uniform(7), QuantizedGaussian(-9, 9), AnsCoder(), 0
+thread = Thread(target=__import__, args=("numpy",))
+thread.start()
+while thread.is_alive():
+    coder.encode_reverse([1, 2, 3] * 40, model)
+    coder.encode_reverse([1, 2, 3] * 20, family, [0.5] * 60, [2.0] * 60)
+    coder.encode_reverse([0, 1], Categorical(), [[1, 2], [3, 4]])
+    coder.encode_reverse(2, Categorical([0.5] * 40))
+    calls += 1
+found = coder.decode(Categorical([0.5] * 40)), *coder.decode(Categorical(), [[1, 2], [3, 4]]).tolist()
+print(calls > 0, found, type(coder.decode(family, [0.5] * 60, [2.0] * 60)).__name__)
+"""
+        for _ in range(3):
+            ran = subprocess.run([sys.executable, "-c", program], capture_output=True, text=True)
+            self.assertEqual((ran.stdout, ran.stderr), ("True (2, 0, 1) ndarray\n", ""))
+
     def test_symbols_that_begin_elsewhere(self) -> None:
         """Symbols of a range that doesn't begin at 0 may have any type."""
         message, model = [-3, 0, 4, -9], QuantizedGaussian(-9, 9, 0.0, 3.0)
