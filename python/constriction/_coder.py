@@ -87,7 +87,7 @@ class Coder:
         symbol = (self._lane or self._made_lane()).decode(self, model, given)
         if symbol is not None and given and not model.core:
             for it in given:
-                if type(it) is not float and not is_one(it):
+                if type(it) is not float and (getattr(it, "ndim", None) or not is_one(it)):
                     return answered_alone(symbol)
         return symbol
 
