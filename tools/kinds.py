@@ -30,7 +30,7 @@ def of_symbols(name, bits):
         r"(Encodes|Decodes) symbols": rf"\1 symbols of type `u{bits}`",
         r"symbols: &(mut )?\[usize\]": rf"symbols: &\1[u{bits}]",
         r"symbols\.(old|new)": rf"(map (lowest {bits}) symbols.\1)",
-        r"(Takes[^{}]*?\()by_weights \(map \(lowest 32\) weights\.now\)": rf"\1narrow_from_u32 {bits} weights.now",
+        r"(Decodes[^{}]*?\()by_weights \(map \(lowest 32\) weights\.now\)": rf"\1narrow_from_u32 {bits} weights.now",
         r"\bdecode_by_weights(.*) 24>": rf"decode_narrow\1 u{bits}, 24>",
         r"\[`decode_by_weights`\]": "[`decode_narrow`]",
     }

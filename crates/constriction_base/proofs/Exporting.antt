@@ -6,7 +6,7 @@ use Rattle.std.proofs.lemmas.Nat.{div-mul-add, mod-mul-add}
 use Rattle.std.proofs.Math.Nat.{mul-le-mul_left}
 use Rattle.std.specs.Int.Digits.{digits_of}
 use native.Mathlib.Nat.{div-lt_self, pow-suc, pow-zero}
-use Rattle.constriction_base.specs.Readings.{Gives}
+use Rattle.constriction_base.specs.Readings.{ReadsReturn}
 
 -- what a test for 0 says
 pub some_of : (n : ℕ) → (n ≡ 0 → false ≡ true) → 0 < n
@@ -67,12 +67,12 @@ digit_alone w v ws some pos fits =
     ∙ (sym (ap (λ n. digits_of (2 ^ w) (v / 2 ^ w) ++ (n ∷ ws)) low) ∙ next_digit w v ws some pos)
 
 -- one word more is read
-pub gives_push : {W E B : Type 0} (reads : B → Result (Option W) E → B → Type 0) (old between new : B) (ws : List W) (w : W) → Gives reads old ws between → reads between (Ok (Some w)) new → Gives reads old (ws ++ w ∷ []) new
+pub gives_push : {W E B : Type 0} (reads : B → Result (Option W) E → B → Type 0) (old between new : B) (ws : List W) (w : W) → ReadsReturn reads old ws between → reads between (Ok (Some w)) new → ReadsReturn reads old (ws ++ w ∷ []) new
 gives_push reads old between new [] w h r = (new, subst (λ from. reads from (Ok (Some w)) new) h r, refl)
 gives_push reads old between new (v ∷ ws) w h r = (h.0, h.1, gives_push reads h.0 between new ws w h.2 r)
 
 -- what each read keeps of a backend, all of them keep
-pub gives_keeps : {W E B A : Type 0} (seen : B → A) (reads : B → Result (Option W) E → B → Type 0) (old : B) (ws : List W) (new : B) → Gives reads old ws new
+pub gives_keeps : {W E B A : Type 0} (seen : B → A) (reads : B → Result (Option W) E → B → Type 0) (old : B) (ws : List W) (new : B) → ReadsReturn reads old ws new
     → ((before after : B) (answer : Result (Option W) E) → reads before answer after → seen after ≡ seen before) → seen new ≡ seen old
 gives_keeps seen reads old [] new h keeps = ap seen h
 gives_keeps seen reads old (w ∷ ws) new h keeps = gives_keeps seen reads h.0 ws new h.2 keeps ∙ keeps old h.0 (Ok (Some w)) h.1

@@ -4,7 +4,7 @@ use Rattle.std.specs.Int.Digits.{digits_of}
 use Rattle.std.proofs.lemmas.Int.Digits.{digits_of_step, length-digits_of_step}
 use Rattle.constriction_base.specs.Backends.{Reads}
 use Rattle.constriction_base.specs.Digits.{fixed_digits}
-use Rattle.constriction_base.specs.Readings.{TakesUpTo}
+use Rattle.constriction_base.specs.Readings.{ReadsUpTo}
 
 drop_next : {X : Type 0} (i : ℕ) (xs : List X) (w : X) (ys : List X) → w ∷ ys ≡ drop i xs → ys ≡ drop (suc i) xs
 drop_next zero [] w ys e = absurd (cc)
@@ -56,12 +56,12 @@ fixed-length b (suc m) n = omega (arith, length-append (fixed_digits b m (n / b)
 
 -- a read that succeeds, and more after it
 pub read_more : {W E B : Type 0} (reads : B → Result (Option W) E → B → Type 0) (answer : Result (Option W) E) (word : Option W) → answer ≡ Ok word
-    → (old between new : B) (count : ℕ) → reads old answer between → TakesUpTo reads count between new → TakesUpTo reads (suc count) old new
+    → (old between new : B) (count : ℕ) → reads old answer between → ReadsUpTo reads count between new → ReadsUpTo reads (suc count) old new
 read_more reads (Ok word) _ is old between new count read more = (Ok word, between, read, more)
 read_more reads (Err e) word is old between new count read more = absurd (cc)
 
 -- a read that fails is the last
 pub read_last : {W E B : Type 0} (reads : B → Result (Option W) E → B → Type 0) (answer : Result (Option W) E) (e : E) → answer ≡ Err e
-    → (old new : B) (count : ℕ) → reads old answer new → TakesUpTo reads (suc count) old new
+    → (old new : B) (count : ℕ) → reads old answer new → ReadsUpTo reads (suc count) old new
 read_last reads (Ok word) e is old new count read = absurd (cc)
 read_last reads (Err e) _ is old new count read = (Err e, new, read, refl)

@@ -12,11 +12,11 @@ NeverRefused {W} {E} {B} reads = (old : B) (e : E) (new : B) → reads old (Err 
 
 -- At most `count` reads lead from the old backend to the new one. There are fewer reads only if a read fails: it is the
 -- last.
-abbrev pub TakesUpTo : {W E B : Type 0} → (B → Result (Option W) E → B → Type 0) → ℕ → B → B → Type 0
-TakesUpTo reads zero old new = new ≡ old
-TakesUpTo {W} {E} {B} reads (suc count) old new =
+abbrev pub ReadsUpTo : {W E B : Type 0} → (B → Result (Option W) E → B → Type 0) → ℕ → B → B → Type 0
+ReadsUpTo reads zero old new = new ≡ old
+ReadsUpTo {W} {E} {B} reads (suc count) old new =
     (answer : Result (Option W) E) × (between : B) × reads old answer between
-    × MatchResult answer (λ read. TakesUpTo reads count between new) (λ e. new ≡ between)
+    × MatchResult answer (λ read. ReadsUpTo reads count between new) (λ e. new ≡ between)
 
 -- The word that is read first, if there is one, isn't 0.
 abbrev pub BeginsHigh : List ℕ → Type 0
@@ -24,13 +24,13 @@ BeginsHigh [] = ⊤
 BeginsHigh (v ∷ vs) = 0 < v
 
 -- Reads return these words one after another, and lead from the old backend to the new one.
-abbrev pub Gives : {W E B : Type 0} → (B → Result (Option W) E → B → Type 0) → B → List W → B → Type 0
-Gives reads old words new = InTurn (λ word before after. reads before (Ok (Some word)) after) words old new
+abbrev pub ReadsReturn : {W E B : Type 0} → (B → Result (Option W) E → B → Type 0) → B → List W → B → Type 0
+ReadsReturn reads old words new = InTurn (λ word before after. reads before (Ok (Some word)) after) words old new
 
 -- Reads return words, the first of them not 0, and the head is the number that they form.
 pub record Imports {W E B : Type 0} (number : W → ℕ) (reads : B → Result (Option W) E → B → Type 0) (w : ℕ) (old : B) (head : ℕ) (new : B) : Type 0 where
   pub words : List W
-  pub given : Gives reads old words new
+  pub given : ReadsReturn reads old words new
   pub high : BeginsHigh (map number words)
   pub is : head ≡ number_from_digits (2 ^ w) (map number words)
 
@@ -43,7 +43,7 @@ ReadsAs holds reads old answer new = reads.reads old answer new × (holds.is_lis
 -- Reads return words, and each word moves in below a number, as its new lowest word. This turns `from` into `n`.
 pub record MovesIn {W B E S : Type 0} (number : W → ℕ) (holds : holding.Ghosts B W S) (reads : reading.Ghosts B W S E) (w from : ℕ) (old : B) (n : ℕ) (new : B) : Type 0 where
   pub words : List W
-  pub given : Gives reads.reads old words new
+  pub given : ReadsReturn reads.reads old words new
   -- Where `is_list` holds, the reads take these words off the front of the backend's list.
   pub taken : holds.is_list → holds.words old ≡ words ++ holds.words new
   pub is : n ≡ number_from_digits_after (2 ^ w) from (map number words)

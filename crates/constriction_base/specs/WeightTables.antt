@@ -10,8 +10,8 @@ abbrev pub entries : {Probability NonZero : Type 0} {precision : ℕ} {word : _}
 entries {precision = precision} {word = word} t = table_of (weights_between (map word.number t.starts.items) (2 ^ precision))
 
 -- The table keeps a reciprocal of each weight, so that no encoder divides.
-abbrev pub KeepsReciprocals : {Probability NonZero : Type 0} {precision : ℕ} {word : _} → WeightTable Probability precision NonZero word → Type 0
-KeepsReciprocals t = length t.reciprocals.items ≡ length t.starts.items
+abbrev pub HasReciprocals : {Probability NonZero : Type 0} {precision : ℕ} {word : _} → WeightTable Probability precision NonZero word → Type 0
+HasReciprocals t = length t.reciprocals.items ≡ length t.starts.items
 
 -- The weight table as a model.
 abbrev pub model_of : {Probability NonZero : Type 0} {precision : ℕ} {word : _} → WeightTable Probability precision NonZero word → Model ℕ

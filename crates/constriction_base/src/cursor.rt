@@ -1,7 +1,7 @@
 //! `Cursor`: a buffer of words and a position in it.
 
 ghost use Rattle.std.specs.Prelude.{◌≡◌, ◌+◌, ◌-◌, ◌<◌, ◌≤◌, Result, Ok, length, min};
-ghost use Rattle.constriction_base.specs.Backends.{Place};
+ghost use Rattle.constriction_base.specs.Backends.{BufferPosition};
 
 use crate::backends::Words;
 use constriction_words::BitArray;
@@ -39,9 +39,9 @@ pub struct Cursor<Word: BitArray, Buf: Words<Word> + Drop> {
 
 impl<Word: BitArray, Buf: Words<Word> + Drop> Model for Cursor<Word, Buf> {
     ghost use Rattle.std.specs.Prelude.{◌≤◌, length};
-    ghost use Rattle.constriction_base.specs.Backends.{Place};
+    ghost use Rattle.constriction_base.specs.Backends.{BufferPosition};
 
-    ghost Value = { Place Buf };
+    ghost Value = { BufferPosition Buf };
 
     ghost view = { λ c. record { buf = c.buf; pos = c.pos } };
 

@@ -100,7 +100,7 @@ pub struct WeightTable<Probability: BitArray, const PRECISION: usize> {
 }
 
 impl<Probability: BitArray, const PRECISION: usize> WeightTable<Probability, PRECISION> {
-    ghost use Rattle.constriction_base.specs.WeightTables.{entries, KeepsReciprocals};
+    ghost use Rattle.constriction_base.specs.WeightTables.{entries, HasReciprocals};
 
     /// Creates a table from `weights`, for encoding and decoding.
     ///
@@ -135,7 +135,7 @@ impl<Probability: BitArray, const PRECISION: usize> WeightTable<Probability, PRE
     pub fn new(alloc: Global, weights: &[Probability]) -> Result<Self, TableError>
         requires { (1 ≤ PRECISION) × (PRECISION ≤ Probability.BITS) }
         ensures ok { IfOk result (λ t. entries t ≡ table_of (map Probability.number weights.now)) }
-        ensures reciprocals { IfOk result (λ t. PRECISION ≤ 63 → KeepsReciprocals t) }
+        ensures reciprocals { IfOk result (λ t. PRECISION ≤ 63 → HasReciprocals t) }
         ensures total { OnOk result (sum_by Probability.number weights.now ≡ 2 ^ PRECISION) }
         ensures empty { IsErrOf result TableError.Empty ↔ (weights.now ≡ []) }
         ensures wrong_total { IsErrOf result TableError.WrongTotal ↔ ((weights.now ≢ [])
@@ -202,7 +202,7 @@ impl<Probability: BitArray, const PRECISION: usize> WeightTable<Probability, PRE
     /// The call returns `Err(AllocError)` if there is no memory for the reciprocals.
     fn with_reciprocals(mut self, alloc: Global) -> Result<Self, AllocError>
         ensures kept { IfOk result (λ t. entries t ≡ entries self) }
-        ensures reciprocals { IfOk result (λ t. PRECISION ≤ 63 → KeepsReciprocals t) }
+        ensures reciprocals { IfOk result (λ t. PRECISION ≤ 63 → HasReciprocals t) }
     {
         if PRECISION > 63 {
             return Ok(self);
@@ -305,7 +305,7 @@ impl<Probability: BitArray, const PRECISION: usize> EntropyModel<PRECISION>
 
 impl<Probability: BitArray, const PRECISION: usize> EncoderModel<PRECISION>
     for WeightTable<Probability, PRECISION> {
-    ghost use Rattle.constriction_base.specs.WeightTables.{entries, KeepsReciprocals};
+    ghost use Rattle.constriction_base.specs.WeightTables.{entries, HasReciprocals};
 
     fn left_cumulative_and_probability(
         &self,
@@ -334,7 +334,7 @@ impl<Probability: BitArray, const PRECISION: usize> EncoderModel<PRECISION>
             Has (entries self.now) symbol.now (Probability.number found.0) (Probability.nonzero_number found.1)) }
         ensures reciprocal { IfSome result (λ found. IfSome found.2 (λ r.
             IsReciprocalOf r (Probability.nonzero_number found.1))) }
-        ensures kept { IfSome result (λ found. IfNone found.2 (KeepsReciprocals self.now → ⊥)) }
+        ensures kept { IfSome result (λ found. IfNone found.2 (HasReciprocals self.now → ⊥)) }
         ensures impossible { IfNone result (Impossible (entries self.now) symbol.now) }
     {
         let Some((left, p)) = self.left_cumulative_and_probability(symbol) else {

@@ -1,14 +1,14 @@
 -- What a call did to the numbers that a C function took out of a caller's struct, and put into it again; and models of a family, by the numbers
 -- that a struct holds for them.
 use Rattle.std.proofs.Common.{◌≡◌, ℕ, ℤ, List, Result, refl, sym}
-use Rattle.constriction_c.specs.Codes.{Told, answer_by_code, needed_by}
+use Rattle.constriction_c.specs.Codes.{ReturnsCodeOf, answer_by_code, needed_by}
 use Rattle.constriction_inputs.specs.Coded.{Coded}
 use Rattle.constriction_inputs.specs.Mixtures.{by_mixture, in_mixture}
 use Rattle.constriction_inputs.specs.Quantized.{by_family, in_family}
 use Rattle.constriction_inputs.specs.declared.models.families.Families.{Families}
-use Rattle.constriction_calls.specs.AnsCalls.{AnsKept, AnsPuts, AnsTakes}
-use Rattle.constriction_calls.specs.ChainCalls.{ChainPuts, ChainTakes, keeps}
-use Rattle.constriction_calls.specs.RangeCalls.{RangePuts, RangeTakes, kept_in}
+use Rattle.constriction_calls.specs.AnsCalls.{AnsBuffers, AnsEncodesList, AnsDecodesList}
+use Rattle.constriction_calls.specs.ChainCalls.{ChainEncodesList, ChainDecodesList, chain_buffers}
+use Rattle.constriction_calls.specs.RangeCalls.{RangeEncodesList, RangeDecodesList, range_buffers}
 use Rattle.constriction_calls.specs.declared.chain.ChainHeads.{ChainHeads}
 use Rattle.constriction_calls.specs.declared.range.parts.DecoderParts.{DecoderParts}
 use Rattle.constriction_calls.specs.declared.range.parts.EncoderParts.{EncoderParts}
@@ -38,41 +38,41 @@ pub mixture_is : {made components : Families} {family : ℕ} {low high min max :
 mixture_is numbers lists parts low_is high_is = rw (parts.0, parts.1, parts.2, numbers.0, numbers.1, numbers.2, low_is, high_is, lists.0, lists.1) refl
 
 -- ---- the stack coder
-pub ans_takes : {Word State : Type 0} {number : Word → ℕ} {state : State → ℕ} {w s precision : ℕ} {coded other : List ℕ → Coded} {old new : AnsKept Word State}
+pub ans_takes : {Word State : Type 0} {number : Word → ℕ} {state : State → ℕ} {w s precision : ℕ} {coded other : List ℕ → Coded} {old new : AnsBuffers Word State}
     {symbols new_symbols : List ℕ} {answer told : Result (Unit {0}) Refusal} → coded ≡ other → told ≡ answer
-    → AnsTakes number state w s precision coded old new symbols new_symbols answer → AnsTakes number state w s precision other old new symbols new_symbols told
+    → AnsDecodesList number state w s precision coded old new symbols new_symbols answer → AnsDecodesList number state w s precision other old new symbols new_symbols told
 ans_takes is answer_is call = rw (sym is, answer_is) call
 
-pub ans_puts : {Word State : Type 0} {number : Word → ℕ} {state : State → ℕ} {w s precision : ℕ} {coded other : Coded} {old new : AnsKept Word State} {answer : Result (Unit {0}) Refusal}
+pub ans_puts : {Word State : Type 0} {number : Word → ℕ} {state : State → ℕ} {w s precision : ℕ} {coded other : Coded} {old new : AnsBuffers Word State} {answer : Result (Unit {0}) Refusal}
     (code old_needed needed : ℕ) → coded ≡ other → answer_by_code code needed ≡ answer → needed ≡ needed_by answer old_needed
-    → AnsPuts number state w s precision coded old new answer → Told code old_needed needed (AnsPuts number state w s precision other old new)
+    → AnsEncodesList number state w s precision coded old new answer → ReturnsCodeOf code old_needed needed (AnsEncodesList number state w s precision other old new)
 ans_puts code old_needed needed is answer_is needed_is call = (rw (sym is, answer_is) call, rw answer_is needed_is)
 
 -- ---- the range coder
 pub puts_told : {Word State : Type 0} {number : Word → ℕ} {state : State → ℕ} {w s precision : ℕ} {coded other : Coded} {count : ℕ}
     {old kept new put : EncoderParts Word State} {words new_words : List Word} {len new_len : ℕ} {answer : Result (Unit {0}) Refusal} (code old_needed needed : ℕ)
     → coded ≡ other → old ≡ kept → put ≡ new → answer_by_code code needed ≡ answer → needed ≡ needed_by answer old_needed
-    → RangePuts number state w s precision coded count (kept_in old words len) (kept_in new new_words new_len) answer
-    → Told code old_needed needed (RangePuts number state w s precision other count (kept_in kept words len) (kept_in put new_words new_len))
+    → RangeEncodesList number state w s precision coded count (range_buffers old words len) (range_buffers new new_words new_len) answer
+    → ReturnsCodeOf code old_needed needed (RangeEncodesList number state w s precision other count (range_buffers kept words len) (range_buffers put new_words new_len))
 puts_told code old_needed needed is old_is new_is answer_is needed_is call = (rw (sym is, sym old_is, new_is, answer_is) call, rw answer_is needed_is)
 
 pub takes_told : {State : Type 0} {state : State → ℕ} {w s precision : ℕ} {coded other : List ℕ → Coded} {buffer : List ℕ} {old kept new put : DecoderParts State}
     {symbols new_symbols : List ℕ} {answer told : Result (Unit {0}) Refusal} → coded ≡ other → old ≡ kept → put ≡ new → told ≡ answer
-    → RangeTakes state w s precision coded buffer old new symbols new_symbols answer → RangeTakes state w s precision other buffer kept put symbols new_symbols told
+    → RangeDecodesList state w s precision coded buffer old new symbols new_symbols answer → RangeDecodesList state w s precision other buffer kept put symbols new_symbols told
 takes_told is old_is new_is answer_is call = rw (sym is, sym old_is, new_is, answer_is) call
 
 -- ---- the chain coder
 pub chain_puts : {Word State : Type 0} {number : Word → ℕ} {state : State → ℕ} {w s precision : ℕ} {coded other : Coded} {old kept new put : ChainHeads Word State}
     {compressed new_compressed remainders new_remainders : List Word} {count new_count rest new_rest : ℕ} {answer : Result (Unit {0}) Refusal} (code old_needed needed : ℕ)
     → coded ≡ other → old ≡ kept → put ≡ new → answer_by_code code needed ≡ answer → needed ≡ needed_by answer old_needed
-    → ChainPuts number state w s precision coded (keeps old compressed count remainders rest) (keeps new new_compressed new_count new_remainders new_rest) answer
-    → Told code old_needed needed (ChainPuts number state w s precision other (keeps kept compressed count remainders rest) (keeps put new_compressed new_count new_remainders new_rest))
+    → ChainEncodesList number state w s precision coded (chain_buffers old compressed count remainders rest) (chain_buffers new new_compressed new_count new_remainders new_rest) answer
+    → ReturnsCodeOf code old_needed needed (ChainEncodesList number state w s precision other (chain_buffers kept compressed count remainders rest) (chain_buffers put new_compressed new_count new_remainders new_rest))
 chain_puts code old_needed needed is old_is new_is answer_is needed_is call = (rw (sym is, sym old_is, new_is, answer_is) call, rw answer_is needed_is)
 
 pub chain_takes : {Word State : Type 0} {number : Word → ℕ} {state : State → ℕ} {w s precision : ℕ} {coded other : List ℕ → Coded} {old kept new put : ChainHeads Word State}
     {compressed new_compressed remainders new_remainders : List Word} {count new_count rest new_rest : ℕ} {symbols new_symbols : List ℕ} {answer : Result (Unit {0}) Refusal}
     (code old_needed needed : ℕ) → coded ≡ other → old ≡ kept → put ≡ new → answer_by_code code needed ≡ answer → needed ≡ needed_by answer old_needed
-    → ChainTakes number state w s precision coded (keeps old compressed count remainders rest) (keeps new new_compressed new_count new_remainders new_rest) symbols new_symbols answer
-    → Told code old_needed needed
-    (λ told. ChainTakes number state w s precision other (keeps kept compressed count remainders rest) (keeps put new_compressed new_count new_remainders new_rest) symbols new_symbols told)
+    → ChainDecodesList number state w s precision coded (chain_buffers old compressed count remainders rest) (chain_buffers new new_compressed new_count new_remainders new_rest) symbols new_symbols answer
+    → ReturnsCodeOf code old_needed needed
+    (λ told. ChainDecodesList number state w s precision other (chain_buffers kept compressed count remainders rest) (chain_buffers put new_compressed new_count new_remainders new_rest) symbols new_symbols told)
 chain_takes code old_needed needed is old_is new_is answer_is needed_is call = (rw (sym is, sym old_is, new_is, answer_is) call, rw answer_is needed_is)

@@ -24,8 +24,8 @@ needed_by answer old = old
 
 -- The contract of a C function: the result that `code` stands for satisfies `call`, the contract of the call.
 -- For `NoSpace` the function sets `needed`, and otherwise it leaves `needed` unchanged.
-abbrev pub Told : ℕ → ℕ → ℕ → (Result (Unit {0}) Refusal → Type 0) → Type 0
-Told code old_needed needed call = call (answer_by_code code needed) × (needed ≡ needed_by (answer_by_code code needed) old_needed)
+abbrev pub ReturnsCodeOf : ℕ → ℕ → ℕ → (Result (Unit {0}) Refusal → Type 0) → Type 0
+ReturnsCodeOf code old_needed needed call = call (answer_by_code code needed) × (needed ≡ needed_by (answer_by_code code needed) old_needed)
 
 -- A version as a number.
 abbrev pub version_number : ℕ → ℕ → ℕ → ℕ

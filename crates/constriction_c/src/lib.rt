@@ -6,7 +6,7 @@
 //! The C function of a call passes its arguments to the call, and returns the code of the call's result
 //! ([`codes::code_of`]). If the result is the error `NoSpace`, the function also sets `needed` to the number of words
 //! that the buffer has to hold. For any other result the function leaves `needed` unchanged. The contract of the
-//! function (`Told`) is the contract of the call, applied to the result that the returned code stands for.
+//! function (`ReturnsCodeOf`) is the contract of the call, applied to the result that the returned code stands for.
 #![tactic(auto)]
 
 pub mod ans;

@@ -5,9 +5,9 @@ use Rattle.std.proofs.lemmas.List.{length-append}
 use Rattle.constriction_base.specs.Models.{AreKnown, AreModels, IsModel, Item}
 use Rattle.constriction_base.specs.Steps.{IsSizes}
 use Rattle.constriction_base.proofs.Turns.{all-reverse}
-use Rattle.constriction_stack.specs.Ans.{AnsState, IsPush, IsValid}
+use Rattle.constriction_stack.specs.Ans.{AnsState, IsPush, IsNormalized}
 use Rattle.constriction_stack.specs.Symbols.{EncodesAll}
-use Rattle.constriction_calls.specs.AnsCalls.{AnsExports, AnsKept, AnsPuts, AreBinary, AsksItems, ExportLacksRoom, HasBinary, IsWithin, NeedsRoom, PutsItems, state_kept}
+use Rattle.constriction_calls.specs.AnsCalls.{AnsExports, AnsBuffers, AnsEncodesList, AreBinary, AsksItems, TooShortForExport, HasBinary, IsWithin, TooShortForItems, PutsItems, ans_state_of}
 use Rattle.constriction_inputs.specs.Buffers.{Appended, stack_in}
 use Rattle.constriction_inputs.specs.Coded.{AreFit, Coded, items}
 use Rattle.constriction_inputs.specs.declared.refusal.Refusal.{Refusal}
@@ -18,7 +18,7 @@ use Rattle.constriction_calls.proofs.Known.{known_turned}
 use Rattle.constriction_calls.proofs.Stacked.{counted, stacked}
 
 -- what a coder without words wrote, put behind a caller's words
-module _ {Word State : Type 0} (number : Word → ℕ) (state : State → ℕ) (w s precision : ℕ) (coded : Coded) (old : AnsKept Word State) (within : IsWithin old) (fit : AreFit precision coded)
+module _ {Word State : Type 0} (number : Word → ℕ) (state : State → ℕ) (w s precision : ℕ) (coded : Coded) (old : AnsBuffers Word State) (within : IsWithin old) (fit : AreFit precision coded)
     (z : IsSizes w s) (xs : List (Item ℕ)) (is : items precision coded ≡ xs) (models : AreModels w xs) (added : List Word) (top : State)
     (all : EncodesAll w s (reverse xs) (record { head = state old.head; words = [] }) (record { head = state top; words = map number (reverse added) })) where
   -- the state of what it wrote, and that over the caller's words
@@ -34,13 +34,13 @@ module _ {Word State : Type 0} (number : Word → ℕ) (state : State → ℕ) (
   items_known : AreKnown (items precision coded)
   items_known = known_turned (IsPush w s) (items precision coded) _ _ given.1
 
-  whole : IsValid w s (state_kept number state old) → EncodesAll w s (reverse (items precision coded)) (state_kept number state old) behind
+  whole : IsNormalized w s (ans_state_of number state old) → EncodesAll w s (reverse (items precision coded)) (ans_state_of number state old) behind
   whole v =
       encodes_over w s (stack_in number old.words old.len) (reverse (items precision coded)) (record { head = state old.head; words = [] }) alone z
       (all-reverse (λ item. IsModel w item.model) (items precision coded) given.0) v given.1
 
   pub puts_done : (new_words : List Word) (new_len : ℕ) → Appended old.words old.len added new_words new_len
-      → AnsPuts number state w s precision coded old (record { head = top; words = new_words; len = new_len }) (Ok tt)
+      → AnsEncodesList number state w s precision coded old (record { head = top; words = new_words; len = new_len }) (Ok tt)
   puts_done new_words new_len a = record {
     put = λ v. rw (stacked number old.words old.len added new_words new_len a) (whole v);
     behind = (added, a, given.1);
@@ -49,10 +49,10 @@ module _ {Word State : Type 0} (number : Word → ℕ) (state : State → ℕ) (
   }
 
   pub puts_short : (B : Type 0) (new_words : List Word) (new_len : ℕ) (e : Refusal) → new_words ≡ old.words → new_len ≡ old.len → length old.words < old.len + length added
-      → (e ≡ NoSpace (old.len + length added)) ⊎ ((e ≡ NoMemory) × B) → AnsPuts number state w s precision coded old (record { head = old.head; words = new_words; len = new_len }) (Err e)
+      → (e ≡ NoSpace (old.len + length added)) ⊎ ((e ≡ NoMemory) × B) → AnsEncodesList number state w s precision coded old (record { head = old.head; words = new_words; len = new_len }) (Err e)
   puts_short B new_words new_len e same count short why =
       let many = counted number old.words old.len added within in
-      let lacks : NeedsRoom w s (reverse (items precision coded)) (length old.words) (state_kept number state old) (old.len + length added) = record {
+      let lacks : TooShortForItems w s (reverse (items precision coded)) (length old.words) (ans_state_of number state old) (old.len + length added) = record {
         short = short;
         encoded = λ v. (behind, whole v, many);
         alone = (alone, given.1, omega (arith, many, length-append (map number (reverse added)) (stack_in number old.words old.len)));
@@ -65,12 +65,12 @@ module _ {Word State : Type 0} (number : Word → ℕ) (state : State → ℕ) (
       }
 
 -- the words of a head below its leading 1 put behind a caller's words
-module _ {Word State : Type 0} (number : Word → ℕ) (state : State → ℕ) (w : ℕ) (old : AnsKept Word State) (within : IsWithin old) (added : List Word)
+module _ {Word State : Type 0} (number : Word → ℕ) (state : State → ℕ) (w : ℕ) (old : AnsBuffers Word State) (within : IsWithin old) (added : List Word)
     (are : AreBinary w (record { head = state old.head; words = [] }) (map number (reverse added))) where
-  abbrev binary : HasBinary w (state_kept number state old)
+  abbrev binary : HasBinary w (ans_state_of number state old)
   binary = (are.0, record { from = are.1.from; below = are.1.below })
 
-  whole_binary : AreBinary w (state_kept number state old) (map number (reverse added) ++ stack_in number old.words old.len)
+  whole_binary : AreBinary w (ans_state_of number state old) (map number (reverse added) ++ stack_in number old.words old.len)
   whole_binary = (binary.0, binary.1, ap (λ (ds : List ℕ). ds ++ stack_in number old.words old.len) (are.2 ∙ append-nil _))
 
   pub binary_exported : (B : Type 0) (new_words : List Word) (new_len : ℕ) (r : Result (Unit {0}) Refusal) → OnOk r (Appended old.words old.len added new_words new_len)
@@ -83,7 +83,7 @@ module _ {Word State : Type 0} (number : Word → ℕ) (state : State → ℕ) (
     kept = tt;
   }
   binary_exported B new_words new_len (Err e) a why short same =
-      let lacks : ExportLacksRoom (AreBinary w) (length old.words) (state_kept number state old) (old.len + length added) = record {
+      let lacks : TooShortForExport (AreBinary w) (length old.words) (ans_state_of number state old) (old.len + length added) = record {
         short = short;
         all = map number (reverse added) ++ stack_in number old.words old.len;
         is_all = whole_binary;

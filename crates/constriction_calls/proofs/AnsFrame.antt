@@ -4,7 +4,7 @@ use Rattle.std.proofs.lemmas.List.{length-take, take-take}
 use Rattle.constriction_base.specs.Steps.{Step, IsStep, IsSizes}
 use Rattle.constriction_base.specs.Models.{Item, AreModels}
 use Rattle.constriction_base.proofs.Entering.{entry_is_step}
-use Rattle.constriction_stack.specs.Ans.{AnsState, IsValid, IsPush}
+use Rattle.constriction_stack.specs.Ans.{AnsState, IsNormalized, IsPush}
 use Rattle.constriction_stack.specs.Symbols.{EncodesAll}
 use Rattle.constriction_stack.proofs.Pushing.{only_push, push_written, push_kept}
 use Rattle.constriction_inputs.specs.Buffers.{stack_in}
@@ -14,7 +14,7 @@ abbrev over : AnsState → List ℕ → AnsState
 over x rest = record { head = x.head; words = x.words ++ rest }
 
 -- a push, over more words
-push_over : (w s : ℕ) (e : Step) (rest : List ℕ) (old new : AnsState) → IsSizes w s → IsStep w e → IsValid w s (over old rest) → IsPush w s e old new
+push_over : (w s : ℕ) (e : Step) (rest : List ℕ) (old new : AnsState) → IsSizes w s → IsStep w e → IsNormalized w s (over old rest) → IsPush w s e old new
     → IsPush w s e (over old rest) (over new rest)
 push_over w s e rest old new z h v push = elim (only_push w s e z h old new push) [
   | inl (long, is) ↦ rw is (push_written w s e z h (over old rest) v long)
@@ -22,7 +22,7 @@ push_over w s e rest old new z h v push = elim (only_push w s e z h old new push
 ]
 
 -- encodes of items, over more words
-pub encodes_over : {S : Type 0} (w s : ℕ) (rest : List ℕ) (items : List (Item S)) (old new : AnsState) → IsSizes w s → AreModels w items → IsValid w s (over old rest)
+pub encodes_over : {S : Type 0} (w s : ℕ) (rest : List ℕ) (items : List (Item S)) (old new : AnsState) → IsSizes w s → AreModels w items → IsNormalized w s (over old rest)
     → EncodesAll w s items old new → EncodesAll w s items (over old rest) (over new rest)
 encodes_over w s rest [] old new z ms v all = ap (λ (x : AnsState). over x rest) all
 encodes_over w s rest (item ∷ items) old new z ms v all =

@@ -5,28 +5,28 @@ use Rattle.constriction_base.specs.Models.{Item}
 use Rattle.constriction_base.specs.Steps.{AreWords, Step}
 use Rattle.constriction_base.proofs.WordLists.{words-append, words_fit}
 use Rattle.constriction_chain.specs.Chain.{ChainState, IsChain, IsDecode, IsEncode}
-use Rattle.constriction_chain.specs.Symbols.{PutsBackAll, TakesOffAll}
-use Rattle.constriction_chain.specs.Walk.{IsTaken, Source}
+use Rattle.constriction_chain.specs.Symbols.{ChainEncodesAll, ChainDecodesAll}
+use Rattle.constriction_chain.specs.Walk.{QuantileFromSource, Source}
 use Rattle.constriction_chain.proofs.Below.{decodes_part}
 use Rattle.constriction_chain.proofs.Chains.{decode_from, state, state_same}
 use Rattle.constriction_chain.proofs.Walks.{quantile_over}
 use Rattle.constriction_inputs.specs.Buffers.{Appended, stack_in}
-use Rattle.constriction_calls.specs.ChainCalls.{LacksCompressed, LacksRemainders, CompressedNeedRoom, RemaindersNeedRoom, chain_in}
+use Rattle.constriction_calls.specs.ChainCalls.{LacksCompressed, LacksRemainders, TooShortForCompressed, TooShortForRemainders, chain_in}
 use Rattle.constriction_calls.proofs.Stacked.{length_in, rest_in, stacked}
 
 -- ---- decodes
 
 -- decodes leave the remainders that lie below those that they write
-taken_over : {S : Type 0} (w s : ℕ) (items : List (Item S)) (x y : ChainState) (below : List ℕ) → TakesOffAll w s items x y
-    → TakesOffAll w s items (state x.h x.r x.compressed (x.remainders ++ below)) (state y.h y.r y.compressed (y.remainders ++ below))
+taken_over : {S : Type 0} (w s : ℕ) (items : List (Item S)) (x y : ChainState) (below : List ℕ) → ChainDecodesAll w s items x y
+    → ChainDecodesAll w s items (state x.h x.r x.compressed (x.remainders ++ below)) (state y.h y.r y.compressed (y.remainders ++ below))
 taken_over w s items x y below all =
     let part = decodes_part w s items x y all in
-    subst (λ (cs : List ℕ). TakesOffAll w s items (state x.h x.r cs (x.remainders ++ below)) (state y.h y.r y.compressed (y.remainders ++ below))) (sym part.1) (part.2 y.compressed below)
+    subst (λ (cs : List ℕ). ChainDecodesAll w s items (state x.h x.r cs (x.remainders ++ below)) (state y.h y.r y.compressed (y.remainders ++ below))) (sym part.1) (part.2 y.compressed below)
 
 -- ---- encodes
 
 -- a word has room for the bits that are taken
-taken_within : (w P : ℕ) (old new : Source) (quantile : ℕ) → IsTaken w P old quantile new → P ≤ w
+taken_within : (w P : ℕ) (old new : Source) (quantile : ℕ) → QuantileFromSource w P old quantile new → P ≤ w
 taken_within w P old new quantile (inl from) = omega (arith, from.others_length)
 taken_within w P old new quantile (inr from) = omega (arith, from.within_word)
 
@@ -53,8 +53,8 @@ encode_over w s e x y below fit i =
     record { chain = chain; back = back; only = λ other ok d. decode_from w s e within old other new ok chain d back }
 
 -- the same of encodes one after the other
-put_over : {S : Type 0} (w s : ℕ) (items : List (Item S)) (x y : ChainState) (below : List ℕ) → AreWords w below → PutsBackAll w s items x y
-    → PutsBackAll w s items (state x.h x.r (x.compressed ++ below) x.remainders) (state y.h y.r (y.compressed ++ below) y.remainders)
+put_over : {S : Type 0} (w s : ℕ) (items : List (Item S)) (x y : ChainState) (below : List ℕ) → AreWords w below → ChainEncodesAll w s items x y
+    → ChainEncodesAll w s items (state x.h x.r (x.compressed ++ below) x.remainders) (state y.h y.r (y.compressed ++ below) y.remainders)
 put_over w s [] x y below fit all = ap (λ (z : ChainState). state z.h z.r (z.compressed ++ below) z.remainders) all
 put_over w s (item ∷ items) x y below fit (next, (left, p, has, i), all) =
     let e : Step = record { precision = item.model.precision; left = left; p = p } in (
@@ -64,7 +64,7 @@ put_over w s (item ∷ items) x y below fit (next, (left, p, has, i), all) =
     )
 
 -- and they take words of the remainders
-put_takes : {S : Type 0} (w s : ℕ) (items : List (Item S)) (x y : ChainState) → PutsBackAll w s items x y → (t : List ℕ) × (x.remainders ≡ t ++ y.remainders)
+put_takes : {S : Type 0} (w s : ℕ) (items : List (Item S)) (x y : ChainState) → ChainEncodesAll w s items x y → (t : List ℕ) × (x.remainders ≡ t ++ y.remainders)
 put_takes w s [] x y all = ([], ap (λ (z : ChainState). z.remainders) (sym all))
 put_takes w s (item ∷ items) x y (next, (left, p, has, i), all) =
     let one : (t : List ℕ) × (x.remainders ≡ t ++ next.remainders) = elim i.back.gain [ inl stays ↦ ([], stays.2) | inr (high, m) ↦ (m.word ∷ [], m.taken) ] in
@@ -75,15 +75,15 @@ put_takes w s (item ∷ items) x y (next, (left, p, has, i), all) =
 module _ {W : Type 0} (number : W → ℕ) (w s h r : ℕ) (compressed : List W) (len : ℕ) (remainders : List W) (rlen : ℕ) where
   -- decodes over lent words, with the remainders behind a caller's, are decodes of the caller's state
   pub taken_in : (items : List (Item ℕ)) (h' r' len' : ℕ) (added remainders' : List W) (rlen' : ℕ) (y : ChainState) → len ≤ length compressed
-      → TakesOffAll w s items (state h r (stack_in number compressed len) []) y → h' ≡ y.h → r' ≡ y.r → len' ≡ length y.compressed → map number (reverse added) ≡ y.remainders → Appended remainders rlen added remainders' rlen'
-      → (len' ≤ len) × TakesOffAll w s items (chain_in number h r compressed len remainders rlen) (chain_in number h' r' compressed len' remainders' rlen')
+      → ChainDecodesAll w s items (state h r (stack_in number compressed len) []) y → h' ≡ y.h → r' ≡ y.r → len' ≡ length y.compressed → map number (reverse added) ≡ y.remainders → Appended remainders rlen added remainders' rlen'
+      → (len' ≤ len) × ChainDecodesAll w s items (chain_in number h r compressed len remainders rlen) (chain_in number h' r' compressed len' remainders' rlen')
   taken_in items h' r' len' added remainders' rlen' y within all eh er el ea appended =
       let below : List ℕ = stack_in number remainders rlen in
       let part = decodes_part w s items _ y all in
       let rest = rest_in number compressed len part.0 y.compressed within part.1 in
       let end : chain_in number h' r' compressed len' remainders' rlen' ≡ state y.h y.r y.compressed (y.remainders ++ below) =
       state_same _ _ eh er (ap (λ (n : ℕ). stack_in number compressed n) el ∙ sym rest.1) (stacked number remainders rlen added remainders' rlen' appended ∙ ap (λ (ys : List ℕ). ys ++ below) ea) in
-      (omega (arith, rest.0, el), subst (λ (z : ChainState). TakesOffAll w s items (chain_in number h r compressed len remainders rlen) z) (sym end) (taken_over w s items _ y below all))
+      (omega (arith, rest.0, el), subst (λ (z : ChainState). ChainDecodesAll w s items (chain_in number h r compressed len remainders rlen) z) (sym end) (taken_over w s items _ y below all))
 
   -- so are those that end early
   pub ends_in : (P : ℕ) (items : List ℕ → List (Item ℕ)) (count : ℕ) → LacksCompressed w s P items count (state h r (stack_in number compressed len) [])
@@ -102,8 +102,8 @@ module _ {W : Type 0} (number : W → ℕ) (w s h r : ℕ) (compressed : List W)
 
   -- and those whose remainders find no space
   pub needs_space_in : (items : List ℕ → List (Item ℕ)) (count : ℕ) (symbols : List ℕ) (y : ChainState) → rlen ≤ length remainders → length symbols ≡ count
-      → TakesOffAll w s (items symbols) (state h r (stack_in number compressed len) []) y → length remainders < rlen + length y.remainders
-      → RemaindersNeedRoom w s items count (chain_in number h r compressed len remainders rlen) (length remainders) (rlen + length y.remainders)
+      → ChainDecodesAll w s (items symbols) (state h r (stack_in number compressed len) []) y → length remainders < rlen + length y.remainders
+      → TooShortForRemainders w s items count (chain_in number h r compressed len remainders rlen) (length remainders) (rlen + length y.remainders)
   needs_space_in items count symbols y within counted all past =
       let below : List ℕ = stack_in number remainders rlen in
       record {
@@ -118,8 +118,8 @@ module _ {W : Type 0} (number : W → ℕ) (w s h r : ℕ) (compressed : List W)
   -- ---- encodes over lent words, with the compressed words behind a caller's, are encodes of the caller's state
   module _ (law : (x : W) → number x < 2 ^ w) (items : List (Item ℕ)) where
     pub put_in : (h' r' rlen' : ℕ) (added compressed' : List W) (len' : ℕ) (y : ChainState) → rlen ≤ length remainders
-        → PutsBackAll w s items (state h r [] (stack_in number remainders rlen)) y → h' ≡ y.h → r' ≡ y.r → rlen' ≡ length y.remainders → map number (reverse added) ≡ y.compressed → Appended compressed len added compressed' len'
-        → (rlen' ≤ rlen) × PutsBackAll w s items (chain_in number h r compressed len remainders rlen) (chain_in number h' r' compressed' len' remainders rlen')
+        → ChainEncodesAll w s items (state h r [] (stack_in number remainders rlen)) y → h' ≡ y.h → r' ≡ y.r → rlen' ≡ length y.remainders → map number (reverse added) ≡ y.compressed → Appended compressed len added compressed' len'
+        → (rlen' ≤ rlen) × ChainEncodesAll w s items (chain_in number h r compressed len remainders rlen) (chain_in number h' r' compressed' len' remainders rlen')
     put_in h' r' rlen' added compressed' len' y within all eh er el ea appended =
         let below : List ℕ = stack_in number compressed len in
         let part = put_takes w s items _ y all in
@@ -127,7 +127,7 @@ module _ {W : Type 0} (number : W → ℕ) (w s h r : ℕ) (compressed : List W)
         let end : chain_in number h' r' compressed' len' remainders rlen' ≡ state y.h y.r (y.compressed ++ below) y.remainders =
         state_same _ _ eh er (stacked number compressed len added compressed' len' appended ∙ ap (λ (ys : List ℕ). ys ++ below) ea) (ap (λ (n : ℕ). stack_in number remainders n) el ∙ sym rest.1) in (
           omega (arith, rest.0, el),
-          subst (λ (z : ChainState). PutsBackAll w s items (chain_in number h r compressed len remainders rlen) z) (sym end)
+          subst (λ (z : ChainState). ChainEncodesAll w s items (chain_in number h r compressed len remainders rlen) z) (sym end)
               (put_over w s items _ y below (words_fit w number law (reverse (take len compressed))) all),
         )
 
@@ -146,8 +146,8 @@ module _ {W : Type 0} (number : W → ℕ) (w s h r : ℕ) (compressed : List W)
         }
 
     -- and those whose compressed words find no space
-    pub needs_room_in : (y : ChainState) → len ≤ length compressed → PutsBackAll w s items (state h r [] (stack_in number remainders rlen)) y → length compressed < len + length y.compressed
-        → CompressedNeedRoom w s items (chain_in number h r compressed len remainders rlen) (length compressed) (len + length y.compressed)
+    pub needs_room_in : (y : ChainState) → len ≤ length compressed → ChainEncodesAll w s items (state h r [] (stack_in number remainders rlen)) y → length compressed < len + length y.compressed
+        → TooShortForCompressed w s items (chain_in number h r compressed len remainders rlen) (length compressed) (len + length y.compressed)
     needs_room_in y within all past =
         let below : List ℕ = stack_in number compressed len in
         record {

@@ -8,7 +8,7 @@ use Rattle.constriction_base.proofs.Entering.{entry_is_step}
 use Rattle.constriction_base.proofs.InTurn.{InTurn-more}
 use Rattle.constriction_base.proofs.Turns.{reverse_at}
 use Rattle.constriction_chain.specs.Chain.{ChainState, IsEncode, least}
-use Rattle.constriction_chain.specs.Symbols.{PutsBack, PutsBackAll}
+use Rattle.constriction_chain.specs.Symbols.{ChainEncodesOne, ChainEncodesAll}
 use Rattle.constriction_inputs.specs.Items.{HasAt, HasInterval}
 use Rattle.constriction_inputs.specs.declared.refusal.Refusal.{Refusal}
 use Rattle.constriction_inputs.proofs.Places.{at_place, last_at}
@@ -35,8 +35,8 @@ module _ (w s precision bits : ℕ) (items : List (Item ℕ)) (k l p : ℕ) (at 
       let e = found.2.1 in
       entry_is_step w precision bits l p found.0.model.table found.0.symbol e.lawful e.has e.sized narrow
 
-  put_at : (a b : ChainState) → IsEncode w s (record { precision = precision; left = l; p = p }) a b → HasAt items k (λ item. PutsBack w s item.model item.symbol a b)
-  put_at a b step = has_more items k (HasInterval precision bits l p) (λ item. PutsBack w s item.model item.symbol a b) (λ item e. (l, p, e.1.has, rw e.0 step)) at
+  put_at : (a b : ChainState) → IsEncode w s (record { precision = precision; left = l; p = p }) a b → HasAt items k (λ item. ChainEncodesOne w s item.model item.symbol a b)
+  put_at a b step = has_more items k (HasInterval precision bits l p) (λ item. ChainEncodesOne w s item.model item.symbol a b) (λ item e. (l, p, e.1.has, rw e.0 step)) at
 
   needs_at : (a : ChainState) → a.r < p * least w s precision → HasAt items k (NeedsRemainders w s a)
   needs_at a short = has_more items k (HasInterval precision bits l p) (NeedsRemainders w s a) (λ item e. (l, p, e.1.has, rw e.0 short)) at
@@ -59,15 +59,15 @@ module _ (w s : ℕ) (items : List (Item ℕ)) (left : ℕ) (some : 0 < left) wh
   turned x is = ap reverse is ∙ reverse-append (x ∷ []) (drop left items)
 
   -- one encode more
-  pub put_more : (a b c : ChainState) → PutsBackAll w s (reverse (drop left items)) a b → HasAt items (left - 1) (λ item. PutsBack w s item.model item.symbol b c)
-      → PutsBackAll w s (reverse (drop (left - 1) items)) a c
+  pub put_more : (a b c : ChainState) → ChainEncodesAll w s (reverse (drop left items)) a b → HasAt items (left - 1) (λ item. ChainEncodesOne w s item.model item.symbol b c)
+      → ChainEncodesAll w s (reverse (drop (left - 1) items)) a c
   put_more a b c all at =
-      let found = last_at items left (λ item. PutsBack w s item.model item.symbol b c) some at in
-      subst (λ (xs : List (Item ℕ)). PutsBackAll w s xs a c) (sym (turned found.0 found.1))
-      (InTurn-more (λ item. PutsBack w s item.model item.symbol) (reverse (drop left items)) found.0 a b c all found.2)
+      let found = last_at items left (λ item. ChainEncodesOne w s item.model item.symbol b c) some at in
+      subst (λ (xs : List (Item ℕ)). ChainEncodesAll w s xs a c) (sym (turned found.0 found.1))
+      (InTurn-more (λ item. ChainEncodesOne w s item.model item.symbol) (reverse (drop left items)) found.0 a b c all found.2)
 
   -- the remainders end
-  lacks_more : (a b : ChainState) → PutsBackAll w s (reverse (drop left items)) a b → HasAt items (left - 1) (NeedsRemainders w s b) → b.remainders ≡ [] → LacksRemainders w s (reverse items) a
+  lacks_more : (a b : ChainState) → ChainEncodesAll w s (reverse (drop left items)) a b → HasAt items (left - 1) (NeedsRemainders w s b) → b.remainders ≡ [] → LacksRemainders w s (reverse items) a
   lacks_more a b all at ended =
       let found = last_at items left (NeedsRemainders w s b) some at in
       let others = reverse (take (left - 1) items) in
@@ -85,7 +85,7 @@ module _ (w s : ℕ) (items : List (Item ℕ)) (left : ℕ) (some : 0 < left) wh
       }
 
   -- a refused item refuses all
-  pub refused_more : (a b c d : ChainState) (e : Refusal) → PutsBackAll w s (reverse (drop left items)) a b → PutsItem w s items (left - 1) b c (Err e) → PutsBackItems w s items a d (Err e)
+  pub refused_more : (a b c d : ChainState) (e : Refusal) → ChainEncodesAll w s (reverse (drop left items)) a b → PutsItem w s items (left - 1) b c (Err e) → PutsBackItems w s items a d (Err e)
   refused_more a b c d e all one =
       record {
         put = tt;
@@ -99,8 +99,8 @@ module _ (w s : ℕ) (items : List (Item ℕ)) (left : ℕ) (some : 0 < left) wh
 -- a single item is all
 pub single_put : (w s : ℕ) (items : List (Item ℕ)) (a b : ChainState) (answer : Result (Unit {0}) Refusal) → length items ≡ 1 → PutsItem w s items 0 a b answer → PutsBackItems w s items a b answer
 single_put w s items a b (Ok tt) one put =
-    let none : PutsBackAll w s (reverse (drop 1 items)) a a = rw (drop_all 1 items (omega (arith, one))) refl in
+    let none : ChainEncodesAll w s (reverse (drop 1 items)) a a = rw (drop_all 1 items (omega (arith, one))) refl in
     record { put = put_more w s items 1 (omega arith) a a b none put.put; refused = tt }
 single_put w s items a b (Err e) one put =
-    let none : PutsBackAll w s (reverse (drop 1 items)) a a = rw (drop_all 1 items (omega (arith, one))) refl in
+    let none : ChainEncodesAll w s (reverse (drop 1 items)) a a = rw (drop_all 1 items (omega (arith, one))) refl in
     refused_more w s items 1 (omega arith) a a b b e none put

@@ -7,7 +7,7 @@ use Rattle.constriction_base.specs.declared.backends.reading.Holds as holding
 use Rattle.constriction_base.specs.declared.backends.reading.ReadWords as reading
 use Rattle.constriction_base.specs.declared.backends.writing.WriteWords as writing
 use Rattle.constriction_chain.specs.Chain.{ChainState, ChainValue, least}
-use Rattle.constriction_chain.specs.Symbols.{TakesOffAll}
+use Rattle.constriction_chain.specs.Symbols.{ChainDecodesAll}
 use Rattle.constriction_chain.specs.Walk.{NeedsWord}
 use Rattle.constriction_chain.specs.declared.errors.DecoderFrontendError.{DecoderFrontendError}
 use Rattle.constriction_chain.proofs.Refusals.{Decodes}
@@ -24,7 +24,7 @@ module _ {W C R O E F : Type 0} (number : W → ℕ) (compressed_holds : holding
 
 -- symbols that end early, with others behind them
 pub ends_pairs : {M : Type 0} (w s P : ℕ) (table : M → List (ℕ × ℕ × ℕ)) (xs : List ℕ) (ms : List M) (count k : ℕ) (x last : ChainState) → length xs ≡ k → k < count → length ms ≡ count
-    → TakesOffAll w s (pairs_of P table xs ms) x last → NeedsWord w P last.h × (last.compressed ≡ []) → LacksCompressed w s P (λ symbols. pairs_of P table symbols ms) count x
+    → ChainDecodesAll w s (pairs_of P table xs ms) x last → NeedsWord w P last.h × (last.compressed ≡ []) → LacksCompressed w s P (λ symbols. pairs_of P table symbols ms) count x
 ends_pairs w s P table xs ms count k x last counted few many taken stop =
     record {
       symbols = xs ++ replicate (count - k) 0;

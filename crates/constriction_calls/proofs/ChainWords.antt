@@ -14,8 +14,8 @@ use Rattle.constriction_chain.specs.Imports.{FromBinary, FromCompressed, FromRem
 use Rattle.constriction_chain.specs.Words.{NoHeads, NoStart, TooFew, remainder_words}
 use Rattle.constriction_chain.proofs.Chains.{state, state_same}
 use Rattle.constriction_chain.proofs.NoCoder as laws
-use Rattle.constriction_inputs.specs.Buffers.{Appended, WordsKept, stack_in}
-use Rattle.constriction_calls.specs.ChainWords.{AreWordsInForm, Begins, ChainBegins, ChainEnds, Form, HaveWords, HeadsOver, NoRoomFor, heads_over}
+use Rattle.constriction_inputs.specs.Buffers.{Appended, WordBuffer, stack_in}
+use Rattle.constriction_calls.specs.ChainWords.{AreWordsInForm, Begins, ChainBegins, ChainEnds, Form, HaveWords, HeadsOver, TooShortForWords, heads_over}
 use Rattle.constriction_calls.specs.declared.chain.ChainHeads.{ChainHeads}
 use Rattle.constriction_inputs.specs.declared.refusal.Refusal.{Refusal}
 use Rattle.constriction_inputs.specs.declared.refusal.Refusal.TheVariants as refusals
@@ -98,7 +98,7 @@ module _ {Word State : Type 0} (number : Word → ℕ) (state' : State → ℕ) 
     pub begins_none : ((x : ChainState) × Begins form w s P (map number (reverse words)) x → ⊥) → ChainBegins number state' w s P form words old old (Err refusals.InvalidData)
     begins_none none = record { begun = tt; within = tt; asked = inl (none, refl); kept = refl }
 
-  module _ (heads : ChainHeads Word State) (old new : WordsKept Word) (added : List Word) where
+  module _ (heads : ChainHeads Word State) (old new : WordBuffer Word) (added : List Word) where
     -- words that were put behind a caller's, or found no room there
     pub ends_at : old.len ≤ length old.words → HaveWords number state' w s P form heads
         → AreWordsInForm form w (map number (reverse added) ++ stack_in number old.words old.len) (heads_over number state' form heads old.words old.len)
@@ -112,6 +112,6 @@ module _ {Word State : Type 0} (number : Word → ℕ) (state' : State → ℕ) 
       kept = tt;
     }
     ends_at within have are (Err e) appended full past why kept =
-        let lacks : NoRoomFor (length old.words) (λ words. AreWordsInForm form w words (heads_over number state' form heads old.words old.len)) (old.len + length added) =
+        let lacks : TooShortForWords (length old.words) (λ words. AreWordsInForm form w words (heads_over number state' form heads old.words old.len)) (old.len + length added) =
         record { past = full; words = map number (reverse added) ++ stack_in number old.words old.len; are = are; count = counted number old.words old.len added within } in
         record { ended = tt; appended = tt; asked = inr (within, inr (have, room_of _ e (old.len + length added) why lacks)); kept = rw (kept.0, kept.1) refl }

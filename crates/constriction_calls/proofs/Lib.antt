@@ -12,7 +12,7 @@ mod Known
 mod NarrowLists
 mod RangeAnswers
 mod RangeFrame
-mod RangeKept
+mod RangeBuffers
 mod RangeNarrow
 mod RangePlaces
 mod RangeTaking

@@ -7,7 +7,7 @@ use Rattle.std.proofs.lemmas.Bool.{cases_eq}
 use Rattle.constriction_base.specs.Steps.{Step, AreWords}
 use Rattle.constriction_base.specs.Digits.{fixed_digits}
 use Rattle.constriction_queue.specs.Range.{Run, cut, grown, narrowed_by, sealed, seal_number}
-use Rattle.constriction_queue.specs.Encoder.{number_of, run_of, words_held}
+use Rattle.constriction_queue.specs.Encoder.{number_of, run_of, repeated_words}
 use Rattle.constriction_base.specs.Models.{Item}
 use Rattle.constriction_queue.specs.Symbols.{NarrowsAll}
 use Rattle.constriction_base.proofs.Guards.{fixed-length}
@@ -178,11 +178,11 @@ sealed_length w s held lower range wide ne =
 -- ---- what an encoder holds leaves room for its interval
 
 pub held_inside : (w s count first lower range : ℕ) → first + 1 < 2 ^ w → lower < 2 ^ s → range < 2 ^ s
-    → number_of (2 ^ w) (words_held (2 ^ w - 1) count first) * 2 ^ s + lower + range < 2 ^ s * (2 ^ w) ^ length (words_held (2 ^ w - 1) count first)
+    → number_of (2 ^ w) (repeated_words (2 ^ w - 1) count first) * 2 ^ s + lower + range < 2 ^ s * (2 ^ w) ^ length (repeated_words (2 ^ w - 1) count first)
 held_inside w s count first lower range less lower_fits range_fits =
     let b : ℕ = 2 ^ w in
-    let ones : List ℕ = words_held (b - 1) count first in
-    let zeros : List ℕ = words_held 0 count (first + 1) ++ [] in
+    let ones : List ℕ = repeated_words (b - 1) count first in
+    let zeros : List ℕ = repeated_words 0 count (first + 1) ++ [] in
     let below : number_of b zeros < b ^ length zeros = number_below w zeros (words_held_fit w 0 count (first + 1) [] (pow_pos w) less tt) in
     let more : number_of b (ones ++ []) + 1 < b ^ length (ones ++ []) = rw (← carry_held b count first [] (pow_pos w), ← length-held 0 (b - 1) count (first + 1) first []) below in
     let room : number_of b ones + 2 ≤ b ^ length ones = omega (arith, rw (append-nil ones) at more) in

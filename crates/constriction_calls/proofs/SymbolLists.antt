@@ -5,13 +5,13 @@ use Rattle.std.proofs.lemmas.List.{map_push, reverse-append, reverse-reverse}
 use Rattle.constriction_base.specs.declared.errors.CoderError.{CoderError}
 use Rattle.constriction_base.specs.declared.errors.CoderError.TheVariants.{Frontend, Backend}
 use Rattle.constriction_base.specs.Backends.{IsWrite, Writes}
-use Rattle.constriction_symbol.specs.Bits.{BitsValue, GivesBit, PutsOnto}
+use Rattle.constriction_symbol.specs.Bits.{BitsValue, YieldsBit, PutsOnto}
 use Rattle.constriction_symbol.specs.Codewords.{ReadsSymbol}
 use Rattle.constriction_symbol.specs.declared.codebooks.SymbolCodeError.{SymbolCodeError}
 use Rattle.constriction_symbol.specs.declared.codebooks.SymbolCodeError.TheVariants.{OutOfCompressedData, InvalidCodeword}
 use Rattle.constriction_symbol.proofs.ReadBack.{gives_front}
 use Rattle.constriction_inputs.specs.declared.refusal.Refusal.{Refusal}
-use Rattle.constriction_calls.specs.SymbolCalls.{AreTakenOff, AsStack, GiveNone, AllHaveCodewords, IsToldAs, ReadsNone}
+use Rattle.constriction_calls.specs.SymbolCalls.{BeginWithCodewords, AsStack, HoldNoBits, AllHaveCodewords, MapsError, SymbolReadFails}
 use Rattle.constriction_symbol.proofs.CodewordLists.{codewords_push}
 
 -- where each symbol has a codeword, a list has those of its symbols
@@ -23,10 +23,10 @@ all_have codeword (s ∷ symbols) all =
     (first.0 ++ rest.0, (first.0, rest.0, first.1, refl, rest.1))
 
 module _ {I S E : Type 0} (next : I → Option (Result Bool E) → I → Type 0) (unread : I → List Bool) (codeword : S → Option (List Bool)) (reads_on : List Bool → Type 0)
-    (law : (old : I) (item : Option (Result Bool E)) (new : I) → next old item new → GivesBit (unread old) item (unread new))
-    (xs : List S) (begun : List Bool) (old new : I) (so_far : AreTakenOff codeword xs begun (unread old)) where
+    (law : (old : I) (item : Option (Result Bool E)) (new : I) → next old item new → YieldsBit (unread old) item (unread new))
+    (xs : List S) (begun : List Bool) (old new : I) (so_far : BeginWithCodewords codeword xs begun (unread old)) where
   -- one symbol more was read
-  pub read_one : {V : Type 0} (is_invalid : List Bool → V → Type 0) (x : S) → ReadsSymbol {E = E} next codeword reads_on is_invalid old (Ok x) new → AreTakenOff codeword (xs ++ x ∷ []) begun (unread new)
+  pub read_one : {V : Type 0} (is_invalid : List Bool → V → Type 0) (x : S) → ReadsSymbol {E = E} next codeword reads_on is_invalid old (Ok x) new → BeginWithCodewords codeword (xs ++ x ∷ []) begun (unread new)
   read_one is_invalid x (bits, known, given) =
       let here = gives_front next unread law old bits new given in (
         so_far.0 ++ bits,
@@ -36,7 +36,7 @@ module _ {I S E : Type 0} (next : I → Option (Result Bool E) → I → Type 0)
 
   -- no symbol was read
   pub read_none : {V : Type 0} (is_invalid : List Bool → V → Type 0) (amt : ℕ) → length xs < amt → (error : CoderError (SymbolCodeError V) E) (refusal : Refusal)
-      → ReadsSymbol {E = E} next codeword reads_on is_invalid old (Err error) new → IsToldAs error refusal → ReadsNone codeword reads_on (λ bits. (v : V) × is_invalid bits v) amt begun refusal
+      → ReadsSymbol {E = E} next codeword reads_on is_invalid old (Err error) new → MapsError error refusal → SymbolReadFails codeword reads_on (λ bits. (v : V) × is_invalid bits v) amt begun refusal
   read_none is_invalid amt fewer (Frontend OutOfCompressedData) refusal (bits, on, (last, given, none)) told =
       let here = gives_front next unread law old bits last given in
       let end = law last None new none in
@@ -48,7 +48,7 @@ module _ {I S E : Type 0} (next : I → Option (Result Bool E) → I → Type 0)
   read_none is_invalid amt fewer (Backend e) refusal reads told = rw told tt
 
 -- words of which the last is zero
-pub end_in_zero : {W : Type 0} (number : W → ℕ) (words : List W) (word : W) (rest : List W) → reverse words ≡ word ∷ rest → number word ≡ 0 → GiveNone AsStack (map number words)
+pub end_in_zero : {W : Type 0} (number : W → ℕ) (words : List W) (word : W) (rest : List W) → reverse words ≡ word ∷ rest → number word ≡ 0 → HoldNoBits AsStack (map number words)
 end_in_zero number words word rest is zero =
     let all : words ≡ reverse rest ++ word ∷ [] = sym (reverse-reverse words) ∙ (ap (λ ws. reverse ws) is ∙ reverse-append (word ∷ []) rest) in
     (map number (reverse rest), ap (λ ws. map number ws) all ∙ (map_push number (reverse rest) word ∙ ap (λ n. map number (reverse rest) ++ n ∷ []) zero))

@@ -5,16 +5,16 @@ use Rattle.std.proofs.lemmas.Grind.{flat_map-append}
 use Rattle.std.proofs.Math.Nat.{div-add-mod, div-le_of_le-mul, mul_comm}
 use Rattle.std.proofs.Math.Seq.{drop-append-add, take-append-add}
 use Rattle.constriction_base.specs.Iterators.{item_of_answer}
-use Rattle.constriction_symbol.specs.Bits.{GivesBit, IsQueueWords, bits_of, bits_of_words}
+use Rattle.constriction_symbol.specs.Bits.{YieldsBit, IsQueueWords, bits_of, bits_of_words}
 use Rattle.constriction_symbol.proofs.Lengths.{length_words}
 use Rattle.constriction_symbol.specs.Lists.{AreCodewords}
-use Rattle.constriction_calls.specs.SymbolBits.{AreWordsFrom, LackRoomFrom}
+use Rattle.constriction_calls.specs.SymbolBits.{AreWordsFrom, TooShortFromBit}
 
 -- ---- one bit after another
 pub off_one : (k : ℕ) (all : List Bool) (b : Bool) (new : List Bool) → drop k all ≡ b ∷ new → new ≡ drop (k + 1) all
 off_one k all b new is = sym (ap (λ xs. drop 1 xs) is) ∙ drop-drop 1 k all
 
-pub one_further : (E : Type 0) (k : ℕ) (all : List Bool) (x : Option Bool) (new : List Bool) → GivesBit {E = E} (drop k all) (item_of_answer (Ok x)) new → new ≡ drop (k + 1) all
+pub one_further : (E : Type 0) (k : ℕ) (all : List Bool) (x : Option Bool) (new : List Bool) → YieldsBit {E = E} (drop k all) (item_of_answer (Ok x)) new → new ≡ drop (k + 1) all
 one_further E k all (Some b) new is = off_one k all b new is
 one_further E k all None new is = is.1 ∙ (sym (ap (λ xs. drop 1 xs) is.0) ∙ drop-drop 1 k all)
 
@@ -75,7 +75,7 @@ module _ {W : Type 0} (number : W → ℕ) (w bit : ℕ) (words : List W) (withi
 
   -- there is no room for the words of symbols
   pub lacks_room : {S : Type 0} (codeword : S → Option (List Bool)) (symbols : List S) (code : List Bool) (added : List W) → AreCodewords codeword symbols code
-      → AreWordsFrom w (map number words) bit code (map number (take (bit / w) words ++ added)) → length words < bit / w + length added → LackRoomFrom w codeword symbols (map number words) bit (bit / w + length added)
+      → AreWordsFrom w (map number words) bit code (map number (take (bit / w) words ++ added)) → length words < bit / w + length added → TooShortFromBit w codeword symbols (map number words) bit (bit / w + length added)
   lacks_room codeword symbols code added coded held less =
       let all = length-map (take (bit / w) words ++ added) number ∙ (length-append (take (bit / w) words) added ∙ ap (λ n. n + length added) (length-take-le (bit / w) words place)) in
       (code, map number (take (bit / w) words ++ added), coded, held, sym all, rw (length-map words number) less)

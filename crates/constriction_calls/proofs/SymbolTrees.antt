@@ -5,7 +5,7 @@ use Rattle.std.proofs.lemmas.List.{length-map}
 use Rattle.std.proofs.lemmas.List.Sums.{sum-map}
 use Rattle.std.proofs.lemmas.List.Elements.{All-nil, All-cons}
 use Rattle.constriction_symbol.specs.Merging.{FitTree}
-use Rattle.constriction_symbol.specs.Codewords.{NoneBegins}
+use Rattle.constriction_symbol.specs.Codewords.{NoCodewordBegins}
 use Rattle.constriction_symbol.specs.Huffman.{ReadsOnIn, Tree, huffman, path}
 use Rattle.constriction_symbol.specs.HuffmanLaws.{inner_begins_none}
 use Rattle.constriction_symbol.proofs.TreeCodewords.{unknown_symbol}
@@ -25,5 +25,5 @@ fit_numbers number bits most weights fit =
     record { some = omega (arith, count, fit.some); few = omega (arith, count, fit.few); fits = rw (sum-map number weights) fit.fits }
 
 -- bits in which a tree that has the codewords of weights reads on
-pub cut_by : (tree : Tree) (weights : List ℕ) → ((s : ℕ) → path tree s ≡ huffman weights s) → (bits : List Bool) → ReadsOnIn tree bits → NoneBegins (huffman weights) bits
+pub cut_by : (tree : Tree) (weights : List ℕ) → ((s : ℕ) → path tree s ≡ huffman weights s) → (bits : List Bool) → ReadsOnIn tree bits → NoCodewordBegins (huffman weights) bits
 cut_by tree weights same bits on symbol code tail known is = inner_begins_none tree bits on symbol code tail (same symbol ∙ known) is

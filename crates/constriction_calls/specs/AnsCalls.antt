@@ -1,49 +1,49 @@
 -- Contracts of the stack coder's calls: what each call does with the caller's coder, and when it returns each error.
 use Rattle.std.specs.Prelude.{◌≡◌, ℕ, ◌+◌, ◌<◌, ◌≤◌, List, [], Result, length, map, reverse, OnErr, OnOk}
 use Rattle.constriction_base.specs.Models.{AreKnown, AreModels, Item}
-use Rattle.constriction_stack.specs.Ans.{AnsState, IsValid, exported}
+use Rattle.constriction_stack.specs.Ans.{AnsState, IsNormalized, exported}
 use Rattle.constriction_base.specs.Writing.{IsOneAbove}
 use Rattle.constriction_stack.specs.Binary.{binary_words}
 use Rattle.constriction_stack.specs.Symbols.{DecodesAll, EncodesAll}
 use Rattle.constriction_inputs.specs.Buffers.{Appended, stack_in}
 use Rattle.constriction_inputs.specs.Coded.{AsksFit, Coded, items}
-use Rattle.constriction_inputs.specs.Refusals.{Asks, Else, Memory, Never, Room}
+use Rattle.constriction_inputs.specs.Refusals.{Asks, Otherwise, OnlyNoMemory, NoRefusal, NoMemoryOrSpace}
 use Rattle.constriction_inputs.specs.Weights.{by_weights}
 use Rattle.constriction_inputs.specs.declared.refusal.Refusal.{Refusal}
 use Rattle.constriction_inputs.specs.declared.refusal.Refusal.TheVariants.{ImpossibleSymbol, InvalidData, WrongLength}
 use Rattle.constriction_words.specs.declared.bit_array.BitArray as numbers
 
 -- A coder that a caller keeps: a head, and a buffer whose first `len` words are in use. The last of these is on top.
-pub record AnsKept (Word State : Type 0) : Type 0 where
+pub record AnsBuffers (Word State : Type 0) : Type 0 where
   pub head : State
   pub words : List Word
   pub len : ℕ
 
-abbrev pub coder_of : {Word State : Type 0} → State → List Word → ℕ → AnsKept Word State
+abbrev pub coder_of : {Word State : Type 0} → State → List Word → ℕ → AnsBuffers Word State
 coder_of head words len = record { head = head; words = words; len = len }
 
 -- The state of a kept coder: its head, and its words in use as a list, top word first.
-abbrev pub state_kept : {Word State : Type 0} → (Word → ℕ) → (State → ℕ) → AnsKept Word State → AnsState
-state_kept number state kept = record { head = state kept.head; words = stack_in number kept.words kept.len }
+abbrev pub ans_state_of : {Word State : Type 0} → (Word → ℕ) → (State → ℕ) → AnsBuffers Word State → AnsState
+ans_state_of number state kept = record { head = state kept.head; words = stack_in number kept.words kept.len }
 
 -- The words in use are within the buffer.
-abbrev pub IsWithin : {Word State : Type 0} → AnsKept Word State → Type 0
+abbrev pub IsWithin : {Word State : Type 0} → AnsBuffers Word State → Type 0
 IsWithin kept = kept.len ≤ length kept.words
 
 -- A call appends words to the words in use, and changes nothing else in the buffer.
-abbrev pub PutsBehind : {Word State : Type 0} → AnsKept Word State → AnsKept Word State → Type 0
+abbrev pub PutsBehind : {Word State : Type 0} → AnsBuffers Word State → AnsBuffers Word State → Type 0
 PutsBehind {Word} old new = (added : List Word) × Appended old.words old.len added new.words new.len
 
 -- ---- symbols
 -- The state after encoding the items has `needed` words, but the buffer holds only `room` words, which is fewer.
 -- `needed` is the number of old words, plus the number of words that encoding from the head alone writes.
-pub record NeedsRoom (w s : ℕ) (items : List (Item ℕ)) (room : ℕ) (old : AnsState) (needed : ℕ) : Type 0 where
+pub record TooShortForItems (w s : ℕ) (items : List (Item ℕ)) (room : ℕ) (old : AnsState) (needed : ℕ) : Type 0 where
   pub short : room < needed
-  pub encoded : IsValid w s old → (new : AnsState) × EncodesAll w s items old new × (length new.words ≡ needed)
+  pub encoded : IsNormalized w s old → (new : AnsState) × EncodesAll w s items old new × (length new.words ≡ needed)
   pub alone : (new : AnsState) × EncodesAll w s items (record { head = old.head; words = [] }) new × (needed ≡ length old.words + length new.words)
 
 -- Encoding the items from the old head alone leads to the new head. The call appends the words that this writes.
-abbrev pub PutsItems : {Word State : Type 0} → (Word → ℕ) → (State → ℕ) → ℕ → ℕ → List (Item ℕ) → AnsKept Word State → AnsKept Word State → Type 0
+abbrev pub PutsItems : {Word State : Type 0} → (Word → ℕ) → (State → ℕ) → ℕ → ℕ → List (Item ℕ) → AnsBuffers Word State → AnsBuffers Word State → Type 0
 PutsItems {Word} number state w s items old new = (added : List Word) × Appended old.words old.len added new.words new.len
     × EncodesAll w s items (record { head = state old.head; words = [] }) (record { head = state new.head; words = map number (reverse added) })
 
@@ -57,58 +57,58 @@ pub record CodesAlone {Word State : Type 0} (number : Word → ℕ) (state : Sta
 -- The errors of encoding items: `ImpossibleSymbol` if a model has no entry for its symbol. After this check, `NoSpace`
 -- or `NoMemory` can come.
 abbrev pub AsksItems : ℕ → ℕ → List (Item ℕ) → ℕ → AnsState → Result (Unit {0}) Refusal → Type 0
-AsksItems w s items room old = Asks ImpossibleSymbol (AreKnown items) (Else (Room (NeedsRoom w s (reverse items) room old)))
+AsksItems w s items room old = Asks ImpossibleSymbol (AreKnown items) (Otherwise (NoMemoryOrSpace (TooShortForItems w s (reverse items) room old)))
 
 -- The contract of an encode call. `old` and `new` are the coder before and after the call, and `answer` is its result.
-pub record AnsPuts {Word State : Type 0} (number : Word → ℕ) (state : State → ℕ) (w s precision : ℕ) (coded : Coded)
-    (old new : AnsKept Word State) (answer : Result (Unit {0}) Refusal) : Type 0 where
+pub record AnsEncodesList {Word State : Type 0} (number : Word → ℕ) (state : State → ℕ) (w s precision : ℕ) (coded : Coded)
+    (old new : AnsBuffers Word State) (answer : Result (Unit {0}) Refusal) : Type 0 where
   -- From a valid state, encoding the items from the last to the first leads to the new state.
-  pub put : OnOk answer (IsValid w s (state_kept number state old)
-      → EncodesAll w s (reverse (items precision coded)) (state_kept number state old) (state_kept number state new))
+  pub put : OnOk answer (IsNormalized w s (ans_state_of number state old)
+      → EncodesAll w s (reverse (items precision coded)) (ans_state_of number state old) (ans_state_of number state new))
   -- From every state, the call appends the words that encoding from the head alone writes.
   pub behind : OnOk answer (PutsItems number state w s (reverse (items precision coded)) old new)
   pub asked : Asks WrongLength (IsWithin old)
-      (AsksFit precision coded (AsksItems w s (items precision coded) (length old.words) (state_kept number state old))) answer
+      (AsksFit precision coded (AsksItems w s (items precision coded) (length old.words) (ans_state_of number state old))) answer
   pub kept : OnErr answer (new ≡ old)
 
 -- The contract of a decode call, which fills a list with decoded symbols. `old` and `new` are the coder before and
 -- after the call.
-pub record AnsTakes {Word State : Type 0} (number : Word → ℕ) (state : State → ℕ) (w s precision : ℕ) (coded : List ℕ → Coded)
-    (old new : AnsKept Word State) (old_symbols new_symbols : List ℕ) (answer : Result (Unit {0}) Refusal) : Type 0 where
+pub record AnsDecodesList {Word State : Type 0} (number : Word → ℕ) (state : State → ℕ) (w s precision : ℕ) (coded : List ℕ → Coded)
+    (old new : AnsBuffers Word State) (old_symbols new_symbols : List ℕ) (answer : Result (Unit {0}) Refusal) : Type 0 where
   -- Decoding the items in order leads from the old state to the new state.
-  pub taken : OnOk answer (DecodesAll w s (items precision (coded new_symbols)) (state_kept number state old) (state_kept number state new))
+  pub taken : OnOk answer (DecodesAll w s (items precision (coded new_symbols)) (ans_state_of number state old) (ans_state_of number state new))
   pub within : OnOk answer ((new.words ≡ old.words) × (new.len ≤ old.len) × (length new_symbols ≡ length old_symbols))
-  pub asked : Asks WrongLength (IsWithin old) (AsksFit precision (coded old_symbols) (Else Memory)) answer
+  pub asked : Asks WrongLength (IsWithin old) (AsksFit precision (coded old_symbols) (Otherwise OnlyNoMemory)) answer
   pub kept : OnErr answer ((new ≡ old) × (new_symbols ≡ old_symbols))
 
 -- ---- symbols, with the numbers of types
--- `AnsPuts` with the numbers and sizes in bits of two types: of words and of heads. The head, the buffer and the number
--- of words in use come first as they are before the call, and then as they are after it.
-abbrev pub AnsPutsBy : {Word State N M : Type 0} → numbers.Ghosts Word N → numbers.Ghosts State M → ℕ → Coded
+-- `AnsEncodesList` with the numbers and sizes in bits of two types: of words and of heads. The head, the buffer and the
+-- number of words in use come first as they are before the call, and then as they are after it.
+abbrev pub AnsEncodesListBy : {Word State N M : Type 0} → numbers.Ghosts Word N → numbers.Ghosts State M → ℕ → Coded
     → State → List Word → ℕ → State → List Word → ℕ → Result (Unit {0}) Refusal → Type 0
-AnsPutsBy word state precision coded head words len new_head new_words new_len answer =
-    AnsPuts word.number state.number word.BITS state.BITS precision coded (coder_of head words len) (coder_of new_head new_words new_len) answer
+AnsEncodesListBy word state precision coded head words len new_head new_words new_len answer =
+    AnsEncodesList word.number state.number word.BITS state.BITS precision coded (coder_of head words len) (coder_of new_head new_words new_len) answer
 
--- `AnsTakes` with the numbers and sizes in bits of two types: of words and of heads. The buffer stays as it is.
-abbrev pub AnsTakesBy : {Word State N M : Type 0} → numbers.Ghosts Word N → numbers.Ghosts State M → ℕ → (List ℕ → Coded)
+-- `AnsDecodesList` with the numbers and sizes in bits of two types: of words and of heads. The buffer stays as it is.
+abbrev pub AnsDecodesListBy : {Word State N M : Type 0} → numbers.Ghosts Word N → numbers.Ghosts State M → ℕ → (List ℕ → Coded)
     → List Word → State → ℕ → State → ℕ → List ℕ → List ℕ → Result (Unit {0}) Refusal → Type 0
-AnsTakesBy word state precision coded words head len new_head new_len old_symbols new_symbols answer =
-    AnsTakes word.number state.number word.BITS state.BITS precision coded (coder_of head words len) (coder_of new_head words new_len) old_symbols new_symbols answer
+AnsDecodesListBy word state precision coded words head len new_head new_len old_symbols new_symbols answer =
+    AnsDecodesList word.number state.number word.BITS state.BITS precision coded (coder_of head words len) (coder_of new_head words new_len) old_symbols new_symbols answer
 
--- `AnsTakesBy` with one table of weights for all symbols.
-abbrev pub AnsTakesByWeights : {Word State P N M : Type 0} → numbers.Ghosts Word N → numbers.Ghosts State M → ℕ → (P → ℕ) → List P
+-- `AnsDecodesListBy` with one table of weights for all symbols.
+abbrev pub AnsDecodesListByWeights : {Word State P N M : Type 0} → numbers.Ghosts Word N → numbers.Ghosts State M → ℕ → (P → ℕ) → List P
     → List Word → State → ℕ → State → ℕ → List ℕ → List ℕ → Result (Unit {0}) Refusal → Type 0
-AnsTakesByWeights word state precision number weights words head len new_head new_len old_symbols new_symbols answer =
-    AnsTakesBy word state precision (by_weights (map number weights)) words head len new_head new_len old_symbols new_symbols answer
+AnsDecodesListByWeights word state precision number weights words head len new_head new_len old_symbols new_symbols answer =
+    AnsDecodesListBy word state precision (by_weights (map number weights)) words head len new_head new_len old_symbols new_symbols answer
 
 -- ---- words
 -- The contract of an import call. It makes the state `makes` of the caller's words, of which the last is on top.
 -- `InvalidData` comes if and only if the words don't have the property `holds`.
 pub record AnsImports {Word State : Type 0} (number : Word → ℕ) (state : State → ℕ) (makes : List ℕ → AnsState) (holds : List ℕ → Type 0)
-    (old new : AnsKept Word State) (answer : Result (Unit {0}) Refusal) : Type 0 where
-  pub made : OnOk answer (state_kept number state new ≡ makes (map number (reverse old.words)))
+    (old new : AnsBuffers Word State) (answer : Result (Unit {0}) Refusal) : Type 0 where
+  pub made : OnOk answer (ans_state_of number state new ≡ makes (map number (reverse old.words)))
   pub within : OnOk answer ((new.words ≡ old.words) × IsWithin new)
-  pub asked : Asks InvalidData (holds (map number (reverse old.words))) (Else Never) answer
+  pub asked : Asks InvalidData (holds (map number (reverse old.words))) (Otherwise NoRefusal) answer
   pub kept : OnErr answer (new ≡ old)
 
 -- `AnsImports` with the numbers and sizes in bits of two types: of words and of heads. `makes` takes the sizes first.
@@ -118,7 +118,7 @@ AnsImportsBy word state makes holds words head len new_head new_len answer =
     AnsImports word.number state.number (makes word.BITS state.BITS) holds (coder_of head words len) (coder_of new_head words new_len) answer
 
 -- A state has `needed` words in the form `are`, but the buffer holds only `room` words, which is fewer.
-pub record ExportLacksRoom (are : AnsState → List ℕ → Type 0) (room : ℕ) (old : AnsState) (needed : ℕ) : Type 0 where
+pub record TooShortForExport (are : AnsState → List ℕ → Type 0) (room : ℕ) (old : AnsState) (needed : ℕ) : Type 0 where
   pub short : room < needed
   pub all : List ℕ
   pub is_all : are old all
@@ -128,11 +128,11 @@ pub record ExportLacksRoom (are : AnsState → List ℕ → Type 0) (room : ℕ)
 -- `WrongLength` comes if the words in use aren't within the buffer. `InvalidData` comes next, if the state doesn't have
 -- the property `holds`.
 pub record AnsExports {Word State : Type 0} (number : Word → ℕ) (state : State → ℕ) (are : AnsState → List ℕ → Type 0) (holds : AnsState → Type 0)
-    (old new : AnsKept Word State) (answer : Result (Unit {0}) Refusal) : Type 0 where
-  pub all : OnOk answer (are (state_kept number state old) (stack_in number new.words new.len))
+    (old new : AnsBuffers Word State) (answer : Result (Unit {0}) Refusal) : Type 0 where
+  pub all : OnOk answer (are (ans_state_of number state old) (stack_in number new.words new.len))
   pub behind : OnOk answer (PutsBehind old new)
-  pub asked : Asks WrongLength (IsWithin old) (Asks InvalidData (holds (state_kept number state old))
-      (Else (Room (ExportLacksRoom are (length old.words) (state_kept number state old))))) answer
+  pub asked : Asks WrongLength (IsWithin old) (Asks InvalidData (holds (ans_state_of number state old))
+      (Otherwise (NoMemoryOrSpace (TooShortForExport are (length old.words) (ans_state_of number state old))))) answer
   pub kept : OnErr answer (new ≡ old)
 
 -- The words are the words below the state's head, and the head's words without leading zero words.

@@ -4,9 +4,9 @@ use Rattle.constriction_chain.specs.Chain.{ChainState}
 use Rattle.constriction_chain.specs.Imports.{AreBinaryWords, FromBinary, FromCompressed, FromRemainders, compressed_words}
 use Rattle.constriction_base.specs.Writing.{IsOneAbove}
 use Rattle.constriction_chain.specs.Words.{remainder_words}
-use Rattle.constriction_inputs.specs.Buffers.{Appended, WordsKept, stack_in}
+use Rattle.constriction_inputs.specs.Buffers.{Appended, WordBuffer, stack_in}
 use Rattle.constriction_calls.specs.ChainCalls.{AreHeads}
-use Rattle.constriction_inputs.specs.Refusals.{Asks, Else, Never, Room}
+use Rattle.constriction_inputs.specs.Refusals.{Asks, Otherwise, NoRefusal, NoMemoryOrSpace}
 use Rattle.constriction_calls.specs.declared.chain.ChainHeads.{ChainHeads}
 use Rattle.constriction_inputs.specs.declared.refusal.Refusal.{Refusal}
 use Rattle.constriction_inputs.specs.declared.refusal.Refusal.TheVariants.{InvalidData, WrongLength}
@@ -45,7 +45,7 @@ pub record ChainBegins {Word State : Type 0} (number : Word → ℕ) (state : St
     (old new : HeadsOver Word State) (answer : Result (Unit {0}) Refusal) : Type 0 where
   pub begun : OnOk answer (Begins form w s P (map number (reverse words)) (heads_over number state form new.heads words new.len))
   pub within : OnOk answer (new.len ≤ length words)
-  pub asked : Asks InvalidData ((x : ChainState) × Begins form w s P (map number (reverse words)) x) (Else Never) answer
+  pub asked : Asks InvalidData ((x : ChainState) × Begins form w s P (map number (reverse words)) x) (Otherwise NoRefusal) answer
   pub kept : OnErr answer (new ≡ old)
 
 -- `ChainBegins` with the numbers and sizes in bits of two types: of words and of remainders heads. The heads and the
@@ -80,7 +80,7 @@ AreWordsInForm InBinary w words x = AreBinaryWords w words x
 AreWordsInForm InRemainders w words x = words ≡ remainder_words w x
 
 -- A list of `n` words has the property `holds`, but the buffer holds only `size` words, which is fewer.
-pub record NoRoomFor (size : ℕ) (holds : List ℕ → Type 0) (n : ℕ) : Type 0 where
+pub record TooShortForWords (size : ℕ) (holds : List ℕ → Type 0) (n : ℕ) : Type 0 where
   pub past : size < n
   pub words : List ℕ
   pub are : holds words
@@ -88,11 +88,11 @@ pub record NoRoomFor (size : ℕ) (holds : List ℕ → Type 0) (n : ℕ) : Type
 
 -- The contract of an export call, which appends the words of the heads to the words in use.
 pub record ChainEnds {Word State : Type 0} (number : Word → ℕ) (state : State → ℕ) (w s P : ℕ) (form : Form) (heads : ChainHeads Word State)
-    (old new : WordsKept Word) (answer : Result (Unit {0}) Refusal) : Type 0 where
+    (old new : WordBuffer Word) (answer : Result (Unit {0}) Refusal) : Type 0 where
   pub ended : OnOk answer (AreWordsInForm form w (stack_in number new.words new.len) (heads_over number state form heads old.words old.len))
   pub appended : OnOk answer ((added : List Word) × Appended old.words old.len added new.words new.len)
   pub asked : Asks WrongLength (old.len ≤ length old.words) (Asks InvalidData (HaveWords number state w s P form heads)
-      (Else (Room (NoRoomFor (length old.words) (λ words. AreWordsInForm form w words (heads_over number state form heads old.words old.len)))))) answer
+      (Otherwise (NoMemoryOrSpace (TooShortForWords (length old.words) (λ words. AreWordsInForm form w words (heads_over number state form heads old.words old.len)))))) answer
   pub kept : OnErr answer (new ≡ old)
 
 -- `ChainEnds` with the numbers and sizes in bits of two types: of words and of remainders heads. The buffer and the

@@ -2,7 +2,7 @@
 use Rattle.std.specs.Prelude.{◌≡◌, ℕ, ◌-◌, ◌<◌, ◌≤◌, ◌^◌, List, [], ◌∷◌, Result, OnErr, OnOk, drop, length, map, sum, take}
 use Rattle.constriction_base.specs.Models.{AreKnown, items_of}
 use Rattle.constriction_store.specs.Stores.{Entry, HoldsChunk, HoldsChunks, IsBuilt, entry_of}
-use Rattle.constriction_inputs.specs.Refusals.{Asks, Else, Room, Words}
+use Rattle.constriction_inputs.specs.Refusals.{Asks, Otherwise, NoMemoryOrSpace, NoMemoryOrInvalid}
 use Rattle.constriction_inputs.specs.Weights.{IsTotal, weights_model}
 use Rattle.constriction_inputs.specs.declared.refusal.Refusal.{Refusal}
 use Rattle.constriction_inputs.specs.declared.refusal.Refusal.TheVariants.{ImpossibleSymbol, InvalidData, WrongLength, WrongWeights}
@@ -21,7 +21,7 @@ entries_by (place ∷ places) (lower ∷ lowers) (range ∷ ranges) (len ∷ len
 entries_by places lowers ranges lengths = []
 
 -- The buffers of a store: an index, and words. The first `len` words are the store's.
-pub record StoreKept (Word State : Type 0) : Type 0 where
+pub record StoreBuffers (Word State : Type 0) : Type 0 where
   pub positions : List ℕ
   pub lowers : List State
   pub ranges : List State
@@ -29,16 +29,16 @@ pub record StoreKept (Word State : Type 0) : Type 0 where
   pub len : ℕ
 
 -- Makes one value of the buffers of a store.
-abbrev pub store_in : {Word State : Type 0} → List ℕ → List State → List State → List Word → ℕ → StoreKept Word State
+abbrev pub store_in : {Word State : Type 0} → List ℕ → List State → List State → List Word → ℕ → StoreBuffers Word State
 store_in positions lowers ranges words len = record { positions = positions; lowers = lowers; ranges = ranges; words = words; len = len }
 
 -- The index that the buffers hold, for chunks of the given lengths.
-abbrev pub index_kept : {Word State : Type 0} → (State → ℕ) → List ℕ → StoreKept Word State → List Entry
-index_kept state lengths kept = entries_by kept.positions (map state kept.lowers) (map state kept.ranges) lengths
+abbrev pub store_index_of : {Word State : Type 0} → (State → ℕ) → List ℕ → StoreBuffers Word State → List Entry
+store_index_of state lengths kept = entries_by kept.positions (map state kept.lowers) (map state kept.ranges) lengths
 
 -- The words of the store: the first `len` words of the buffer.
-abbrev pub words_kept : {Word State : Type 0} → (Word → ℕ) → StoreKept Word State → List ℕ
-words_kept number kept = map number (take kept.len kept.words)
+abbrev pub store_words_of : {Word State : Type 0} → (Word → ℕ) → StoreBuffers Word State → List ℕ
+store_words_of number kept = map number (take kept.len kept.words)
 
 -- ---- builds
 -- The chunk lengths add up to the number of symbols, which is at most 1048576. Each list of the index has one item for
@@ -51,11 +51,11 @@ pub record FitStore (symbols : ℕ) (lengths : List ℕ) (positions lowers range
   pub few : symbols ≤ 1048576
 
 -- The chunk lengths, the number of symbols and the caller's index lists make a store.
-abbrev pub FitKept : {Word State : Type 0} → List ℕ → List ℕ → StoreKept Word State → Type 0
-FitKept symbols lengths kept = FitStore (length symbols) lengths (length kept.positions) (length kept.lowers) (length kept.ranges)
+abbrev pub ValidIndex : {Word State : Type 0} → List ℕ → List ℕ → StoreBuffers Word State → Type 0
+ValidIndex symbols lengths kept = FitStore (length symbols) lengths (length kept.positions) (length kept.lowers) (length kept.ranges)
 
 -- The store of the chunks has `needed` words, but the buffer holds only `size` words, which is fewer.
-pub record LacksStore (w s precision : ℕ) (weights : List ℕ) (chunks : List (List ℕ)) (size needed : ℕ) : Type 0 where
+pub record TooShortForStore (w s precision : ℕ) (weights : List ℕ) (chunks : List (List ℕ)) (size needed : ℕ) : Type 0 where
   pub less : size < needed
   pub index : List Entry
   pub words : List ℕ
@@ -64,22 +64,22 @@ pub record LacksStore (w s precision : ℕ) (weights : List ℕ) (chunks : List 
 
 -- The contract of a build call. `old` and `new` are the buffers before and after the call, and `answer` is its result.
 pub record StoreBuilds {Word State : Type 0} (number : Word → ℕ) (state : State → ℕ) (w s precision : ℕ) (weights symbols lengths : List ℕ)
-    (old new : StoreKept Word State) (answer : Result (Unit {0}) Refusal) : Type 0 where
+    (old new : StoreBuffers Word State) (answer : Result (Unit {0}) Refusal) : Type 0 where
   -- The buffers hold the store of the chunks.
-  pub built : OnOk answer (IsBuilt w s (weights_model precision weights) (chunks_by symbols lengths) (index_kept state lengths new) (words_kept number new))
+  pub built : OnOk answer (IsBuilt w s (weights_model precision weights) (chunks_by symbols lengths) (store_index_of state lengths new) (store_words_of number new))
   -- Decoding at the entry of each chunk gives the chunk's symbols.
-  pub chunks : OnOk answer (HoldsChunks w s (weights_model precision weights) (words_kept number new) (index_kept state lengths new) (chunks_by symbols lengths))
+  pub chunks : OnOk answer (HoldsChunks w s (weights_model precision weights) (store_words_of number new) (store_index_of state lengths new) (chunks_by symbols lengths))
   -- The store's words are within the buffer, and the buffer's words after them are unchanged.
   pub within : OnOk answer (new.len ≤ length new.words)
   pub behind : OnOk answer (drop new.len new.words ≡ drop new.len old.words)
-  pub asked : Asks WrongLength (FitKept symbols lengths old) (Asks WrongWeights (IsTotal precision weights)
+  pub asked : Asks WrongLength (ValidIndex symbols lengths old) (Asks WrongWeights (IsTotal precision weights)
       (Asks ImpossibleSymbol (AreKnown (items_of (weights_model precision weights) symbols))
-      (Else (Room (LacksStore w s precision weights (chunks_by symbols lengths) (length old.words)))))) answer
+      (Otherwise (NoMemoryOrSpace (TooShortForStore w s precision weights (chunks_by symbols lengths) (length old.words)))))) answer
   pub kept : OnErr answer (new ≡ old)
 
 -- ---- look-ups
 -- The contract of a look-up call, which fills a list with the symbols of the chunk at one entry.
-pub record StoreGives {State : Type 0} (state : State → ℕ) (w s precision : ℕ) (weights words : List ℕ) (place : ℕ) (lower range : State)
+pub record StoreDecodesList {State : Type 0} (state : State → ℕ) (w s precision : ℕ) (weights words : List ℕ) (place : ℕ) (lower range : State)
     (old new : List ℕ) (answer : Result (Unit {0}) Refusal) : Type 0 where
   -- The new symbols are those of the chunk at the entry.
   pub ok : OnOk answer (HoldsChunk w s (weights_model precision weights) words (entry_of place (state lower) (state range) (length old)) new)
@@ -87,5 +87,5 @@ pub record StoreGives {State : Type 0} (state : State → ℕ) (w s precision : 
   -- interval is at least 2^(s - w) long. After these checks, `InvalidData` comes only if the words encode no chunk of
   -- this length at the entry.
   pub asked : Asks WrongLength (place ≤ length words) (Asks WrongWeights (IsTotal precision weights) (Asks InvalidData (2 ^ (s - w) ≤ state range)
-      (Else (Words ((symbols : List ℕ) → HoldsChunk w s (weights_model precision weights) words (entry_of place (state lower) (state range) (length old)) symbols → ⊥))))) answer
+      (Otherwise (NoMemoryOrInvalid ((symbols : List ℕ) → HoldsChunk w s (weights_model precision weights) words (entry_of place (state lower) (state range) (length old)) symbols → ⊥))))) answer
   pub kept : OnErr answer (new ≡ old)

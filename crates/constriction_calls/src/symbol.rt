@@ -32,8 +32,8 @@ mod golomb;
 mod trees;
 
 ghost use Rattle.std.specs.Prelude.{◌≡◌, ◌-◌, ◌^◌, Bool, IfOk, IfSome, List, OnSome, ℕ};
-ghost use Rattle.constriction_inputs.specs.Refusals.{Asks, Else, Memory};
-ghost use Rattle.constriction_calls.specs.SymbolCalls.{SymbolCode, IsCutOff, IsWrong, MakesCode, PutsNone};
+ghost use Rattle.constriction_inputs.specs.Refusals.{Asks, Otherwise, OnlyNoMemory};
+ghost use Rattle.constriction_calls.specs.SymbolCalls.{SymbolCode, IsCutOff, IsWrong, MakesCode, SymbolEncodeFails};
 ghost use Rattle.constriction_calls.specs.SymbolCalls.{codeword_in};
 ghost use Rattle.constriction_inputs.specs.declared.refusal.Refusal.TheVariants.{WrongWeights};
 
@@ -85,7 +85,7 @@ pub trait Codes {
     /// - `ImpossibleSymbol`: a symbol has no codeword.
     /// - `NoMemory`: the call returns this error in all other cases.
     fn refused(&self, symbols: &[Self::Symbol]) -> Refusal
-        ensures { PutsNone number (book self.now) symbols.now result };
+        ensures { SymbolEncodeFails number (book self.now) symbols.now result };
 
     /// Creates the codebook for decoding.
     ///
@@ -94,7 +94,7 @@ pub trait Codes {
     /// - `WrongWeights` if and only if the weights make no Huffman tree of at most `2^63 - 1` symbols.
     /// - `NoMemory` if there is no memory.
     fn decoder(&self, alloc: Global) -> Result<Self::Decoder, Refusal>
-        ensures asks { Asks WrongWeights (MakesCode (2 ^ 63 - 1) (book self.now)) (Else Memory) result }
+        ensures asks { Asks WrongWeights (MakesCode (2 ^ 63 - 1) (book self.now)) (Otherwise OnlyNoMemory) result }
         ensures codewords { IfOk result (λ made. (s : Self.Symbol) → Self.Decoder.codeword made s
             ≡ codeword_in number (book self.now) s) }
         ensures cut { IfOk result (λ made. (bits : List Bool) → Self.Decoder.reads_on made bits

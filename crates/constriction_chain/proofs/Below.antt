@@ -10,7 +10,7 @@ use Rattle.constriction_base.specs.Windows.{IsInWindow}
 use Rattle.constriction_base.proofs.Exporting.{base_two}
 use Rattle.constriction_chain.specs.Walk.{number_of_bits, IsQuantile}
 use Rattle.constriction_chain.specs.Chain.{ChainState, IsBroughtBelow, IsDecode}
-use Rattle.constriction_chain.specs.Symbols.{TakesOffAll}
+use Rattle.constriction_chain.specs.Symbols.{ChainDecodesAll}
 use Rattle.constriction_chain.proofs.Chains.{state}
 use Rattle.constriction_chain.proofs.Walks.{cons_same}
 
@@ -83,9 +83,9 @@ decode_part w s e x y d =
     )
 
 -- the same of decodes one after the other
-pub decodes_part : {S : Type 0} (w s : ℕ) (items : List (Item S)) (x y : ChainState) → TakesOffAll w s items x y
+pub decodes_part : {S : Type 0} (w s : ℕ) (items : List (Item S)) (x y : ChainState) → ChainDecodesAll w s items x y
     → (t : List ℕ) × (x.compressed ≡ t ++ y.compressed)
-    × ((under below : List ℕ) → TakesOffAll w s items (state x.h x.r (t ++ under) (x.remainders ++ below)) (state y.h y.r under (y.remainders ++ below)))
+    × ((under below : List ℕ) → ChainDecodesAll w s items (state x.h x.r (t ++ under) (x.remainders ++ below)) (state y.h y.r under (y.remainders ++ below)))
 decodes_part w s [] x y all =
     ([], ap (λ (z : ChainState). z.compressed) (sym all), λ under below. ap (λ (z : ChainState). state z.h z.r under (z.remainders ++ below)) all)
 decodes_part w s (item ∷ items) x y (next, (left, p, has, d), all) =

@@ -8,7 +8,7 @@ use Rattle.constriction_base.specs.declared.backends.reading.Holds as holding
 use Rattle.constriction_base.specs.declared.backends.reading.ReadWords as reading
 use Rattle.constriction_base.specs.declared.backends.writing.WriteWords as writing
 use Rattle.constriction_chain.specs.Chain.{ChainState, ChainValue, IsChainCoder, value_of}
-use Rattle.constriction_chain.specs.Steps.{Taken, Halts, Halted, Took, Kept, NotKept, DecodeCall}
+use Rattle.constriction_chain.specs.Steps.{QuantileRead, Halts, Halted, ReadsQuantile, Renormalized, RenormalizeFailed, DecodeCall}
 use Rattle.constriction_chain.specs.declared.errors.BackendError.{BackendError}
 use Rattle.constriction_chain.specs.declared.errors.BackendError.TheVariants.{Remainders}
 use Rattle.constriction_chain.specs.declared.errors.DecoderFrontendError.{DecoderFrontendError}
@@ -33,8 +33,8 @@ module _ {W C R S E F : Type 0} (number : W → ℕ) (compressed_holds : holding
   -- the backends' part of a quantile, as the coder's
   pub took_of : (w s P h r : ℕ) (old new : C) (other other' : R) (quantile h' : ℕ)
       → IsChainCoder number compressed_holds remainders_holds w s P (coder h r old other)
-      → Taken number compressed_holds compressed_reads remainders_holds remainders_writes w P h old other quantile h' new other'
-      → Took number compressed_holds compressed_reads remainders_holds remainders_writes w s P (coder h r old other) quantile h' (coder h r new other')
+      → QuantileRead number compressed_holds compressed_reads remainders_holds remainders_writes w P h old other quantile h' new other'
+      → ReadsQuantile number compressed_holds compressed_reads remainders_holds remainders_writes w s P (coder h r old other) quantile h' (coder h r new other')
   took_of w s P h r old new other other' quantile h' before taken =
       let others : map number (remainders_holds.words other') ≡ map number (remainders_holds.words other) = ap (λ (ws : List W). map number ws) taken.others in
       record {
@@ -58,8 +58,8 @@ module _ {W C R S E F : Type 0} (number : W → ℕ) (compressed_holds : holding
   -- both halves are a decode
   pub decoded : (w s : ℕ) → ((x : W) → number x < 2 ^ w) → (e : Step) (quantile h h' r r' : ℕ) (old new : C) (other other' other'' : R) → e.left ≤ quantile → quantile < e.left + e.p
       → h' < 2 ^ w
-      → Took number compressed_holds compressed_reads remainders_holds remainders_writes w s e.precision (coder h r old other) quantile h' (coder h r new other')
-      → Kept number remainders_holds remainders_writes w s e.precision (r * e.p + (quantile - e.left)) other' r' other''
+      → ReadsQuantile number compressed_holds compressed_reads remainders_holds remainders_writes w s e.precision (coder h r old other) quantile h' (coder h r new other')
+      → Renormalized number remainders_holds remainders_writes w s e.precision (r * e.p + (quantile - e.left)) other' r' other''
       → DecodeCall number compressed_holds compressed_reads remainders_holds remainders_writes w s (coder h r old other) e (Ok tt) (coder h' r' new other'')
   decoded w s law e quantile h h' r r' old new other other' other'' from below fits took kept =
       let gain = rw took.remainders at kept.gain in
@@ -81,8 +81,8 @@ module _ {W C R S E F : Type 0} (number : W → ℕ) (compressed_holds : holding
   -- or it found no place
   pub undecoded : ((b : R) (e : F) → 0 < remainders_writes.room b → remainders_writes.write_fails b e → ⊥) → (w s : ℕ) → ((x : W) → number x < 2 ^ w)
       → (e : Step) (quantile h h' r : ℕ) (old new : C) (other other' other'' : R) (error : F) → e.left ≤ quantile → quantile < e.left + e.p
-      → Took number compressed_holds compressed_reads remainders_holds remainders_writes w s e.precision (coder h r old other) quantile h' (coder h r new other')
-      → NotKept remainders_holds remainders_writes w s e.precision (r * e.p + (quantile - e.left)) other' error other''
+      → ReadsQuantile number compressed_holds compressed_reads remainders_holds remainders_writes w s e.precision (coder h r old other) quantile h' (coder h r new other')
+      → RenormalizeFailed remainders_holds remainders_writes w s e.precision (r * e.p + (quantile - e.left)) other' error other''
       → DecodeCall number compressed_holds compressed_reads remainders_holds remainders_writes w s (coder h r old other) e (Err (Backend (Remainders error))) (coder h r new other'')
   undecoded law w s law' e quantile h h' r old new other other' other'' error from below took lost =
       let words : map number (remainders_holds.words other'') ≡ map number (remainders_holds.words other') = ap (λ (ws : List W). map number ws) lost.words in

@@ -11,7 +11,7 @@ use Rattle.constriction_base.specs.declared.backends.writing.WriteWords as writi
 use Rattle.constriction_base.specs.declared.errors.CoderError.{CoderError}
 use Rattle.constriction_base.specs.declared.errors.CoderError.TheVariants.{Frontend, Backend}
 use Rattle.constriction_chain.specs.Chain.{ChainState, ChainValue, IsBroughtBelow, IsChainCoder, IsDecode, IsEncode, IsRemaindersHead, at_heads, least}
-use Rattle.constriction_chain.specs.Walk.{IsQuantile, NeedsWord, OwesWord, TakenBy}
+use Rattle.constriction_chain.specs.Walk.{IsQuantile, NeedsWord, OwesWord, QuantileReadBy}
 use Rattle.constriction_chain.specs.declared.errors.BackendError.{BackendError}
 use Rattle.constriction_chain.specs.declared.errors.BackendError.TheVariants.{Compressed, Remainders}
 use Rattle.constriction_chain.specs.declared.errors.ChangePrecisionError.{ChangePrecisionError}
@@ -45,7 +45,7 @@ pub record Regained {W B S E : Type 0} (number : W → ℕ) (holds : holding.Gho
 
 -- A decode brings the number `gained` into the window of the remainders head by writing at most one word. The new head
 -- is r. `gained` is the old head times the interval's length, plus the quantile's offset.
-pub record Kept {W R S F : Type 0} (number : W → ℕ) (holds : holding.Ghosts R W S) (writes : writing.Ghosts R W F)
+pub record Renormalized {W R S F : Type 0} (number : W → ℕ) (holds : holding.Ghosts R W S) (writes : writing.Ghosts R W F)
     (w s P gained : ℕ) (old : R) (r : ℕ) (new : R) : Type 0 where
   pub window : IsRemaindersHead w s P r
   pub gain : IsBroughtBelow w (least w s P) gained (map number (holds.words old)) r (map number (holds.words new))
@@ -55,18 +55,18 @@ pub record Kept {W R S F : Type 0} (number : W → ℕ) (holds : holding.Ghosts 
 
 -- The number `gained` is too large for the window, and the backend refuses its low word with this error. The backend's
 -- words are unchanged.
-pub record NotKept {W R S F : Type 0} (holds : holding.Ghosts R W S) (writes : writing.Ghosts R W F)
+pub record RenormalizeFailed {W R S F : Type 0} (holds : holding.Ghosts R W S) (writes : writing.Ghosts R W F)
     (w s P gained : ℕ) (old : R) (error : F) (new : R) : Type 0 where
   pub fails : writes.write_fails old error
   pub high : least w s P * 2 ^ w ≤ gained
   pub words : holds.words new ≡ holds.words old
 
--- A call brings the number `gained` into the window of the remainders head and returns the new head (`Kept`). If the
--- backend refuses the word to move out, the call returns the backend's error (`NotKept`).
-pub record Keeps {W V R S F : Type 0} (number : W → ℕ) (remainders_number : V → ℕ) (holds : holding.Ghosts R W S) (writes : writing.Ghosts R W F)
+-- A call brings the number `gained` into the window of the remainders head and returns the new head (`Renormalized`).
+-- If the backend refuses the word to move out, the call returns the backend's error (`RenormalizeFailed`).
+pub record Renormalizes {W V R S F : Type 0} (number : W → ℕ) (remainders_number : V → ℕ) (holds : holding.Ghosts R W S) (writes : writing.Ghosts R W F)
     (w s P gained : ℕ) (old : R) (answer : Result V F) (new : R) : Type 0 where
-  pub ok : IfOk answer (λ r. Kept number holds writes w s P gained old (remainders_number r) new)
-  pub err : IfErr answer (λ error. NotKept holds writes w s P gained old error new)
+  pub ok : IfOk answer (λ r. Renormalized number holds writes w s P gained old (remainders_number r) new)
+  pub err : IfErr answer (λ error. RenormalizeFailed holds writes w s P gained old error new)
 
 -- An encode asks the backend for room for one word, if a quantile of P bits makes the head h too long. Otherwise the
 -- backend is unchanged.
@@ -78,7 +78,7 @@ pub record Prepared {W B F : Type 0} (writes : writing.Ghosts B W F) (w P h : �
 
 -- An encode appends a quantile of P bits to the compressed head h. The new head is h'. If h has no room for P more
 -- bits, a word is written.
-pub record Given {W B S F : Type 0} (number : W → ℕ) (holds : holding.Ghosts B W S) (writes : writing.Ghosts B W F)
+pub record QuantileAppended {W B S F : Type 0} (number : W → ℕ) (holds : holding.Ghosts B W S) (writes : writing.Ghosts B W F)
     (w P h : ℕ) (old : B) (quantile h' : ℕ) (new : B) : Type 0 where
   pub walk : IsQuantile w P h' (map number (holds.words new)) quantile h (map number (holds.words old))
   pub untouched : (OwesWord w P h → ⊥) → new ≡ old
@@ -98,12 +98,12 @@ module _ {W C R S E F : Type 0} (number : W → ℕ) (compressed_holds : holding
     (remainders_holds : holding.Ghosts R W S) (remainders_writes : writing.Ghosts R W F) where
   -- A decode takes a quantile from the compressed head h, or from the next compressed word. Before it reads a word, it
   -- asks the remainders' backend for room for one word.
-  pub record Taken (w P h : ℕ) (old : C) (other : R) (quantile h' : ℕ) (new : C) (other' : R) : Type 0 where
+  pub record QuantileRead (w P h : ℕ) (old : C) (other : R) (quantile h' : ℕ) (new : C) (other' : R) : Type 0 where
     -- If the compressed backend knows its words, the quantile is the next one on these words.
     pub walk : compressed_holds.is_list
         → IsQuantile w P h (map number (compressed_holds.words old)) quantile h' (map number (compressed_holds.words new))
     -- The decode reads at most one word, and none if the head has enough bits.
-    pub by : TakenBy number compressed_reads w P h old quantile h' new
+    pub by : QuantileReadBy number compressed_reads w P h old quantile h' new
     pub below : quantile < 2 ^ P
     pub some : 0 < h'
     -- The decode only asks the remainders' backend for room, and doesn't ask if no word is needed.
@@ -126,10 +126,10 @@ module _ {W C R S E F : Type 0} (number : W → ℕ) (compressed_holds : holding
       NeedsWord w P h × remainders_writes.prepare_fails other 1 e × (new ≡ old)
 
   -- The first half of a decode takes a quantile. The heads and the remainders' words are still unchanged.
-  pub record Took (w s P : ℕ) (old : ChainValue C R) (quantile h' : ℕ) (new : ChainValue C R) : Type 0 where
+  pub record ReadsQuantile (w s P : ℕ) (old : ChainValue C R) (quantile h' : ℕ) (new : ChainValue C R) : Type 0 where
     pub before : IsChainCoder number compressed_holds remainders_holds w s P old
     pub walk : compressed_holds.is_list → IsQuantile w P old.state.h old.state.compressed quantile h' new.state.compressed
-    pub by : TakenBy number compressed_reads w P old.state.h old.compressed quantile h' new.compressed
+    pub by : QuantileReadBy number compressed_reads w P old.state.h old.compressed quantile h' new.compressed
     pub below : quantile < 2 ^ P
     pub some : 0 < h'
     pub h : new.state.h ≡ old.state.h
@@ -152,9 +152,9 @@ module _ {W C R S E F : Type 0} (number : W → ℕ) (compressed_holds : holding
 
   -- The first half of a decode, on heads and backends. The call takes a quantile and leaves the compressed head
   -- `after`, or the decode halts.
-  pub record TakesAtHeads {V : Type 0} (remainders_number : V → ℕ) (w s P : ℕ) (heads : W × V) (old : C) (other : R)
+  pub record ReadsQuantileAtHeads {V : Type 0} (remainders_number : V → ℕ) (w s P : ℕ) (heads : W × V) (old : C) (other : R)
       (answer : Result W (CoderError DecoderFrontendError (BackendError E F))) (after : W) (new : C) (other' : R) : Type 0 where
-    pub ok : IfOk answer (λ quantile. Took w s P
+    pub ok : IfOk answer (λ quantile. ReadsQuantile w s P
         (at_heads number remainders_number compressed_holds remainders_holds heads old other)
         (number quantile) (number after)
         (at_heads number remainders_number compressed_holds remainders_holds heads new other'))
@@ -170,7 +170,7 @@ module _ {W C R S E F : Type 0} (number : W → ℕ) (compressed_holds : holding
     pub quantile : ℕ
     pub from : e.left ≤ quantile
     pub below : quantile < e.left + e.p
-    pub by : TakenBy number compressed_reads w e.precision old.state.h old.compressed quantile new.state.h new.compressed
+    pub by : QuantileReadBy number compressed_reads w e.precision old.state.h old.compressed quantile new.state.h new.compressed
     pub gain : IsBroughtBelow w (least w s e.precision) (old.state.r * e.p + (quantile - e.left)) old.state.remainders
         new.state.r new.state.remainders
     -- A decode that neither reads nor writes a word leaves the remainders' backend unchanged.
@@ -182,7 +182,7 @@ module _ {W C R S E F : Type 0} (number : W → ℕ) (compressed_holds : holding
 
   -- A decode fails because the remainders' backend refuses a word. The compressed side loses at most one word. It loses
   -- none if `makes_room` holds.
-  pub record FoundNoPlace (w s : ℕ) (old : ChainValue C R) (e : Step) (error : F) (new : ChainValue C R) : Type 0 where
+  pub record RemaindersWriteFails (w s : ℕ) (old : ChainValue C R) (e : Step) (error : F) (new : ChainValue C R) : Type 0 where
     pub fails : remainders_writes.write_fails old.remainders error
     pub h : new.state.h ≡ old.state.h
     pub r : new.state.r ≡ old.state.r
@@ -192,7 +192,7 @@ module _ {W C R S E F : Type 0} (number : W → ℕ) (compressed_holds : holding
     pub from : e.left ≤ quantile
     pub below : quantile < e.left + e.p
     pub walk : compressed_holds.is_list → IsQuantile w e.precision old.state.h old.state.compressed quantile h' new.state.compressed
-    pub by : TakenBy number compressed_reads w e.precision old.state.h old.compressed quantile h' new.compressed
+    pub by : QuantileReadBy number compressed_reads w e.precision old.state.h old.compressed quantile h' new.compressed
     pub high : least w s e.precision * 2 ^ w ≤ old.state.r * e.p + (quantile - e.left)
     pub kept : remainders_writes.makes_room → new.state ≡ old.state
     -- The remainders' backend loses no room.
@@ -204,7 +204,7 @@ module _ {W C R S E F : Type 0} (number : W → ℕ) (compressed_holds : holding
   DecodeAnswers w s old e (Ok u) new = Decoded w s old e new
   DecodeAnswers w s old e (Err (Frontend x)) new = ⊥
   DecodeAnswers w s old e (Err (Backend (Compressed x))) new = ⊥
-  DecodeAnswers w s old e (Err (Backend (Remainders x))) new = FoundNoPlace w s old e x new
+  DecodeAnswers w s old e (Err (Backend (Remainders x))) new = RemaindersWriteFails w s old e x new
 
   -- A decode by the step e, with its answer and the value of the coder afterwards.
   pub record DecodeCall (w s : ℕ) (old : ChainValue C R) (e : Step)
@@ -235,7 +235,7 @@ module _ {W C R S E F : Type 0} (number : W → ℕ) (compressed_holds : holding
 
   -- An encode fails because the compressed backend refuses a word. Either it refuses room, and no word of the
   -- remainders is read. Or it refuses the write, after at most one word of the remainders is read.
-  pub record FoundNoRoom (w s : ℕ) (old : ChainValue C R) (e : Step) (error : E) (new : ChainValue C R) : Type 0 where
+  pub record CompressedWriteFails (w s : ℕ) (old : ChainValue C R) (e : Step) (error : E) (new : ChainValue C R) : Type 0 where
     pub owes : OwesWord w e.precision old.state.h
     pub h : new.state.h ≡ old.state.h
     pub r : new.state.r ≡ old.state.r
@@ -263,7 +263,7 @@ module _ {W C R S E F : Type 0} (number : W → ℕ) (compressed_holds : holding
   EncodeAnswers w s old e (Err (Frontend OutOfRemainders)) new = FoundNoWord w s old e (Ok None) new
   EncodeAnswers w s old e (Err (Frontend ImpossibleSymbol)) new = ⊥
   EncodeAnswers w s old e (Err (Backend (Remainders x))) new = FoundNoWord w s old e (Err x) new
-  EncodeAnswers w s old e (Err (Backend (Compressed x))) new = FoundNoRoom w s old e x new
+  EncodeAnswers w s old e (Err (Backend (Compressed x))) new = CompressedWriteFails w s old e x new
 
   -- An encode by the step e, with its answer and the value of the coder afterwards.
   pub record EncodeCall (w s : ℕ) (old : ChainValue C R) (e : Step)

@@ -7,20 +7,20 @@ use Rattle.constriction_base.specs.Models.{Model, Item}
 use Rattle.constriction_chain.specs.Chain.{ChainState, IsDecode, IsEncode}
 
 -- Decoding the symbol leads from the old state to the new state, by the step of the symbol's entry.
-abbrev pub TakesOff : {S : Type 0} → ℕ → ℕ → Model S → S → ChainState → ChainState → Type 0
-TakesOff w s model symbol old new = AtEntry model.precision model.table symbol (λ e. IsDecode w s e old new)
+abbrev pub ChainDecodesOne : {S : Type 0} → ℕ → ℕ → Model S → S → ChainState → ChainState → Type 0
+ChainDecodesOne w s model symbol old new = AtEntry model.precision model.table symbol (λ e. IsDecode w s e old new)
 
 -- Encoding the symbol leads from the old state to the new state, by the step of the symbol's entry.
-abbrev pub PutsBack : {S : Type 0} → ℕ → ℕ → Model S → S → ChainState → ChainState → Type 0
-PutsBack w s model symbol old new = AtEntry model.precision model.table symbol (λ e. IsEncode w s e old new)
+abbrev pub ChainEncodesOne : {S : Type 0} → ℕ → ℕ → Model S → S → ChainState → ChainState → Type 0
+ChainEncodesOne w s model symbol old new = AtEntry model.precision model.table symbol (λ e. IsEncode w s e old new)
 
 -- Decoding the items in order leads from the old state to the new state.
-abbrev pub TakesOffAll : {S : Type 0} → ℕ → ℕ → List (Item S) → ChainState → ChainState → Type 0
-TakesOffAll w s items old new = InTurn (λ item. TakesOff w s item.model item.symbol) items old new
+abbrev pub ChainDecodesAll : {S : Type 0} → ℕ → ℕ → List (Item S) → ChainState → ChainState → Type 0
+ChainDecodesAll w s items old new = InTurn (λ item. ChainDecodesOne w s item.model item.symbol) items old new
 
 -- Encoding the items in order leads from the old state to the new state.
-abbrev pub PutsBackAll : {S : Type 0} → ℕ → ℕ → List (Item S) → ChainState → ChainState → Type 0
-PutsBackAll w s items old new = InTurn (λ item. PutsBack w s item.model item.symbol) items old new
+abbrev pub ChainEncodesAll : {S : Type 0} → ℕ → ℕ → List (Item S) → ChainState → ChainState → Type 0
+ChainEncodesAll w s items old new = InTurn (λ item. ChainEncodesOne w s item.model item.symbol) items old new
 
 -- The model has the precision P, and its table partitions the numbers below 2 ^ P.
 pub record IsModelAt {S : Type 0} (P : ℕ) (model : Model S) : Type 0 where

@@ -4,7 +4,7 @@
 use Rattle.std.specs.Prelude.{◌≡◌, ◌⊎◌, ℕ, ◌^◌, ◌<◌, List, ◌∷◌, ◌++◌, map, Option, None, Some, Result, Ok, Err, IfNone, IfOk, IfSome}
 use Rattle.std.specs.Int.Digits.{digits_of, number_from_digits}
 use Rattle.constriction_base.specs.Digits.{fixed_digits}
-use Rattle.constriction_base.specs.Readings.{Gives, BeginsHigh, ReadsAs, StopsAt}
+use Rattle.constriction_base.specs.Readings.{ReadsReturn, BeginsHigh, ReadsAs, StopsAt}
 use Rattle.constriction_base.specs.Writing.{IsOneAbove, NotWritten}
 use Rattle.constriction_base.specs.declared.backends.reading.Holds as holding
 use Rattle.constriction_base.specs.declared.backends.reading.ReadWords as reading
@@ -43,7 +43,7 @@ module _ {W B S E : Type 0} (number : W → ℕ) (holds : holding.Ghosts B W S) 
   -- Reads return words that form the number r. The first word isn't 0.
   pub record BeginsNonzero (old : B) (r : ℕ) (new : B) : Type 0 where
     pub words : List W
-    pub given : Gives reads.reads old words new
+    pub given : ReadsReturn reads.reads old words new
     pub taken : holds.is_list → holds.words old ≡ words ++ holds.words new
     pub high : BeginsHigh (map number words)
     pub is : r ≡ number_from_digits (2 ^ w) (map number words)

@@ -9,7 +9,7 @@
 
 ghost use Rattle.constriction_base.specs.Tables.{Covers};
 ghost use Rattle.constriction_chain.specs.Chain.{IsRemaindersHead, IsSized};
-ghost use Rattle.constriction_chain.specs.Steps.{EncodesAtHeads, Keeps, TakesAtHeads};
+ghost use Rattle.constriction_chain.specs.Steps.{EncodesAtHeads, Renormalizes, ReadsQuantileAtHeads};
 ghost use Rattle.constriction_words.specs.Reciprocals.{IsReciprocalOf};
 ghost use Rattle.std.specs.Prelude.{IfSome, OnErr, ◌%◌, ◌*◌, ◌+◌, ◌-◌, ◌/◌, ◌<◌, ◌^◌, ◌≡◌, ◌≤◌};
 
@@ -40,7 +40,7 @@ pub fn take<Word: WordOf<State>, State: BitArray, C: ReadWords<Word, Stack>, R: 
     requires sized { IsSized Word.BITS State.BITS precision }
     requires head { 0 < Word.number h.old }
     requires window { IsRemaindersHead Word.BITS State.BITS precision (State.number r) }
-    ensures step { TakesAtHeads Word.number C.Holds C.ReadWords.own R.Holds R.WriteWords.own State.number
+    ensures step { ReadsQuantileAtHeads Word.number C.Holds C.ReadWords.own R.Holds R.WriteWords.own State.number
         Word.BITS State.BITS precision (h.old, r) compressed.old remainders.old
         result h.new compressed.new remainders.new }
     ensures kept { OnErr result (h.new ≡ h.old) }
@@ -66,7 +66,7 @@ pub fn keep<Word: WordOf<State>, State: BitArray, R: WriteWords<Word>>(
     requires window { IsRemaindersHead Word.BITS State.BITS precision (State.number r) }
     requires covers { Covers (Word.number left) (Word.number p) (Word.number quantile) }
     requires few { Word.number p ≤ 2 ^ precision }
-    ensures { Keeps Word.number State.number R.Holds R.WriteWords.own Word.BITS State.BITS precision
+    ensures { Renormalizes Word.number State.number R.Holds R.WriteWords.own Word.BITS State.BITS precision
         (State.number r * Word.number p + (Word.number quantile - Word.number left))
         remainders.old result remainders.new }
 {

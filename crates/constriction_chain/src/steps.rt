@@ -4,7 +4,7 @@
 //! [`give_quantile`].
 
 ghost use Rattle.constriction_chain.specs.Chain.{IsRemaindersHead, IsSized, least};
-ghost use Rattle.constriction_chain.specs.Steps.{Given, Halts, Keeps, Lacks, Prepared, Regained, Taken};
+ghost use Rattle.constriction_chain.specs.Steps.{QuantileAppended, Halts, Renormalizes, Lacks, Prepared, Regained, QuantileRead};
 ghost use Rattle.constriction_chain.specs.Walk.{NeedsWord, OwesWord};
 ghost use Rattle.constriction_chain.specs.Words.{IfFound, OnNone};
 ghost use Rattle.std.specs.Prelude.{Err, IfErr, IfOk, MatchBool, None, Ok, OnErr, OnOk};
@@ -66,7 +66,7 @@ pub fn take_quantile<Word: BitArray, C: ReadWords<Word, Stack>, R: WriteWords<Wo
 ) -> Result<Word, DecoderError<C::ReadError, R::WriteError>>
     requires sized { (1 ≤ precision) × (precision ≤ Word.BITS) }
     requires some { 0 < Word.number h.old }
-    ensures ok { IfOk result (λ quantile. Taken Word.number C.Holds C.ReadWords.own R.Holds R.WriteWords.own
+    ensures ok { IfOk result (λ quantile. QuantileRead Word.number C.Holds C.ReadWords.own R.Holds R.WriteWords.own
         Word.BITS precision (Word.number h.old) compressed.old remainders.old
         (Word.number quantile) (Word.number h.new) compressed.new remainders.new) }
     ensures err { IfErr result (λ e. Halts Word.number C.Holds C.ReadWords.own R.Holds R.WriteWords.own
@@ -112,7 +112,7 @@ pub fn gain<Word: WordOf<State>, State: BitArray, R: WriteWords<Word>>(
     requires window { IsRemaindersHead Word.BITS State.BITS precision (State.number r) }
     requires inside { State.number t < State.number p }
     requires few { State.number p ≤ 2 ^ precision }
-    ensures { Keeps Word.number State.number R.Holds R.WriteWords.own Word.BITS State.BITS precision
+    ensures { Renormalizes Word.number State.number R.Holds R.WriteWords.own Word.BITS State.BITS precision
         (State.number r * State.number p + State.number t) remainders.old result remainders.new }
 {
     let gained = r.times(p).plus(t);
@@ -176,7 +176,8 @@ pub fn give_quantile<Word: BitArray, C: WriteWords<Word>>(
     requires sized { (1 ≤ precision) × (precision ≤ Word.BITS) }
     requires some { 0 < Word.number h }
     requires below { Word.number quantile < 2 ^ precision }
-    ensures ok { IfOk result (λ x. Given Word.number C.Holds C.WriteWords.own Word.BITS precision (Word.number h)
+    ensures ok { IfOk result (λ x. QuantileAppended Word.number C.Holds C.WriteWords.own Word.BITS precision
+        (Word.number h)
         compressed.old (Word.number quantile) (Word.number x) compressed.new) }
     ensures some { IfOk result (λ x. 0 < Word.number x) }
     ensures err { IfErr result (λ e. OwesWord Word.BITS precision (Word.number h) × C.write_fails compressed.old e) }

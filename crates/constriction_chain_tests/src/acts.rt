@@ -7,7 +7,7 @@ use crate::reversed::back_by;
 use constriction_base::errors::CoderError;
 use constriction_base::weights::WeightTable;
 use constriction_chain::{ChainCoder, ChainCoderHeads};
-use constriction_scripts::answers::{DONE, MEMORY, OTHER, Told, answer_if};
+use constriction_scripts::answers::{DONE, MEMORY, OTHER, ScriptWord, answer_if};
 use constriction_scripts::numbers::{Number, same, words_of};
 use constriction_scripts::putting::put_by;
 use constriction_scripts::script::{Act, Script, find};

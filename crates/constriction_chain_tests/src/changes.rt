@@ -6,7 +6,7 @@ use crate::acts::{act_by, failure};
 use crate::coders::{Coarse, Fine, Table, Whole};
 use constriction_base::weights::WeightTable;
 use constriction_chain::ChangePrecisionError;
-use constriction_scripts::answers::{DONE, MEMORY, Told};
+use constriction_scripts::answers::{DONE, MEMORY, ScriptWord};
 use constriction_scripts::script::{Act, Script};
 use constriction_words::{BitArray, WordOf};
 use std::alloc::Global;

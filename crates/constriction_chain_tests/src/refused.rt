@@ -13,7 +13,7 @@
 use crate::changes::{Either, Tables, change_by, follow_changes};
 use crate::coders::{Coarse, Fine, Table, WEIGHTS, empty};
 use constriction_base::weights::WeightTable;
-use constriction_scripts::answers::{DONE, MEMORY, OTHER, Told};
+use constriction_scripts::answers::{DONE, MEMORY, OTHER, ScriptWord};
 use constriction_scripts::script::Script;
 use constriction_stream::decoding::Decode;
 use std::alloc::{AllocError, Global};
@@ -40,7 +40,7 @@ fn goes(alloc: Global, coder: &mut Either, tables: &Tables, text: &'static str) 
 }
 
 /// Returns the answer of the second of two decodes, both of which should return the symbol 1.
-fn second<E: Told + Drop>(
+fn second<E: ScriptWord + Drop>(
     first: Option<Result<usize, E>>,
     second: Option<Result<usize, E>>,
 ) -> &'static str {

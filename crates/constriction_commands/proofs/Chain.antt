@@ -5,7 +5,7 @@ use Rattle.std.proofs.Common.{◌≡◌, ℕ, ◌+◌, ◌*◌, ◌%◌, ◌^◌
 use Rattle.std.proofs.lemmas.List.{reverse-append, reverse-reverse}
 use Rattle.constriction_base.specs.Readings.{BeginsHigh}
 use Rattle.constriction_chain.specs.Chain.{ChainState}
-use Rattle.constriction_commands.specs.Inputs.{GivesWords, NoWords}
+use Rattle.constriction_commands.specs.Inputs.{TextHasWords, NoWords}
 use Rattle.constriction_chain.specs.Words.{remainder_words}
 use Rattle.constriction_commands.specs.Lines.{line_of}
 use Rattle.constriction_commands.specs.Coding.{EndsWithZero}
@@ -54,7 +54,7 @@ all_read b words given rest x some low taken none high is small =
     (few_words b (2 ^ 8) some low (reverse (map (λ w. w % b) words)) (subst BeginsHigh numbers high) (subst (λ (n : ℕ). n < 2 ^ 8) (is ∙ ap (number_from_digits b) numbers) small))
 
 -- the words that a text gives are their own numbers
-pub own_chain : {text : List ℕ} {table : List (ℕ × ℕ × ℕ)} {count : ℕ} {words : List ℕ} {state : ChainState} → GivesWords text table count words
+pub own_chain : {text : List ℕ} {table : List (ℕ × ℕ × ℕ)} {count : ℕ} {words : List ℕ} {state : ChainState} → TextHasWords text table count words
     → IsChainOf (map (λ word. word % 2 ^ 32) words) state → IsChainOf words state
 own_chain {words = words} {state = state} given begun = subst (λ (ws : List ℕ). IsChainOf ws state) (own_numbers words (words_fit given)) begun
 
@@ -66,20 +66,20 @@ none_split text fault why = why
 
 -- why a coder did not give its symbols is why a text was not split
 pub not_split : (text : List ℕ) (table : List (ℕ × ℕ × ℕ)) (count : ℕ) (words : List ℕ) (first : ChainState) (fault : Fault)
-    → GivesWords text table count words → IsChainOf words first → ChainFails table count first fault → ChainSplitFails text fault
+    → TextHasWords text table count words → IsChainOf words first → ChainFails table count first fault → ChainSplitFails text fault
 not_split text table count words first (OutOfData error) given begun why = (table, count, words, first, given, begun, why)
 not_split text table count words first OutOfMemory given begun why = tt
 not_split text table count words first fault given begun why = absurd why
 
 -- nor where they stand for no coder
-pub no_coder : (text : List ℕ) (table : List (ℕ × ℕ × ℕ)) (count : ℕ) (words : List ℕ) (fault : Fault) → GivesWords text table count words → (fault ≡ NoChain) × IsNoChain (map (λ word. word % 2 ^ 32) words) → ChainSplitFails text fault
+pub no_coder : (text : List ℕ) (table : List (ℕ × ℕ × ℕ)) (count : ℕ) (words : List ℕ) (fault : Fault) → TextHasWords text table count words → (fault ≡ NoChain) × IsNoChain (map (λ word. word % 2 ^ 32) words) → ChainSplitFails text fault
 no_coder text table count words fault given why =
     let none = subst IsNoChain (own_numbers words (words_fit given)) why.1 in
     rw why.0 (table, count, words, given, none)
 
 -- what was decoded and exported is the answer
 pub split : {text answer : List ℕ} {table : List (ℕ × ℕ × ℕ)} {count : ℕ} {words : List ℕ} {first : ChainState} (last : ChainState) (symbols prefix suffix : List ℕ)
-    → GivesWords text table count words → IsChainOf words first → ChainDecodes table symbols first last → length symbols ≡ count
+    → TextHasWords text table count words → IsChainOf words first → ChainDecodes table symbols first last → length symbols ≡ count
     → reverse prefix ≡ last.compressed → reverse suffix ≡ remainder_words 32 last → answer ≡ (line_of symbols ++ line_of prefix) ++ line_of suffix
     → IsChainSplit text answer
 split {table = table} {count = count} {words = words} {first = first} last symbols prefix suffix given begun decoded counted prefix_is suffix_is printed = record {

@@ -11,7 +11,7 @@ use Rattle.constriction_queue.specs.Symbols.{Narrows, NarrowsAll}
 use Rattle.constriction_store.specs.Chunks.{lists_of, chunk_in, IsFirstUnknownOf}
 use Rattle.constriction_store.specs.Stores.{Entry, Indexes}
 use Rattle.constriction_base.proofs.InTurn.{InTurn-append}
-use Rattle.constriction_commands.specs.Inputs.{ChunksAre, GivesChunks, NoChunks, SymbolsAre, WeightsAre}
+use Rattle.constriction_commands.specs.Inputs.{ChunksAre, TextHasChunks, NoChunks, SymbolsAre, WeightsAre}
 use Rattle.constriction_commands.specs.Lines.{line_of}
 use Rattle.constriction_commands.specs.commands.Store.{joined, AreThere, AreWordsOf, StoringFails, LookingUpFails, StoreFails, lines_at}
 use Rattle.constriction_commands.specs.declared.fault.Fault.{Fault}
@@ -102,7 +102,7 @@ no_chunks text fault why = why
 
 -- why chunks of a text are not stored
 pub not_stored : (text : List ℕ) (table : List (ℕ × ℕ × ℕ)) (places : List ℕ) (chunks : List (List ℕ)) (fault : Fault)
-    → GivesChunks text table places chunks → StoringFails table chunks fault → StoreFails text fault
+    → TextHasChunks text table places chunks → StoringFails table chunks fault → StoreFails text fault
 not_stored text table places chunks TooManySymbols given why = (table, places, chunks, given, why)
 not_stored text table places chunks (Encoder error) given why = (table, places, chunks, given, why)
 not_stored text table places chunks OutOfMemory given why = tt
@@ -110,7 +110,7 @@ not_stored text table places chunks fault given why = absurd why
 
 -- or not looked up
 pub not_looked_up : (text : List ℕ) (table : List (ℕ × ℕ × ℕ)) (places : List ℕ) (chunks : List (List ℕ)) (words : List ℕ) (fault : Fault)
-    → GivesChunks text table places chunks → AreWordsOf table chunks words → LookingUpFails (length chunks) places fault → StoreFails text fault
+    → TextHasChunks text table places chunks → AreWordsOf table chunks words → LookingUpFails (length chunks) places fault → StoreFails text fault
 not_looked_up text table places chunks words NoSuchChunk given stored why = (table, places, chunks, words, given, stored, why)
 not_looked_up text table places chunks words OutOfMemory given stored why = tt
 not_looked_up text table places chunks words fault given stored why = absurd why

@@ -4,12 +4,12 @@ use Rattle.std.proofs.Common.{◌≡◌, ℕ, ◌+◌, ◌<◌, ◌≤◌, inr, 
 use Rattle.std.proofs.lemmas.List.{drop_all, get_or_default, reverse-append}
 use Rattle.constriction_base.specs.Models.{Model, items_of}
 use Rattle.constriction_base.specs.Tables.{Impossible}
-use Rattle.constriction_stack.specs.Ans.{AnsState, IsValid, empty}
+use Rattle.constriction_stack.specs.Ans.{AnsState, IsNormalized, empty}
 use Rattle.constriction_stack.specs.Symbols.{Encodes, EncodesAll}
 use Rattle.constriction_base.proofs.InTurn.{InTurn-symbol}
 
 -- a coder that holds nothing is valid
-pub empty_valid : IsValid 32 64 empty
+pub empty_valid : IsNormalized 32 64 empty
 empty_valid = record { state = record { fits = omega arith; are_words = tt }; full = inr refl }
 
 -- where no symbol is left, none was encoded

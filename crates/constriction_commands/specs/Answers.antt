@@ -31,8 +31,8 @@ abbrev pub Names : List (List ℕ) → Command → Type 0
 Names arguments command = arguments ≡ name_of command ∷ []
 
 -- The arguments name no command.
-abbrev pub NamesNone : List (List ℕ) → Type 0
-NamesNone arguments = (command : Command) → Names arguments command → ⊥
+abbrev pub IsUnknownCommand : List (List ℕ) → Type 0
+IsUnknownCommand arguments = (command : Command) → Names arguments command → ⊥
 
 -- The arguments of a run: the words after the program's name, as bytes.
 abbrev pub words_behind_name : {Z : Type 0} → List (String Z) → List (List ℕ)

@@ -3,7 +3,7 @@ use Rattle.std.specs.Prelude.{◌≡◌, ℕ, List, [], ◌∷◌, ◌++◌, ⊤
 use Rattle.std.specs.List.{Any}
 use Rattle.constriction_base.specs.Models.{Model}
 use Rattle.constriction_base.specs.Tables.{Impossible}
-use Rattle.constriction_commands.specs.Inputs.{GivesSymbols, NoSymbols}
+use Rattle.constriction_commands.specs.Inputs.{TextHasSymbols, NoSymbols}
 use Rattle.constriction_commands.specs.declared.fault.Fault.{Fault}
 use Rattle.constriction_commands.specs.declared.fault.Fault.TheVariants.{Encoder, OutOfMemory}
 
@@ -23,5 +23,5 @@ CoderFails table symbols fault = ⊥
 
 -- Encoding the symbols of a text fails: the text gives no table and symbols, or a symbol is impossible.
 abbrev pub EncodeFails : List ℕ → Fault → Type 0
-EncodeFails text (Encoder error) = (table : List (ℕ × ℕ × ℕ)) × (symbols : List ℕ) × GivesSymbols text table symbols × Any (Impossible table) symbols
+EncodeFails text (Encoder error) = (table : List (ℕ × ℕ × ℕ)) × (symbols : List ℕ) × TextHasSymbols text table symbols × Any (Impossible table) symbols
 EncodeFails text fault = NoSymbols text fault

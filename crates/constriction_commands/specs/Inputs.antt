@@ -28,7 +28,7 @@ IsBad numbers = numbers ≡ None
 -- ---- weights and symbols
 
 -- The text gives the weights of this table, and these symbols.
-pub record GivesSymbols (text : List ℕ) (table : List (ℕ × ℕ × ℕ)) (symbols : List ℕ) : Type 0 where
+pub record TextHasSymbols (text : List ℕ) (table : List (ℕ × ℕ × ℕ)) (symbols : List ℕ) : Type 0 where
   pub weights : List ℕ
   pub weights_line : WeightsAre text weights
   pub symbols_line : SymbolsAre text symbols
@@ -50,7 +50,7 @@ abbrev pub most : ℕ
 most = 16777216
 
 -- The text gives the weights of this table, a count of symbols, and these words.
-pub record GivesWords (text : List ℕ) (table : List (ℕ × ℕ × ℕ)) (count : ℕ) (words : List ℕ) : Type 0 where
+pub record TextHasWords (text : List ℕ) (table : List (ℕ × ℕ × ℕ)) (count : ℕ) (words : List ℕ) : Type 0 where
   pub weights : List ℕ
   pub weights_line : WeightsAre text weights
   pub words_line : CountedAre text (count ∷ words)
@@ -77,8 +77,8 @@ abbrev pub ChunksAre : List ℕ → List (List ℕ) → Type 0
 ChunksAre text chunks = number_lists_of (2 ^ 64 - 1) (after_line (after_line text)) ≡ Some chunks
 
 -- The text gives the weights of this table, the indices of the chunks to look up, and these chunks.
-pub record GivesChunks (text : List ℕ) (table : List (ℕ × ℕ × ℕ)) (places : List ℕ) (chunks : List (List ℕ)) : Type 0 where
-  pub first_two : GivesSymbols text table places
+pub record TextHasChunks (text : List ℕ) (table : List (ℕ × ℕ × ℕ)) (places : List ℕ) (chunks : List (List ℕ)) : Type 0 where
+  pub first_two : TextHasSymbols text table places
   pub chunk_lines : ChunksAre text chunks
 
 -- The text gives no chunks: a line is bad, or the weights make no table.

@@ -7,7 +7,7 @@ use Rattle.std.specs.declared.io.Error.{Error}
 use Rattle.std.specs.declared.io.ErrorKind.TheVariants as kind
 use Rattle.std.specs.declared.string.String.{String}
 use Rattle.std.specs.declared.vec.IntoIter.{IntoIter}
-use Rattle.constriction_commands.specs.Answers.{IsAnswered, NamesNone, Stops, words_behind_name}
+use Rattle.constriction_commands.specs.Answers.{IsAnswered, IsUnknownCommand, Stops, words_behind_name}
 use Rattle.constriction_commands.specs.Written.{BeginsFault, GrowsByBeginning}
 use Rattle.constriction_commands.specs.declared.fault.Fault.{Fault}
 use Rattle.constriction_commands.specs.declared.fault.Fault.TheVariants.{OutOfMemory}
@@ -35,8 +35,8 @@ abbrev pub IsTextAnd : {Z X : Type 0} → Result (IntoIter (String Z) Z) X → (
 IsTextAnd given holds = IsOkAnd given (λ words. holds (words_behind_name (into_iter_items words)))
 
 -- If the system gives words, and those after the program's name name no command, the statement holds.
-abbrev pub IfNamesNone : {Z X : Type 0} → Result (IntoIter (String Z) Z) X → Type 0 → Type 0
-IfNamesNone given holds = IfText given (λ arguments. NamesNone arguments → holds)
+abbrev pub IfUnknownCommand : {Z X : Type 0} → Result (IntoIter (String Z) Z) X → Type 0 → Type 0
+IfUnknownCommand given holds = IfText given (λ arguments. IsUnknownCommand arguments → holds)
 
 -- If a word isn't UTF-8, the statement holds.
 abbrev pub IfNotText : {A : Type 0} → Result A Error → Type 0 → Type 0

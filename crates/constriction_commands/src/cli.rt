@@ -5,8 +5,8 @@ ghost use Rattle.std.specs.Prelude.{IsErr, IsOk, OnOk};
 ghost use Rattle.std.specs.Io.KnownBytes.{Appends};
 ghost use Rattle.std.specs.Process.{exit_status};
 ghost use Rattle.std.specs.Vec.Iter.{into_iter_items};
-ghost use Rattle.constriction_commands.specs.Answers.{NamesNone, Answers, Fails, Stops};
-ghost use Rattle.constriction_commands.specs.Starting.{AppendsAnswer, BeginsAnswer, IfNamesNone, IfNoMemory, IfNotText};
+ghost use Rattle.constriction_commands.specs.Answers.{IsUnknownCommand, Answers, Fails, Stops};
+ghost use Rattle.constriction_commands.specs.Starting.{AppendsAnswer, BeginsAnswer, IfUnknownCommand, IfNoMemory, IfNotText};
 ghost use Rattle.constriction_commands.specs.Starting.{IfText, ProgramAnswers, ProgramReports, ProgramWrites};
 ghost use Rattle.constriction_commands.specs.Written.{BeginsFault, BeginsLine, GrowsByBeginning, Reports};
 ghost use Rattle.constriction_commands.specs.Written.{fault_line, usage_line};
@@ -109,7 +109,7 @@ pub fn run<R: Read, O: Write, E: Write>(
     ensures ok { result ≡ 0 →
         AppendsAnswer (map string_bytes args.now) (R.remaining input.old) O.contents output.old output.new }
     ensures quiet { result ≡ 0 → faults.new ≡ faults.old }
-    ensures usage { (result ≡ 2) ↔ NamesNone (map string_bytes args.now) }
+    ensures usage { (result ≡ 2) ↔ IsUnknownCommand (map string_bytes args.now) }
     ensures kept { result ≡ 2 → (output.new ≡ output.old) × (input.new ≡ input.old) }
     // Whatever the status, the bytes written are a beginning of the answer.
     ensures whole { (output.new ≡ output.old)
@@ -146,9 +146,9 @@ pub fn start<R: Read, O: Write, E: Write>(
     ensures ok { exit_status result ≡ 0 →
         ProgramAnswers given (R.remaining input.old) O.contents output.old output.new }
     ensures quiet { exit_status result ≡ 0 → faults.new ≡ faults.old }
-    ensures usage { exit_status result ≡ 2 → IfText given NamesNone }
+    ensures usage { exit_status result ≡ 2 → IfText given IsUnknownCommand }
     // Without memory for the arguments, the line of that fault replaces the usage line.
-    ensures unknown { IfNamesNone given (exit_status result ≢ 2 →
+    ensures unknown { IfUnknownCommand given (exit_status result ≢ 2 →
         Reports OutOfMemory (exit_status result) E.contents faults.old faults.new) }
     ensures kept { exit_status result ≡ 2 → (output.new ≡ output.old) × (input.new ≡ input.old) }
     ensures unread { IfErr given (λ _. output.new ≡ output.old) }

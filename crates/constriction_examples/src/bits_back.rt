@@ -9,7 +9,7 @@
 //! The sender "hides" symbols with the function `hide`, and the receiver "reveals" them with the function `reveal`.
 
 ghost use Rattle.std.specs.Prelude.{◌≡◌, ℕ, List, length, reverse, IfOk, OnOk};
-ghost use Rattle.constriction.specs.stack.Ans.{AnsState, IsValid};
+ghost use Rattle.constriction.specs.stack.Ans.{AnsState, IsNormalized};
 ghost use Rattle.constriction.specs.stack.Symbols.{Encodes, Decodes};
 ghost use Rattle.constriction.specs.Tables.{model_of};
 
@@ -52,7 +52,7 @@ fn take_off(coder: &mut Coder, table: &Table) -> usize
 
 /// Encodes a symbol, or a latent, with a table. Fails if the table has no entry for it, or if there is no memory.
 fn put_on(coder: &mut Coder, symbol: usize, table: &Table) -> Result<()>
-    ensures { IsValid 32 64 coder.old.state
+    ensures { IsNormalized 32 64 coder.old.state
         → OnOk result (Encodes 32 64 (model_of table.now) symbol coder.old.state coder.new.state) }
 {
     coder.encode_symbol(&symbol, table)?;
@@ -99,9 +99,9 @@ impl Mixture {
     /// - The latent's symbol table has no entry for the symbol, or the prior has no entry for the latent.
     /// - There is no memory.
     fn hide(&self, coder: &mut Coder, symbol: usize) -> Result<()>
-        ensures hides { IsValid 32 64 coder.old.state
+        ensures hides { IsNormalized 32 64 coder.old.state
             → OnOk result (Hides self.now symbol coder.old.state coder.new.state) }
-        ensures valid { IsValid 32 64 coder.old.state → OnOk result (IsValid 32 64 coder.new.state) }
+        ensures valid { IsNormalized 32 64 coder.old.state → OnOk result (IsNormalized 32 64 coder.new.state) }
     {
         let posterior = self.posteriors.get(symbol).context("no such symbol")?;
         let latent = take_off(coder, posterior);
@@ -121,7 +121,7 @@ impl Mixture {
     /// - The posterior has no entry for the latent.
     /// - There is no memory.
     fn reveal(&self, coder: &mut Coder) -> Result<usize>
-        ensures reveals { (hidden : ℕ) (before : AnsState) → IsValid 32 64 before
+        ensures reveals { (hidden : ℕ) (before : AnsState) → IsNormalized 32 64 before
             → Hides self.now hidden before coder.old.state
             → IfOk result (λ symbol. (symbol ≡ hidden) × (coder.new.state ≡ before)) }
     {
@@ -137,7 +137,7 @@ impl Mixture {
 
     /// Hides symbols one after the other, in order. Fails at the first symbol for which `hide` fails.
     fn hide_all(&self, coder: &mut Coder, symbols: &[usize]) -> Result<()>
-        ensures hides { IsValid 32 64 coder.old.state
+        ensures hides { IsNormalized 32 64 coder.old.state
             → OnOk result (InTurn (Hides self.now) symbols.now coder.old.state coder.new.state) }
     {
         'symbols: for symbol in symbols {
@@ -150,7 +150,7 @@ impl Mixture {
     ///
     /// Fails at the first symbol for which `reveal` fails, or if there is no memory for the list.
     fn reveal_all(&self, alloc: Global, coder: &mut Coder, count: usize) -> Result<Vec<usize>>
-        ensures reveals { (hidden : List ℕ) (before : AnsState) → length hidden ≡ count → IsValid 32 64 before
+        ensures reveals { (hidden : List ℕ) (before : AnsState) → length hidden ≡ count → IsNormalized 32 64 before
             → InTurn (Hides self.now) hidden before coder.old.state
             → IfOk result (λ symbols. (symbols.items ≡ reverse hidden) × (coder.new.state ≡ before)) }
     {
@@ -185,7 +185,7 @@ struct Sent {
 ///
 /// Fails if `bits_of`, hiding or revealing fails, or if the number of bits is lower after hiding than before.
 fn send(alloc: Global, mixture: &Mixture, coder: &mut Coder) -> Result<Sent>
-    requires { IsValid 32 64 coder.old.state }
+    requires { IsNormalized 32 64 coder.old.state }
 {
     let before = bits_of(coder)?;
     mixture.hide_all(coder, SYMBOLS.as_slice())?;

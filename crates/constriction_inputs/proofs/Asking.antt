@@ -1,7 +1,7 @@
 -- Refusals in their order: what a check that went well or was refused says of the call that made it.
 use Rattle.std.proofs.Common.{◌≡◌, ◌⊎◌, ℕ, Ok, Err, Result, inl, inr}
 use Rattle.constriction_inputs.specs.Coded.{AreFit, AsksFit, Coded}
-use Rattle.constriction_inputs.specs.Refusals.{Asks, Room}
+use Rattle.constriction_inputs.specs.Refusals.{Asks, NoMemoryOrSpace}
 use Rattle.constriction_inputs.specs.declared.refusal.Refusal.{Refusal}
 use Rattle.constriction_inputs.specs.declared.refusal.Refusal.TheVariants.{NoMemory, NoSpace}
 
@@ -27,6 +27,6 @@ module _ (precision : ℕ) (coded : Coded) where
   fit_then fit next = inr (fit.0, inr (fit.1, inr (fit.2, next)))
 
 -- want of room, or of memory
-pub room_of : {B : Type 0} (needs : ℕ → Type 0) (e : Refusal) (n : ℕ) → (e ≡ NoSpace n) ⊎ ((e ≡ NoMemory) × B) → needs n → Room needs e
+pub room_of : {B : Type 0} (needs : ℕ → Type 0) (e : Refusal) (n : ℕ) → (e ≡ NoSpace n) ⊎ ((e ≡ NoMemory) × B) → needs n → NoMemoryOrSpace needs e
 room_of needs e n (inl is) needed = rw is needed
 room_of needs e n (inr is) needed = rw is.0 tt

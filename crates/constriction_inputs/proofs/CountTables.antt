@@ -9,12 +9,12 @@ use Rattle.constriction_base.specs.Models.{AreKnown, pairs_of}
 use Rattle.constriction_models.specs.Categorical.{categorical}
 use Rattle.constriction_models.specs.laws.Categorical.{categorical_known, categorical_impossible}
 use Rattle.constriction_inputs.specs.Counts.{count_items, count_tables}
-use Rattle.constriction_inputs.specs.Mixtures.{row_of_place}
+use Rattle.constriction_inputs.specs.Mixtures.{row_at_index}
 use Rattle.constriction_inputs.proofs.MixtureTables.{row_ends, row_long}
 
 module _ (precision width : ℕ) (counts : List ℕ) where
   abbrev table : ℕ → List (ℕ × ℕ × ℕ)
-  table place = categorical precision (row_of_place width place counts)
+  table place = categorical precision (row_at_index width place counts)
 
   pub tables_counted : (number : ℕ) → length (count_tables precision width number counts) ≡ number
   tables_counted number = length-map-range_with_len table 0 number
@@ -38,7 +38,7 @@ module _ (precision width : ℕ) (counts : List ℕ) where
       let next : from + suc left ≡ from + 1 + left = omega arith in
       let ends = row_ends width from (from + suc left) (omega arith) in
       let long = row_long width from counts (omega (arith, ends, fit)) in
-      (categorical_known precision (row_of_place width from counts) symbol (omega (arith, long, all.0)), below_known (from + 1) left symbols (rw next at fit) all.1)
+      (categorical_known precision (row_at_index width from counts) symbol (omega (arith, long, all.0)), below_known (from + 1) left symbols (rw next at fit) all.1)
 
   -- and no others
   known_below : (from left : ℕ) (symbols : List ℕ) → length symbols ≤ left
@@ -48,7 +48,7 @@ module _ (precision width : ℕ) (counts : List ℕ) where
   known_below from (suc left) (symbol ∷ symbols) many known = (
     elim (cases_lt symbol width) [
       | inl below ↦ below
-      | inr past ↦ absurd (categorical_impossible precision (row_of_place width from counts) symbol (omega (arith, past, length-take width (drop (width * from) counts))) known.0.0 known.0.1 known.0.2)
+      | inr past ↦ absurd (categorical_impossible precision (row_at_index width from counts) symbol (omega (arith, past, length-take width (drop (width * from) counts))) known.0.0 known.0.1 known.0.2)
     ],
     known_below (from + 1) left symbols (omega arith) known.1,
   )

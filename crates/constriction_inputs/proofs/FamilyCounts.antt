@@ -7,7 +7,7 @@ use Rattle.std.proofs.lemmas.List.{length-map}
 use Rattle.constriction_models.specs.Counts.{AllShare, AreShares, AreWeights, ServesLargest, positive}
 use Rattle.constriction_models.specs.declared.counts.CountsError.{CountsError}
 use Rattle.constriction_models.specs.declared.counts.CountsError.TheVariants as errors
-use Rattle.constriction_inputs.specs.QuantizedCalls.{AreCounts, GivesWeightsOfCounts}
+use Rattle.constriction_inputs.specs.QuantizedCalls.{AreCounts, WritesWeightsOfCounts}
 
 module _ {T P : Type 0} (number : P → ℕ) (precision : ℕ) (counts : List ℕ) (old new : List P) (x : T) where
   right_counts : (◌≡◌ {A = Result T CountsError} (Ok x) (Err errors.Empty) ↔ (sum_by positive counts ≡ 0))
@@ -22,9 +22,9 @@ module _ {T P : Type 0} (number : P → ℕ) (precision : ℕ) (counts : List �
       → (AllShare counts (2 ^ precision) → AreShares counts (2 ^ precision) made) → (AllShare counts (2 ^ precision) → ServesLargest counts (2 ^ precision) made)
       → (◌≡◌ {A = Result T CountsError} (Ok x) (Err errors.Empty) ↔ (sum_by positive counts ≡ 0))
       → (◌≡◌ {A = Result T CountsError} (Ok x) (Err errors.TooMany) ↔ (2 ^ precision < sum_by positive counts))
-      → GivesWeightsOfCounts precision counts (map number old) (map number new) (Ok tt)
+      → WritesWeightsOfCounts precision counts (map number old) (map number new) (Ok tt)
   weights_put lent made lent_is put fit counted total weights some shares first empty many =
-      subst (λ (ws : List ℕ). GivesWeightsOfCounts precision counts (map number old) ws (Ok tt)) (sym (put ∙ lent_is)) (record {
+      subst (λ (ws : List ℕ). WritesWeightsOfCounts precision counts (map number old) ws (Ok tt)) (sym (put ∙ lent_is)) (record {
         weights = weights;
         total = (counted, total);
         some = some;

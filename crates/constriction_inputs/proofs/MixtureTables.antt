@@ -11,7 +11,7 @@ use Rattle.constriction_models.specs.Mixtures.{Weighted, mixed, total_weight, we
 use Rattle.constriction_models.specs.Quantized.{indexed}
 use Rattle.constriction_models.specs.declared.families.Family.{Family}
 use Rattle.constriction_models.specs.declared.mixture.Component.{Component}
-use Rattle.constriction_inputs.specs.Mixtures.{ByMixture, components_at, components_of, mixture_tables, row_of_place}
+use Rattle.constriction_inputs.specs.Mixtures.{ByMixture, components_at, components_of, mixture_tables, row_at_index}
 use Rattle.constriction_inputs.specs.Quantized.{below_by, symbols_in}
 
 -- ---- tables
@@ -30,16 +30,16 @@ pub row_ends : (width place count : ℕ) → place < count → width * place + w
 row_ends width place count within = let next : suc place ≤ count = omega (arith, within) in omega (arith, mul-le-mul_left width next, mul-suc width place)
 
 -- it is what lies between its start and its end
-pub row_between : {A : Type 0} (width place start : ℕ) (list : List A) → start ≡ width * place → take (start + width - start) (drop start list) ≡ row_of_place width place list
+pub row_between : {A : Type 0} (width place start : ℕ) (list : List A) → start ≡ width * place → take (start + width - start) (drop start list) ≡ row_at_index width place list
 row_between width place start list is = let long : start + width - start ≡ width = omega arith in rw (long, is) refl
 
 -- it is as long as it is wide
-pub row_long : {A : Type 0} (width place : ℕ) (list : List A) → width * place + width ≤ length list → length (row_of_place width place list) ≡ width
+pub row_long : {A : Type 0} (width place : ℕ) (list : List A) → width * place + width ≤ length list → length (row_at_index width place list) ≡ width
 row_long width place list fit = length-take-le width (drop (width * place) list) (omega (arith, length-drop (width * place) list, fit))
 
 -- scales of a row are above 0 where all are
 pub row_scaled : (width place : ℕ) (scales : List ℕ) → width * place + width ≤ length scales → ((k : ℕ) → k < length scales → 0 < get_or scales k 0)
-    → (k : ℕ) → k < length (row_of_place width place scales) → 0 < get_or (row_of_place width place scales) k 0
+    → (k : ℕ) → k < length (row_at_index width place scales) → 0 < get_or (row_at_index width place scales) k 0
 row_scaled width place scales fit all k inside =
     let short : k < width = omega (arith, inside, row_long width place scales fit) in
     let some = all (width * place + k) (omega (arith, short, fit)) in

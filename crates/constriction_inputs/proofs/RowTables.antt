@@ -4,7 +4,7 @@ use Rattle.std.proofs.Math.Nat.{mul-suc}
 use Rattle.std.proofs.lemmas.List.{drop-drop, map_push, take-map}
 use Rattle.constriction_base.specs.Tables.{table_of}
 use Rattle.constriction_base.proofs.Guards.{map-drop}
-use Rattle.constriction_inputs.specs.Mixtures.{row_of_place}
+use Rattle.constriction_inputs.specs.Mixtures.{row_at_index}
 use Rattle.constriction_inputs.specs.Rows.{AreTotals, row_tables}
 use Rattle.constriction_inputs.specs.Weights.{IsTotal}
 use Rattle.std.proofs.lemmas.Bool.{false≢true}
@@ -46,7 +46,7 @@ row_behind : (width k : ℕ) (ws : List ℕ) → drop (width * k) (drop width ws
 row_behind width k ws = drop-drop (width * k) width ws ∙ ap (λ (n : ℕ). drop n ws) (row_start width k)
 
 -- each of the rows adds up
-pub each_total : (precision width : ℕ) (ws : List ℕ) (count : ℕ) → AreTotals precision width count ws → (k : ℕ) → k < count → IsTotal precision (row_of_place width k ws)
+pub each_total : (precision width : ℕ) (ws : List ℕ) (count : ℕ) → AreTotals precision width count ws → (k : ℕ) → k < count → IsTotal precision (row_at_index width k ws)
 each_total precision width ws zero totals k within = absurd (omega arith)
 each_total precision width ws (suc count) totals zero within =
     let none : 0 ≡ width * 0 = omega arith in
@@ -55,7 +55,7 @@ each_total precision width ws (suc count) totals (suc k) within =
     subst (λ (rest : List ℕ). IsTotal precision (take width rest)) (row_behind width k ws) (each_total precision width (drop width ws) count totals.1 k (omega arith))
 
 -- its table
-pub row_table_at : (width : ℕ) (ws : List ℕ) (count k : ℕ) → k < count → get_or (row_tables width count ws) k [] ≡ table_of (row_of_place width k ws)
+pub row_table_at : (width : ℕ) (ws : List ℕ) (count k : ℕ) → k < count → get_or (row_tables width count ws) k [] ≡ table_of (row_at_index width k ws)
 row_table_at width ws zero k within = absurd (omega arith)
 row_table_at width ws (suc count) zero within = (let none : 0 ≡ width * 0 = omega arith in ap (λ (n : ℕ). table_of (take width (drop n ws))) none)
 row_table_at width ws (suc count) (suc k) within =

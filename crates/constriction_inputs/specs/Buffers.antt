@@ -2,7 +2,7 @@
 use Rattle.std.specs.Prelude.{◌≡◌, ℕ, ◌+◌, List, ◌++◌, length, take, drop, map, reverse}
 
 -- A buffer, and the number of its words that are in use.
-pub record WordsKept (Word : Type 0) : Type 0 where
+pub record WordBuffer (Word : Type 0) : Type 0 where
   pub words : List Word
   pub len : ℕ
 

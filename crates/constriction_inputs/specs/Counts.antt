@@ -4,11 +4,11 @@ use Rattle.std.specs.List.{range_with_len}
 use Rattle.constriction_base.specs.Models.{Item, pairs_of}
 use Rattle.constriction_models.specs.Categorical.{MakeCategorical, categorical}
 use Rattle.constriction_inputs.specs.Coded.{Coded}
-use Rattle.constriction_inputs.specs.Mixtures.{row_of_place}
+use Rattle.constriction_inputs.specs.Mixtures.{row_at_index}
 
 -- The tables of the first `number` rows of `width` counts.
 abbrev pub count_tables : ℕ → ℕ → ℕ → List ℕ → List (List (ℕ × ℕ × ℕ))
-count_tables precision width number counts = map (λ place. categorical precision (row_of_place width place counts)) (range_with_len 0 number)
+count_tables precision width number counts = map (λ place. categorical precision (row_at_index width place counts)) (range_with_len 0 number)
 
 -- Each symbol with the table of its own row. The rows are in the order of the symbols.
 abbrev pub count_items : ℕ → ℕ → List ℕ → List ℕ → List (Item ℕ)
@@ -16,7 +16,7 @@ count_items precision width counts symbols = pairs_of precision (λ table. table
 
 -- Each of the first `number` rows of `width` counts has a table.
 abbrev pub AreCountRows : ℕ → ℕ → ℕ → List ℕ → Type 0
-AreCountRows precision width number counts = (place : ℕ) → place < number → MakeCategorical precision (row_of_place width place counts)
+AreCountRows precision width number counts = (place : ℕ) → place < number → MakeCategorical precision (row_at_index width place counts)
 
 -- Counts can have tables at this precision: it is at most 24 bits, and below the number of bits of the coder's
 -- probabilities.

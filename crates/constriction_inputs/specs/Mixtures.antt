@@ -16,8 +16,8 @@ pub record ByMixture : Type 0 where
   pub width : ℕ
 
 -- The row at index `place` of a list that has rows of `width` items, one after another.
-abbrev pub row_of_place : {A : Type 0} → ℕ → ℕ → List A → List A
-row_of_place width place list = take width (drop (width * place) list)
+abbrev pub row_at_index : {A : Type 0} → ℕ → ℕ → List A → List A
+row_at_index width place list = take width (drop (width * place) list)
 
 -- The list, or the one item alone if the list is empty.
 abbrev pub or_lone : {A : Type 0} → List A → A → List A
@@ -32,7 +32,7 @@ components_of family weights locations scales =
 -- The components for the symbol at index `place` of the caller's list.
 abbrev pub components_at : ByMixture → ℕ → List Weighted
 components_at by place =
-    components_of (family_of by.components.family) (row_of_place by.width place by.weights) (row_of_place by.width place by.components.locations) (row_of_place by.width place by.components.scales)
+    components_of (family_of by.components.family) (row_at_index by.width place by.weights) (row_at_index by.width place by.components.locations) (row_at_index by.width place by.components.scales)
 
 -- The tables of the first `count` mixtures. Their symbols are indices into the range, and index 0 is the first symbol.
 abbrev pub mixture_tables : ℕ → ByMixture → ℕ → List (List (ℕ × ℕ × ℕ))
@@ -54,7 +54,7 @@ IsMixable weights = (0 < sum weights) × (sum weights ≤ 4294967296)
 
 -- The weights of each row add up to at least 1 and at most 2 ^ 32.
 abbrev pub AreMixable : ℕ → ℕ → List ℕ → Type 0
-AreMixable width count weights = (place : ℕ) → place < count → IsMixable (row_of_place width place weights)
+AreMixable width count weights = (place : ℕ) → place < count → IsMixable (row_at_index width place weights)
 
 -- A family has the caller's family number, and all scales are above 0. Each row has at least one component, and its
 -- weights are mixable.

@@ -80,8 +80,8 @@ abbrev pub in_family : ℕ → ℤ → ℤ → List ℤ → List ℕ → List �
 in_family family min max locations scales = by_family (record { family = family; min = min; max = max; locations = locations; scales = scales })
 
 -- Each symbol is an index into the range.
-abbrev pub ArePlacesInRange : ℤ → ℤ → List ℕ → Type 0
-ArePlacesInRange min max symbols = AllByRecursion (λ symbol. symbol < symbols_in min max) symbols
+abbrev pub AreIndicesInRange : ℤ → ℤ → List ℕ → Type 0
+AreIndicesInRange min max symbols = AllByRecursion (λ symbol. symbol < symbols_in min max) symbols
 
 -- ---- intervals
 -- `lefts` has the start of each item's interval, and `ps` has its length.

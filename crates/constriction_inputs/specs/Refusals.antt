@@ -9,30 +9,30 @@ abbrev pub Asks : {T : Type 0} → Refusal → Type 0 → (Result T Refusal → 
 Asks refusal holds others answer = ((holds → ⊥) × (answer ≡ Err refusal)) ⊎ (holds × others answer)
 
 -- The call has no further requirement. If it fails, `why` states which refusals can come.
-abbrev pub Else : {T : Type 0} → (Refusal → Type 0) → Result T Refusal → Type 0
-Else why answer = IfErr answer why
+abbrev pub Otherwise : {T : Type 0} → (Refusal → Type 0) → Result T Refusal → Type 0
+Otherwise why answer = IfErr answer why
 
 -- ---- refusals that can still come
 -- No refusal can come.
-abbrev pub Never : Refusal → Type 0
-Never refusal = ⊥
+abbrev pub NoRefusal : Refusal → Type 0
+NoRefusal refusal = ⊥
 
 -- Only `NoMemory` can come. The contract doesn't state when.
-abbrev pub Memory : Refusal → Type 0
-Memory NoMemory = Unit {0}
-Memory other = ⊥
+abbrev pub OnlyNoMemory : Refusal → Type 0
+OnlyNoMemory NoMemory = Unit {0}
+OnlyNoMemory other = ⊥
 
 -- Only `NoMemory` or `NoSpace` can come. If `NoSpace` comes, `needs` holds for the number of words in it.
-abbrev pub Room : (ℕ → Type 0) → Refusal → Type 0
-Room needs (NoSpace needed) = needs needed
-Room needs other = Memory other
+abbrev pub NoMemoryOrSpace : (ℕ → Type 0) → Refusal → Type 0
+NoMemoryOrSpace needs (NoSpace needed) = needs needed
+NoMemoryOrSpace needs other = OnlyNoMemory other
 
--- The refusals of `Room` or `OutOfData` can come. `OutOfData` comes only if `ends` holds.
-abbrev pub DataOrRoom : Type 0 → (ℕ → Type 0) → Refusal → Type 0
-DataOrRoom ends needs OutOfData = ends
-DataOrRoom ends needs other = Room needs other
+-- The refusals of `NoMemoryOrSpace` or `OutOfData` can come. `OutOfData` comes only if `ends` holds.
+abbrev pub NoMemorySpaceOrData : Type 0 → (ℕ → Type 0) → Refusal → Type 0
+NoMemorySpaceOrData ends needs OutOfData = ends
+NoMemorySpaceOrData ends needs other = NoMemoryOrSpace needs other
 
 -- Only `NoMemory` or `InvalidData` can come. `InvalidData` comes only if `none` holds: no such symbols are encoded.
-abbrev pub Words : Type 0 → Refusal → Type 0
-Words none InvalidData = none
-Words none other = Memory other
+abbrev pub NoMemoryOrInvalid : Type 0 → Refusal → Type 0
+NoMemoryOrInvalid none InvalidData = none
+NoMemoryOrInvalid none other = OnlyNoMemory other

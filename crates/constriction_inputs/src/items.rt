@@ -6,7 +6,7 @@
 ghost use Rattle.std.specs.Prelude.{◌≡◌, ◌↔◌, ◌<◌, ◌≤◌, ℕ, List, length, IfNone, IfSome, IsTrue};
 ghost use Rattle.constriction_base.specs.Models.{AreKnown, Item, Knows};
 ghost use Rattle.constriction_inputs.specs.Coded.{AreFit, AsksFit, Coded, items};
-ghost use Rattle.constriction_inputs.specs.Refusals.{Else, Never};
+ghost use Rattle.constriction_inputs.specs.Refusals.{Otherwise, NoRefusal};
 ghost use Rattle.constriction_inputs.specs.Items.{HasAt, HasInterval};
 ghost use Rattle.constriction_words.specs.Reciprocals.{IsReciprocalOf};
 
@@ -78,7 +78,7 @@ pub trait Items<P: BitArray, const PRECISION: usize> {
     /// case.
     fn check(&self) -> Result<(), Refusal>
         requires { (1 ≤ PRECISION) × (PRECISION ≤ P.BITS) }
-        ensures { AsksFit PRECISION (coded self.now) (Else Never) result };
+        ensures { AsksFit PRECISION (coded self.now) (Otherwise NoRefusal) result };
 
     /// Returns whether each item's model has an entry for its symbol. The call needs no memory.
     ///

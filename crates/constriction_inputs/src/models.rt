@@ -20,7 +20,7 @@ ghost use Rattle.constriction_base.specs.Models.{AreKnown};
 ghost use Rattle.constriction_base.specs.Tables.{Impossible};
 ghost use Rattle.constriction_inputs.specs.Coded.{AreFit, AreTablesFor, AsksFit, Coded, items};
 ghost use Rattle.constriction_inputs.specs.Items.{IsEntryOf};
-ghost use Rattle.constriction_inputs.specs.Refusals.{Else, Never};
+ghost use Rattle.constriction_inputs.specs.Refusals.{Otherwise, NoRefusal};
 ghost use Rattle.constriction_words.specs.Reciprocals.{IsReciprocalOf};
 
 use crate::refusal::Refusal;
@@ -118,7 +118,7 @@ pub trait Models<P: BitArray, const PRECISION: usize>: Drop {
     fn check(&self, count: usize) -> Result<(), Refusal>
         requires { (1 ≤ PRECISION) × (PRECISION ≤ P.BITS) }
         ensures { (symbols : List ℕ) → length symbols ≡ count
-            → AsksFit PRECISION (coded self.now symbols) (Else Never) result };
+            → AsksFit PRECISION (coded self.now symbols) (Otherwise NoRefusal) result };
 
     /// Returns whether each model has an entry for its symbol. The call needs no memory.
     ///

@@ -6,7 +6,7 @@ use Rattle.std.proofs.lemmas.Int.Digits.{length-digits_of-le, number_lt, number_
 use Rattle.std.specs.Int.Digits.{digits_of, number_from_digits}
 use Rattle.constriction_base.specs.Steps.{Step, IsStep, AreSteps, InTurn, IsSizes, AreWords}
 use Rattle.constriction_base.specs.Digits.{fixed_digits}
-use Rattle.constriction_stack.specs.Ans.{AnsState, IsValid, refilled, popped_head, IsNext, pop, IsPush, empty, exported}
+use Rattle.constriction_stack.specs.Ans.{AnsState, IsNormalized, refilled, popped_head, IsNext, pop, IsPush, empty, exported}
 use Rattle.constriction_queue.specs.Range.{Run, initial, scale, cut, narrowed_by, run, IsInterval, sealed, seal_number}
 use Rattle.constriction_laws.specs.Bounds.{product, spare, share, rounded_whole, Act, Encode, Decode, AreAllowed, Acts, net_share, net_whole}
 use Rattle.constriction_base.proofs.Sizes.{Facts, facts, table_divides, pow-mul}
@@ -54,7 +54,7 @@ put_top : (e : Step) (y : ℕ) → 0 < e.p → e.left + e.p ≤ 2 ^ e.precision 
 put_top e y hp h = omega (arith, mod-lt y hp)
 
 module _ (w s : ℕ) (e : Step) (z : IsSizes w s) (h : IsStep w e) where
-  written_step : (x : AnsState) → IsValid w s (written w e x) → room w s e ≤ x.head → potential w s (written w e x) * share w s e ≤ potential w s x * rounded_whole w s e
+  written_step : (x : AnsState) → IsNormalized w s (written w e x) → room w s e ≤ x.head → potential w s (written w e x) * share w s e ≤ potential w s x * rounded_whole w s e
   written_step x v long =
       let y : ℕ = x.head / 2 ^ w in
       let head : ℕ = put_on e y in
@@ -80,7 +80,7 @@ module _ (w s : ℕ) (e : Step) (z : IsSizes w s) (h : IsStep w e) where
       let all : max head q * share w s e * (2 ^ w) ^ length x.words ≤ f * rounded_whole w s e * (2 ^ w) ^ length x.words = mul-le-mul_right ((2 ^ w) ^ length x.words) both in
       omega (arith, all)
 
-  push_step : (x y : AnsState) → IsValid w s x → IsPush w s e x y → potential w s y * share w s e ≤ potential w s x * rounded_whole w s e
+  push_step : (x y : AnsState) → IsNormalized w s x → IsPush w s e x y → potential w s y * share w s e ≤ potential w s x * rounded_whole w s e
   push_step x y v i = elim (only_push w s e z h x y i) [
     | inl (long, is) ↦ rw is (written_step x (rw is at i.valid) long)
     | inr (short, is) ↦ rw is (kept_step x)
@@ -93,7 +93,7 @@ chain new next old a b c d h1 h2 =
     let m2 : next * a * d ≤ old * b * d = mul-le-mul_right d h2 in
     omega (arith, m1, m2)
 
-pub pushes_bound : (w s : ℕ) (es : List Step) (x y : AnsState) → IsSizes w s → AreSteps w es → IsValid w s x → InTurn (IsPush w s) es x y →
+pub pushes_bound : (w s : ℕ) (es : List Step) (x y : AnsState) → IsSizes w s → AreSteps w es → IsNormalized w s x → InTurn (IsPush w s) es x y →
     potential w s y * product (share w s) es ≤ potential w s x * product (rounded_whole w s) es
 pushes_bound w s [] x y z hs v i = rw i (omega arith)
 pushes_bound w s (e ∷ es) x y z hs v i =
@@ -278,11 +278,11 @@ module _ (w s : ℕ) (e : Step) (z : IsSizes w s) (h : IsStep w e) where
       let all : (popped_head e x * b + u) * decoded_share w s e * b ^ length us ≤ f * b * decoded_whole w s e * b ^ length us = mul-le-mul_right (b ^ length us) one in
       rw (max-eq_left full, made, pow-suc b (length us)) (omega (arith, all)))
 
-  pop_step : (x : AnsState) → IsValid w s x → IsNext e x → 2 ^ (s - w) ≤ (pop w s e x).head →
+  pop_step : (x : AnsState) → IsNormalized w s x → IsNext e x → 2 ^ (s - w) ≤ (pop w s e x).head →
       potential w s (pop w s e x) * decoded_share w s e ≤ potential w s x * decoded_whole w s e
   pop_step x v i full = pop_words x x.words refl v.state.are_words i full
 
-acts_bound : (w s : ℕ) (acts : List Act) (x y : AnsState) → IsSizes w s → AreAllowed w acts → IsValid w s x → InTurn (Acts w s) acts x y →
+acts_bound : (w s : ℕ) (acts : List Act) (x y : AnsState) → IsSizes w s → AreAllowed w acts → IsNormalized w s x → InTurn (Acts w s) acts x y →
     potential w s y * product (net_share w s) acts ≤ potential w s x * product (net_whole w s) acts
 acts_bound w s [] x y z hs v i = rw i (omega arith)
 acts_bound w s (Encode e ∷ acts) x y z hs v i =
@@ -312,7 +312,7 @@ potential_below w s x z full =
     let all : x.head * b ^ length x.words < b ^ length ds * b ^ length x.words = mul-lt-mul_of_pos_right head (one-le-pow (length x.words) b (pow_pos w)) in
     rw (max-eq_left full, length-append ds x.words, pow-add b (length ds) (length x.words)) all
 
-pub net_words : (w s : ℕ) (acts : List Act) (x y : AnsState) → IsSizes w s → AreAllowed w acts → IsValid w s x → 2 ^ (s - w) ≤ x.head → InTurn (Acts w s) acts x y →
+pub net_words : (w s : ℕ) (acts : List Act) (x y : AnsState) → IsSizes w s → AreAllowed w acts → IsNormalized w s x → 2 ^ (s - w) ≤ x.head → InTurn (Acts w s) acts x y →
     2 ^ (w * (length (exported w y) - 1)) * product (net_share w s) acts < 2 ^ (w * length (exported w x)) * product (net_whole w s) acts
 net_words w s acts x y z hs v full i =
     let b : ℕ = 2 ^ w in

@@ -24,8 +24,8 @@ abbrev pub IsLow : ℕ → ℕ → AnsState → Type 0
 IsLow w s x = x.head < 2 ^ (s - w)
 
 -- A symbol is decoded, and the head is low neither before nor after the decode.
-abbrev pub TakenHigh : {S : Type 0} → ℕ → ℕ → Model S → S → AnsState → AnsState → Type 0
-TakenHigh w s model taken old new = (2 ^ (s - w) ≤ old.head) × Decodes w s model taken old new × (2 ^ (s - w) ≤ new.head)
+abbrev pub HighThroughout : {S : Type 0} → ℕ → ℕ → Model S → S → AnsState → AnsState → Type 0
+HighThroughout w s model taken old new = (2 ^ (s - w) ≤ old.head) × Decodes w s model taken old new × (2 ^ (s - w) ≤ new.head)
 
 -- The exchange stops at a low head. Either the head is low before the decode, and the state is unchanged. Or it is low
 -- only after the decode.
@@ -35,7 +35,7 @@ StopsLow {S} w s model old new =
 
 -- The exchange stops after the decode, because the symbol to encode has no entry in the table of the model `on`.
 abbrev pub StopsImpossible : {S T : Type 0} → ℕ → ℕ → Model S → Model T → T → AnsState → AnsState → Type 0
-StopsImpossible {S} w s off on symbol old new = Impossible on.table symbol × (taken : S) × TakenHigh w s off taken old new
+StopsImpossible {S} w s off on symbol old new = Impossible on.table symbol × (taken : S) × HighThroughout w s off taken old new
 
 -- The exchange stops at the decode, because the backend refuses a word with an error e of the decode. The state is
 -- unchanged.
@@ -47,7 +47,7 @@ RefusesOff {D = D} w s decodes old new = (2 ^ (s - w) ≤ old.state.head) × (ne
 abbrev pub RefusesOn : {B S D F E : Type 0} → ℕ → ℕ → Model S → (AnsValue B → Result S D → AnsValue B → Type 0)
     → (AnsValue B → Result (Unit {0}) (CoderError F E) → AnsValue B → Type 0) → AnsValue B → AnsValue B → Type 0
 RefusesOn {B} {S} {E = E} w s off decodes encodes old new =
-    (taken : S) × (mid : AnsValue B) × (e : E) × TakenHigh w s off taken old.state new.state × decodes old (Ok taken) mid × encodes mid (Err (Backend e)) new
+    (taken : S) × (mid : AnsValue B) × (e : E) × HighThroughout w s off taken old.state new.state × decodes old (Ok taken) mid × encodes mid (Err (Backend e)) new
 
 -- The statement that holds for each error of an exchange.
 abbrev pub StopsExchange : Type 0 → Type 0 → Type 0 → ExchangeError → Type 0
@@ -77,7 +77,7 @@ EncodesBySteps number holds writes w s model symbol old answer new =
 abbrev pub Exchanges : {S T : Type 0} → ℕ → ℕ → ℕ → List (S × ℕ × ℕ) → List (T × ℕ × ℕ) → S → T → AnsState → AnsState
     → Type 0
 Exchanges w s precision off on taken symbol old new =
-    (mid : AnsState) × TakenHigh w s (model_at precision off) taken old mid
+    (mid : AnsState) × HighThroughout w s (model_at precision off) taken old mid
     × Encodes w s (model_at precision on) symbol mid new
 
 -- Both symbols have entries in their tables. These entries bound the number of words that the exchange adds

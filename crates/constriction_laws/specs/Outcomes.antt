@@ -78,24 +78,24 @@ IfItemsWith precision table models result holds =
     IfOk result (λ back. holds (pairs_of precision table back.0.items models) back.1)
 
 -- If there are as many symbols as models and the call succeeds, the call returns these symbols.
-abbrev pub GivesBack : {S M A E : Type 0} → List M → List S → Result (Vec S A) E → Type 0
-GivesBack models symbols result = length symbols ≡ length models → IfOk result (λ again. again.items ≡ symbols)
+abbrev pub ReturnsSymbols : {S M A E : Type 0} → List M → List S → Result (Vec S A) E → Type 0
+ReturnsSymbols models symbols result = length symbols ≡ length models → IfOk result (λ again. again.items ≡ symbols)
 
 -- If there are as many symbols as models and the call succeeds, the call returns these symbols, and the statement
 -- `holds` is true.
-abbrev pub GivesBackAnd : {S M A E : Type 0} → List M → List S → Result (Vec S A) E → Type 0 → Type 0
-GivesBackAnd models symbols result holds =
+abbrev pub ReturnsSymbolsAnd : {S M A E : Type 0} → List M → List S → Result (Vec S A) E → Type 0 → Type 0
+ReturnsSymbolsAnd models symbols result holds =
     length symbols ≡ length models → IfOk result (λ again. (again.items ≡ symbols) × holds)
 
 -- If there are as many symbols as models and the call succeeds, the first part of the returned pair is the list of
 -- these symbols.
-abbrev pub GivesBackWith : {S M A T E : Type 0} → List M → List S → Result (Vec S A × T) E → Type 0
-GivesBackWith models symbols result = length symbols ≡ length models → IfOk result (λ back. back.0.items ≡ symbols)
+abbrev pub ReturnsSymbolsWith : {S M A T E : Type 0} → List M → List S → Result (Vec S A × T) E → Type 0
+ReturnsSymbolsWith models symbols result = length symbols ≡ length models → IfOk result (λ back. back.0.items ≡ symbols)
 
 -- If there are as many symbols as models and the call succeeds, the first part of the returned pair is the list of
 -- these symbols. In that case, the property `holds` is true for the second part.
-abbrev pub GivesBackWithOne : {S M A T E : Type 0} → List M → List S → Result (Vec S A × T) E → (T → Type 0) → Type 0
-GivesBackWithOne models symbols result holds =
+abbrev pub ReturnsSymbolsWithOne : {S M A T E : Type 0} → List M → List S → Result (Vec S A × T) E → (T → Type 0) → Type 0
+ReturnsSymbolsWithOne models symbols result holds =
     length symbols ≡ length models → IfOk result (λ back. (back.0.items ≡ symbols) × holds back.1)
 
 -- If both values have the property `holds`, they are equal.

@@ -14,7 +14,7 @@ pub mod words;
 ghost use Rattle.std.specs.Prelude.{◌≡◌, ℕ, ◌-◌, ◌/◌, ◌≤◌, ◌^◌, List};
 ghost use Rattle.std.specs.List.{AllByRecursion};
 ghost use Rattle.constriction_base.specs.Steps.{Step, IsSizes, AreSteps, InTurn};
-ghost use Rattle.constriction_stack.specs.Ans.{AnsState, IsValid, empty, exported};
+ghost use Rattle.constriction_stack.specs.Ans.{AnsState, IsNormalized, empty, exported};
 ghost use Rattle.constriction_laws.specs.Bounds.{Act, Acts, AreAllowed, IsNetBounded, IsRangeBounded, IsStackBounded};
 ghost use Rattle.constriction_laws.specs.Bounds.{IsStackBoundedAt};
 ghost use Rattle.constriction_laws.specs.queue.Lists.{DelimitsSteps, sealed_steps};
@@ -52,7 +52,8 @@ pub fn stack_bound_at_one_precision()
 ///   information content of the decoded symbols
 /// - `log2(1 + 2^-k)` for each call, where `k` is `s - w` minus the call's precision in bits
 pub fn stack_net_bound()
-    ensures { (w s : ℕ) (acts : List Act) (old new : AnsState) → IsSizes w s → AreAllowed w acts → IsValid w s old →
+    ensures { (w s : ℕ) (acts : List Act) (old new : AnsState) → IsSizes w s → AreAllowed w acts → IsNormalized w s old
+        →
         2 ^ (s - w) ≤ old.head → InTurn (Acts w s) acts old new →
         IsNetBounded w s acts old new }
 {}

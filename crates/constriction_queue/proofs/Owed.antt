@@ -6,19 +6,19 @@ use Rattle.constriction_base.specs.Writing.{WritesAll}
 use Rattle.constriction_base.specs.declared.backends.reading.Holds as holding
 use Rattle.constriction_base.specs.declared.backends.writing.WriteWords as writing
 use Rattle.constriction_base.proofs.Written.{begun_none, stops_at_once, stops_before, stops_later, written_one, written_then}
-use Rattle.constriction_queue.proofs.Begun.{held_more, held_part, length-words_held, more_begun, part_begun}
-use Rattle.constriction_queue.specs.Encoder.{words_held}
+use Rattle.constriction_queue.proofs.Begun.{held_more, held_part, length-repeated_words, more_begun, part_begun}
+use Rattle.constriction_queue.specs.Encoder.{repeated_words}
 
 -- held words are some
-pub words_some : (x count first : ℕ) → 0 < length (words_held x count first)
+pub words_some : (x count first : ℕ) → 0 < length (repeated_words x count first)
 words_some x count first = omega (arith, length-append (replicate (count - 1) x) (first ∷ []))
 
 -- one more held word is one more
-pub held_one_more : (x count first : ℕ) → 0 < count → length (words_held x (count + 1) first) ≤ length (words_held x count first) + 1
-held_one_more x count first some = omega (arith, length-words_held x (count + 1) first (omega arith), length-words_held x count first some)
+pub held_one_more : (x count first : ℕ) → 0 < count → length (repeated_words x (count + 1) first) ≤ length (repeated_words x count first) + 1
+held_one_more x count first some = omega (arith, length-repeated_words x (count + 1) first (omega arith), length-repeated_words x count first some)
 
 -- held words are never none
-pub held_never : (x count first : ℕ) → words_held x count first ≡ [] → ⊥
+pub held_never : (x count first : ℕ) → repeated_words x count first ≡ [] → ⊥
 held_never x count first none = omega (arith, ap length none, words_some x count first)
 
 -- ---- words that are written one after another
@@ -85,14 +85,14 @@ module _ {Word B E S : Type 0} (number : Word → ℕ) (holds : holding.Ghosts B
       }
 
   -- held words, the first of which were written
-  pub held_written : (x first i : ℕ) → 1 ≤ i → (old mid new : B) → WritesAll number holds writes (words_held x i first) old (Ok tt) mid → WritesAll number holds writes (x ∷ []) mid (Ok tt) new
-      → WritesAll number holds writes (words_held x (i + 1) first) old (Ok tt) new
+  pub held_written : (x first i : ℕ) → 1 ≤ i → (old mid new : B) → WritesAll number holds writes (repeated_words x i first) old (Ok tt) mid → WritesAll number holds writes (x ∷ []) mid (Ok tt) new
+      → WritesAll number holds writes (repeated_words x (i + 1) first) old (Ok tt) new
   held_written x first i some old mid new before more =
-      subst (λ (ws : List ℕ). WritesAll number holds writes ws old (Ok tt) new) (held_more x i first some) (then_all (words_held x i first) (x ∷ []) old mid new (Ok tt) before more)
+      subst (λ (ws : List ℕ). WritesAll number holds writes ws old (Ok tt) new) (held_more x i first some) (then_all (repeated_words x i first) (x ∷ []) old mid new (Ok tt) before more)
 
-  pub held_refused : (x count first i : ℕ) → 1 ≤ i → i < count → (old mid new : B) (e : E) → WritesAll number holds writes (words_held x i first) old (Ok tt) mid → WritesAll number holds writes (x ∷ []) mid (Err e) new
-      → WritesAll number holds writes (words_held x count first) old (Err e) new
+  pub held_refused : (x count first i : ℕ) → 1 ≤ i → i < count → (old mid new : B) (e : E) → WritesAll number holds writes (repeated_words x i first) old (Ok tt) mid → WritesAll number holds writes (x ∷ []) mid (Err e) new
+      → WritesAll number holds writes (repeated_words x count first) old (Err e) new
   held_refused x count first i some less old mid new e before refused =
       let more = ap (λ (ws : List ℕ). replicate (count - (i + 1)) x ++ ws) (held_more x i first some) ∙ held_part x count first (i + 1) (omega arith) (omega (arith, less)) in
       subst (λ (ws : List ℕ). WritesAll number holds writes ws old (Err e) new) more
-      (part_refused (x ∷ words_held x i first) (replicate (count - (i + 1)) x) old new e (then_all (words_held x i first) (x ∷ []) old mid new (Err e) before refused))
+      (part_refused (x ∷ repeated_words x i first) (replicate (count - (i + 1)) x) old new e (then_all (repeated_words x i first) (x ∷ []) old mid new (Err e) before refused))

@@ -3,7 +3,7 @@ use Rattle.std.proofs.Common.{◌≡◌, ◌↔◌, ℕ, ◌+◌, ◌-◌, ◌*�
 use Rattle.std.proofs.Math.Nat.{pow-le-pow_right}
 use Rattle.std.proofs.lemmas.Bool.{cases_lt}
 use Rattle.constriction_queue.specs.Range.{Run, cut, grown}
-use Rattle.constriction_queue.specs.Encoder.{number_of, words_held, run_of}
+use Rattle.constriction_queue.specs.Encoder.{number_of, repeated_words, run_of}
 use Rattle.constriction_base.proofs.Heads.{pow-split}
 use Rattle.constriction_queue.proofs.Runs.{same_run, part_inside}
 use Rattle.constriction_queue.proofs.Carry.{inverted_stays, not_less, less, carry_held, length-held, one_more_held, shift_number, top_ones, shifted_below, not_greatest, over_stays, first_not_ones}
@@ -54,9 +54,9 @@ part_run w s P left p l r z l1 r1 words z_is r1_is l1_is =
 -- held words are let go, with a carry exactly where the lower end wrapped
 pub released_run : (w s P left p l r z l1 r1 count first : ℕ) (carry : Bool) (held words : List ℕ)
     → z ≡ r / 2 ^ P → l1 ≡ (l + z * left) % 2 ^ s → r1 ≡ z * p → left + p ≤ 2 ^ P → l < 2 ^ s → r < 2 ^ s
-    → held ≡ words_held (if carry then 0 else 2 ^ w - 1) count (if carry then first + 1 else first)
+    → held ≡ repeated_words (if carry then 0 else 2 ^ w - 1) count (if carry then first + 1 else first)
     → (IsTrue carry ↔ (l1 < l))
-    → run_of w s (held ++ words) l1 r1 ≡ cut (record { precision = P; left = left; p = p }) (run_of w s (words_held (2 ^ w - 1) count first ++ words) l r)
+    → run_of w s (held ++ words) l1 r1 ≡ cut (record { precision = P; left = left; p = p }) (run_of w s (repeated_words (2 ^ w - 1) count first ++ words) l r)
 released_run w s P left p l r z l1 r1 count first true held words z_is l1_is r1_is total l_fits r_fits held_is wrapped =
     let part = rw (← z_is) at (part_inside r (2 ^ P) left p total) in
     let back : l1 + 2 ^ s ≡ l + z * left = rw l1_is (less l (z * left) (2 ^ s) l_fits (omega arith) (rw (← l1_is) (wrapped.0 refl))) in
@@ -72,7 +72,7 @@ released_run w s P left p l r z l1 r1 count first false held words z_is l1_is r1
       | inr high ↦ high
     ] in
     let same : l1 ≡ l + z * left = l1_is ∙ not_less l (z * left) (2 ^ s) l_fits (omega arith) (rw (← l1_is) above) in
-    rw held_is (part_run w s P left p l r z l1 r1 (words_held (2 ^ w - 1) count first ++ words) z_is r1_is same)
+    rw held_is (part_run w s P left p l r z l1 r1 (repeated_words (2 ^ w - 1) count first ++ words) z_is r1_is same)
 
 -- ---- a shift
 pub long_run : (w s : ℕ) (r : Run) → 2 ^ (s - w) ≤ r.range → r ≡ grown w s r
@@ -96,12 +96,12 @@ shifted_run w s l r t l1 r1 words wide fits short t_is l1_is r1_is =
 -- and is held behind others
 pub held_run : (w s l r l1 r1 count first : ℕ) (words : List ℕ) → w ≤ s → l < 2 ^ s → r < 2 ^ (s - w) → 2 ^ s ≤ l + r → 0 < count
     → l1 ≡ l % 2 ^ (s - w) * 2 ^ w → r1 ≡ r * 2 ^ w
-    → run_of w s (words_held (2 ^ w - 1) (count + 1) first ++ words) l1 r1 ≡ grown w s (run_of w s (words_held (2 ^ w - 1) count first ++ words) l r)
+    → run_of w s (repeated_words (2 ^ w - 1) (count + 1) first ++ words) l1 r1 ≡ grown w s (run_of w s (repeated_words (2 ^ w - 1) count first ++ words) l r)
 held_run w s l r l1 r1 count first words wide fits short over some l1_is r1_is =
     let split = pow-split s w wide in
     let ones = top_ones l r (2 ^ w) (2 ^ (s - w)) (pow_pos (s - w)) (pow_pos w) (rw split fits) short (rw split over) in
     rw (one_more_held (2 ^ w - 1) count first words some)
-    (shifted_run w s l r (2 ^ w - 1) l1 r1 (words_held (2 ^ w - 1) count first ++ words) wide fits short (sym ones) l1_is r1_is)
+    (shifted_run w s l r (2 ^ w - 1) l1 r1 (repeated_words (2 ^ w - 1) count first ++ words) wide fits short (sym ones) l1_is r1_is)
 
 -- ---- what fits after a shift
 pub lower_fits : (w s l : ℕ) → w ≤ s → l % 2 ^ (s - w) * 2 ^ w < 2 ^ s

@@ -1,7 +1,7 @@
 -- A decoder's numbers as it reads, over plain numbers.
 use Rattle.std.proofs.Common.{◌≡◌, ℕ, zero, suc, ◌+◌, ◌-◌, ◌*◌, ◌/◌, ◌%◌, ◌^◌, ◌<◌, ◌≤◌, List, [], ◌∷◌, drop, get_or, refl, sym, ap, ◌∙◌, arith, pow_pos, mod-lt, div-add-mod', mod-eq_of_lt, suc-add, lt-ltb, le-ltb, mul-le-mul_right, le-div_iff_mul-le, lit<, inl, inr}
 use native.Mathlib.Nat.{add-mul-mod_self_right, add-mod_right}
-use Rattle.constriction_queue.specs.Range.{Run, IsAt, Takes, cut, grown, number_read}
+use Rattle.constriction_queue.specs.Range.{Run, IsAt, QuantileInInterval, cut, grown, number_read}
 use Rattle.constriction_queue.proofs.Carry.{wraps}
 use Rattle.constriction_queue.proofs.Runs.{part_inside}
 use Rattle.std.proofs.Math.Nat.{pow-le-pow_right}
@@ -110,7 +110,7 @@ at_cut w s P left p ws r lower range point z lower' range' rest z_is lower_is ra
 
 pub takes_is : (w s P left p : ℕ) (ws : List ℕ) (r : Run) (lower range point x : ℕ) (rest : List ℕ)
     → x ≡ (point + (2 ^ s - lower)) % 2 ^ s / (range / 2 ^ P) → left ≤ x → x < left + p
-    → IsAt w s ws r lower range point rest → Takes w s ws (record { precision = P; left = left; p = p }) r
+    → IsAt w s ws r lower range point rest → QuantileInInterval w s ws (record { precision = P; left = left; p = p }) r
 takes_is w s P left p ws r lower range point x rest x_is from below h =
     let same : (point + (2 ^ s - lower)) % 2 ^ s ≡ (number_read w s ws r.moves + (2 ^ s - r.low % 2 ^ s)) % 2 ^ s =
     rw (h.point_is, h.lower_is) (mod_sum (number_read w s ws r.moves) (2 ^ s - r.low % 2 ^ s) (2 ^ s) (pow_pos s)) in

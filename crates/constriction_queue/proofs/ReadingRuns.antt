@@ -1,7 +1,7 @@
 -- A list of steps is read exactly if the number lies in the run's last interval.
 use Rattle.std.proofs.Common.{◌≡◌, ℕ, ◌+◌, ◌-◌, ◌*◌, ◌/◌, ◌^◌, ◌<◌, ◌≤◌, List, [], ◌∷◌, get_or, ◌↔◌, arith, pow_pos}
 use Rattle.constriction_base.specs.Steps.{Step, IsStep, AreSteps, IsSizes, AreWords}
-use Rattle.constriction_queue.specs.Range.{Run, initial, scale, cut, grown, narrowed_by, run, IsInterval, number_read, offset, Takes, ReadAs, Within}
+use Rattle.constriction_queue.specs.Range.{Run, initial, scale, cut, grown, narrowed_by, run, IsInterval, number_read, offset, QuantileInInterval, ReadAs, Within}
 use Rattle.constriction_base.proofs.Sizes.{table_fits}
 use Rattle.constriction_queue.proofs.Cuts.{offset_is, from_quantile, to_quantile, from_quantile_below, to_quantile_below, more_from, less_from, more_below, less_below, scale_pos}
 use Rattle.constriction_queue.proofs.WordsRead.{point_more, first_point}
@@ -47,7 +47,7 @@ module _ (w s : ℕ) (ws : List ℕ) (z : IsSizes w s) (words : AreWords w ws) w
   scale_above e r h v = scale_pos r.range (2 ^ e.precision) (2 ^ (s - w)) (pow_pos e.precision) (table_fits w s e z h) v.least
 
   -- what is read as a step lies in the step's part
-  within_cut : (e : Step) (r : Run) → IsStep w e → IsInterval w s r → Near w s ws r → Takes w s ws e r → Within w s ws (cut e r)
+  within_cut : (e : Step) (r : Run) → IsStep w e → IsInterval w s r → Near w s ws r → QuantileInInterval w s ws e r → Within w s ws (cut e r)
   within_cut e r h v near t =
       let hz = scale_above e r h v in
       let d : offset w s ws r ≡ number_read w s ws r.moves - r.low = offset_is r.low (number_read w s ws r.moves) (2 ^ s) (pow_pos s) near.from near.below in
@@ -56,7 +56,7 @@ module _ (w s : ℕ) (ws : List ℕ) (z : IsSizes w s) (words : AreWords w ws) w
         below = from_quantile_below r.low (scale e r) e.left e.p (number_read w s ws r.moves) hz near.from (rw d at t.below);
       }
 
-  takes_cut : (e : Step) (r : Run) → IsStep w e → IsInterval w s r → Within w s ws (cut e r) → Takes w s ws e r × Within w s ws r
+  takes_cut : (e : Step) (r : Run) → IsStep w e → IsInterval w s r → Within w s ws (cut e r) → QuantileInInterval w s ws e r × Within w s ws r
   takes_cut e r h v i =
       let hz = scale_above e r h v in
       let part : scale e r * e.left + scale e r * e.p ≤ r.range = part_inside r.range (2 ^ e.precision) e.left e.p h.inside in
@@ -70,10 +70,10 @@ module _ (w s : ℕ) (ws : List ℕ) (z : IsSizes w s) (words : AreWords w ws) w
         record { from = from; below = below },
       )
 
-  within_narrow : (e : Step) (r : Run) → IsStep w e → IsInterval w s r → Near w s ws r → Takes w s ws e r → Within w s ws (narrowed_by w s e r)
+  within_narrow : (e : Step) (r : Run) → IsStep w e → IsInterval w s r → Near w s ws r → QuantileInInterval w s ws e r → Within w s ws (narrowed_by w s e r)
   within_narrow e r h v near t = grown_within w s ws (cut e r) words (within_cut e r h v near t)
 
-  pub takes_narrow : (e : Step) (r : Run) → IsStep w e → IsInterval w s r → Within w s ws (narrowed_by w s e r) → Takes w s ws e r × Within w s ws r
+  pub takes_narrow : (e : Step) (r : Run) → IsStep w e → IsInterval w s r → Within w s ws (narrowed_by w s e r) → QuantileInInterval w s ws e r × Within w s ws r
   takes_narrow e r h v i = takes_cut e r h v (within_grown w s ws (cut e r) words i)
 
   pub within_run : (es : List Step) (r : Run) → AreSteps w es → IsInterval w s r → Within w s ws r → ReadAs w s ws es r → Within w s ws (run w s es r)

@@ -5,7 +5,7 @@ use Rattle.constriction_base.specs.Steps.{Step}
 use Rattle.constriction_base.specs.declared.backends.reading.Holds as holding
 use Rattle.constriction_base.specs.declared.backends.writing.WriteWords as writing
 use Rattle.constriction_queue.specs.Range.{Run, cut, grown, narrowed_by}
-use Rattle.constriction_queue.specs.Encoder.{Encoder, Owes, held_of, run_by}
+use Rattle.constriction_queue.specs.Encoder.{Encoder, Flushes, pending_of, run_by}
 use Rattle.constriction_queue.specs.Calls.{IsRefused}
 
 -- a step moves a run by one word at most
@@ -16,10 +16,10 @@ grown_moves w s r = elim (cases_lt r.range (2 ^ (s - w))) [
 ]
 
 -- so it owes no more words than were held, and one more
-pub owed_few : {Word B : Type 0} (number : Word → ℕ) (w s : ℕ) (step : Step) (old : Encoder B) (owed : List ℕ) → Owes number w s step old owed
+pub owed_few : {Word B : Type 0} (number : Word → ℕ) (w s : ℕ) (step : Step) (old : Encoder B) (owed : List ℕ) → Flushes number w s step old owed
     → length owed ≤ length old.held + 1
 owed_few number w s step old owed owes =
-    let held : List ℕ = held_of number w owes.situation in
+    let held : List ℕ = pending_of number w owes.situation in
     let moves : length (held ++ (owed ++ old.words)) ≡ (narrowed_by w s step (run_by w s old)).moves = ap (λ (r : Run). r.moves) owes.is in
     let step_moves : (narrowed_by w s step (run_by w s old)).moves ≤ length (old.held ++ old.words) + 1 = grown_moves w s (cut step (run_by w s old)) in
     omega (arith, moves, step_moves, length-append held (owed ++ old.words), length-append owed old.words, length-append old.held old.words)

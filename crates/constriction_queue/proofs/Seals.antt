@@ -9,7 +9,7 @@ use Rattle.constriction_queue.specs.Range.{sealed}
 use Rattle.constriction_base.specs.Digits.{fixed_digits}
 use Rattle.constriction_queue.specs.declared.situation.EncoderSituation.{EncoderSituation}
 use Rattle.constriction_queue.specs.declared.situation.EncoderSituation.TheVariants.{Normal, Inverted}
-use Rattle.constriction_queue.specs.Encoder.{number_of, words_held, run_of, IsCarried, held_of, PartsFit, CanCarry}
+use Rattle.constriction_queue.specs.Encoder.{number_of, repeated_words, run_of, IsCarried, pending_of, PartsFit, CanCarry}
 use Rattle.constriction_base.proofs.Heads.{pow-split}
 use Rattle.constriction_queue.proofs.Carry.{carry_held, length-held, not_less, less, pred_times}
 
@@ -22,13 +22,13 @@ words_after : (w x k : ℕ) (ws : List ℕ) → x < 2 ^ w → AreWords w ws → 
 words_after w x zero ws h all = all
 words_after w x (suc k) ws h all = (h, words_after w x k ws h all)
 
-pub words_held_fit : (w x count first : ℕ) (ws : List ℕ) → x < 2 ^ w → first < 2 ^ w → AreWords w ws → AreWords w (words_held x count first ++ ws)
+pub words_held_fit : (w x count first : ℕ) (ws : List ℕ) → x < 2 ^ w → first < 2 ^ w → AreWords w ws → AreWords w (repeated_words x count first ++ ws)
 words_held_fit w x count first ws h f all = rw append_assoc (words_after w x (count - 1) (first ∷ ws) h (f, all))
 
 -- held words that are let go
 pub carried_held : (w count first : ℕ) (carry : Bool) (held ws : List ℕ) → first + 1 < 2 ^ w → AreWords w ws
-    → held ≡ words_held (if carry then 0 else 2 ^ w - 1) count (if carry then first + 1 else first)
-    → IsCarried w carry (words_held (2 ^ w - 1) count first ++ ws) (held ++ ws)
+    → held ≡ repeated_words (if carry then 0 else 2 ^ w - 1) count (if carry then first + 1 else first)
+    → IsCarried w carry (repeated_words (2 ^ w - 1) count first ++ ws) (held ++ ws)
 carried_held w count first true held ws fits all is = record {
   number = rw is (carry_held (2 ^ w) count first ws (pow_pos w));
   len = rw is (length-held 0 (2 ^ w - 1) count (first + 1) first ws);
@@ -123,7 +123,7 @@ can_carry number w s (Inverted count first) l r point carry fit long point_is wr
 
 -- the greatest range: nothing is held
 pub held_start : {Word : Type 0} (number : Word → ℕ) (w s : ℕ) (situation : EncoderSituation Word) (l r : ℕ)
-    → PartsFit number w s situation l r → r + 1 ≡ 2 ^ s → (held_of number w situation ≡ []) × (l + r < 2 ^ s)
+    → PartsFit number w s situation l r → r + 1 ≡ 2 ^ s → (pending_of number w situation ≡ []) × (l + r < 2 ^ s)
 held_start number w s Normal l r fit whole = (refl, fit)
 held_start number w s (Inverted count first) l r fit whole = absurd (let small = fit.2 in omega arith)
 

@@ -4,7 +4,7 @@ use Rattle.std.proofs.Common.{◌≡◌, ℕ, zero, suc, ◌-◌, List, [], ◌�
 use Rattle.std.proofs.lemmas.List.{length-reverse, reverse-append, reverse-reverse}
 use Rattle.std.specs.Int.NonZero.{non_zero_usize_get}
 use Rattle.constriction_queue.specs.declared.situation.HeldWords.{HeldWords}
-use Rattle.constriction_queue.specs.Encoder.{first_held, first_owed, owed_of, released_of, word_of}
+use Rattle.constriction_queue.specs.Encoder.{pending_in_order, flushed_in_order, flushed_of, released_of, word_of}
 use Rattle.constriction_base.proofs.Turns.{map-reverse}
 use Rattle.std.proofs.Math.Seq.{drop-append_seam}
 
@@ -17,7 +17,7 @@ reverse_same : (x k : ℕ) → reverse (replicate k x) ≡ replicate k x
 reverse_same x zero = refl
 reverse_same x (suc k) = reverse-append (x ∷ []) (replicate k x) ∙ ap (λ (ws : List ℕ). ws ++ (x ∷ [])) (reverse_same x k) ∙ one_behind x k
 
-turned_held : {Word : Type 0} (number : Word → ℕ) (held : Option (HeldWords Word)) → reverse (released_of number held) ≡ first_held number held
+turned_held : {Word : Type 0} (number : Word → ℕ) (held : Option (HeldWords Word)) → reverse (released_of number held) ≡ pending_in_order number held
 turned_held number None = refl
 turned_held number (Some h) =
     reverse-append (replicate (non_zero_usize_get h.count - 1) (number h.others)) (number h.first ∷ [])
@@ -29,27 +29,27 @@ turned_word number (Some x) = refl
 
 -- what is owed, the other way round
 pub turned_owed : {Word : Type 0} (number : Word → ℕ) (held : Option (HeldWords Word)) (top last : Option Word)
-    → reverse (owed_of number held top last) ≡ first_owed number held top last
+    → reverse (flushed_of number held top last) ≡ flushed_in_order number held top last
 turned_owed number held top last =
-    let two : reverse (word_of number top ++ released_of number held) ≡ first_held number held ++ word_of number top =
+    let two : reverse (word_of number top ++ released_of number held) ≡ pending_in_order number held ++ word_of number top =
     reverse-append (word_of number top) (released_of number held)
     ∙ ap (λ (ws : List ℕ). ws ++ reverse (word_of number top)) (turned_held number held)
-    ∙ ap (λ (ws : List ℕ). first_held number held ++ ws) (turned_word number top) in
+    ∙ ap (λ (ws : List ℕ). pending_in_order number held ++ ws) (turned_word number top) in
     reverse-append (word_of number last) (word_of number top ++ released_of number held)
     ∙ ap (λ (ws : List ℕ). ws ++ reverse (word_of number last)) two
-    ∙ ap (λ (ws : List ℕ). (first_held number held ++ word_of number top) ++ ws) (turned_word number last)
-    ∙ append_assoc (first_held number held) (word_of number top) (word_of number last)
+    ∙ ap (λ (ws : List ℕ). (pending_in_order number held ++ word_of number top) ++ ws) (turned_word number last)
+    ∙ append_assoc (pending_in_order number held) (word_of number top) (word_of number last)
 
 -- the words that a backend lends, and behind them what is owed
 pub shown_is : {Word : Type 0} (number : Word → ℕ) (words lent : List Word) (held : Option (HeldWords Word)) (top last : Option Word) (all : List ℕ) → words ≡ reverse lent
-    → reverse (owed_of number held top last ++ map number words) ≡ all
-    → map number lent ++ first_owed number held top last ≡ all
+    → reverse (flushed_of number held top last ++ map number words) ≡ all
+    → map number lent ++ flushed_in_order number held top last ≡ all
 shown_is number words lent held top last all is sealed_is =
     let below : reverse (map number words) ≡ map number lent =
     ap (λ ws. reverse (map number ws)) is ∙ ap reverse (map-reverse number lent) ∙ reverse-reverse (map number lent) in
     ap (λ ws. map number lent ++ ws) (sym (turned_owed number held top last))
-    ∙ ap (λ ws. ws ++ reverse (owed_of number held top last)) (sym below)
-    ∙ sym (reverse-append (owed_of number held top last) (map number words)) ∙ sealed_is
+    ∙ ap (λ ws. ws ++ reverse (flushed_of number held top last)) (sym below)
+    ∙ sym (reverse-append (flushed_of number held top last) (map number words)) ∙ sealed_is
 
 -- the word in front, where words that are read stand before it
 pub next_shown : {X : Type 0} (number : X → ℕ) (below : List X) (seal rest : List ℕ) (x : ℕ) → length below ≡ 0 → seal ≡ x ∷ rest → map number below ++ seal ≡ x ∷ (map number below ++ rest)
@@ -62,9 +62,9 @@ queue_is number stack is sealed_is = ap (map number) is ∙ map-reverse number s
 
 -- behind the words written stands in the sealed ones what is owed
 pub behind_written : {Word : Type 0} (number : Word → ℕ) (held : Option (HeldWords Word)) (top last : Option Word) (ws all : List ℕ)
-    → reverse (owed_of number held top last ++ ws) ≡ all → first_owed number held top last ≡ drop (length ws) all
+    → reverse (flushed_of number held top last ++ ws) ≡ all → flushed_in_order number held top last ≡ drop (length ws) all
 behind_written number held top last ws all is =
     sym (turned_owed number held top last)
-    ∙ sym (drop-append_seam (reverse ws) (reverse (owed_of number held top last)))
-    ∙ ap (λ (l : List ℕ). drop (length (reverse ws)) l) (sym (reverse-append (owed_of number held top last) ws) ∙ is)
+    ∙ sym (drop-append_seam (reverse ws) (reverse (flushed_of number held top last)))
+    ∙ ap (λ (l : List ℕ). drop (length (reverse ws)) l) (sym (reverse-append (flushed_of number held top last) ws) ∙ is)
     ∙ ap (λ n. drop n all) (length-reverse ws)

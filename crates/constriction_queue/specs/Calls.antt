@@ -12,14 +12,14 @@ use Rattle.constriction_base.specs.declared.errors.ReadWriteError.TheVariants.{R
 use Rattle.constriction_queue.specs.Range.{narrowed_by}
 use Rattle.constriction_queue.specs.declared.situation.EncoderSituation.{EncoderSituation}
 use Rattle.constriction_queue.specs.declared.step.Shifted.{Shifted}
-use Rattle.constriction_queue.specs.Encoder.{Encoder, IsEncoder, HasHeads, Owes, PartsFit, encoder_of, run_by, sealed_by, shifted_over}
+use Rattle.constriction_queue.specs.Encoder.{Encoder, IsEncoder, HasHeads, Flushes, PartsFit, encoder_of, run_by, sealed_by, shifted_over}
 use Rattle.constriction_queue.specs.Decoder.{Decoder, IsDecoder, StandsAtStart, Follows, BeginsOver, RefusesPoint, quantile_read, OwesRead, ReadsStep}
 use Rattle.constriction_queue.specs.SelfDelimiting.{SelfDelimits}
 
 -- The encoder writes the words that the step has to write.
 pub record IsWritten {Word B E : Type 0} (number : Word → ℕ) (writes : writing.Ghosts B Word E) (w s : ℕ) (old : Encoder B) (step : Step) (new : Encoder B) : Type 0 where
   pub owed : List ℕ
-  pub owes : Owes number w s step old owed
+  pub owes : Flushes number w s step old owed
   pub words : new.words ≡ owed ++ old.words
   -- The room shrinks by at most the number of words written.
   pub room_used : writes.room old.bulk ≤ writes.room new.bulk + length owed
@@ -29,7 +29,7 @@ pub record IsWritten {Word B E : Type 0} (number : Word → ℕ) (writes : writi
 -- The backend refuses room for the words that the step has to write, or refuses a write.
 pub record IsRefused {Word B E S : Type 0} (number : Word → ℕ) (holds : holding.Ghosts B Word S) (writes : writing.Ghosts B Word E) (w s : ℕ) (old : Encoder B) (step : Step) (e : E) (new : Encoder B) : Type 0 where
   pub owed : List ℕ
-  pub owes : Owes number w s step old owed
+  pub owes : Flushes number w s step old owed
   -- The backend takes a proper beginning of these words, which may be empty.
   pub begun : IsBegun owed old.words new.words
   -- The room of the old backend is less than the number of these words.

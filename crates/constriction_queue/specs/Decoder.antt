@@ -68,22 +68,22 @@ OwesRead w s e range = range / 2 ^ e.precision * e.p < 2 ^ (s - w)
 -- ---- reads
 
 -- One read returns a word with the number `x`, or the read returns no word and `x` is 0.
-abbrev pub TakesWord : {Word E B S : Type 0} → (Word → ℕ) → reading.Ghosts B Word S E → B → ℕ → B → Type 0
-TakesWord {Word} number reads old x new = ((word : Word) × reads.reads old (Ok (Some word)) new × (x ≡ number word)) ⊎ (reads.reads old (Ok None) new × (x ≡ 0))
+abbrev pub WordRead : {Word E B S : Type 0} → (Word → ℕ) → reading.Ghosts B Word S E → B → ℕ → B → Type 0
+WordRead {Word} number reads old x new = ((word : Word) × reads.reads old (Ok (Some word)) new × (x ≡ number word)) ⊎ (reads.reads old (Ok None) new × (x ≡ 0))
 
 -- Successive reads return the words with these numbers, one word a read.
-abbrev pub TakesWords : {Word E B S : Type 0} → (Word → ℕ) → reading.Ghosts B Word S E → B → List ℕ → B → Type 0
-TakesWords number reads old [] new = new ≡ old
-TakesWords {Word} {B = B} number reads old (x ∷ xs) new =
-    (word : Word) × (between : B) × reads.reads old (Ok (Some word)) between × (x ≡ number word) × TakesWords number reads between xs new
+abbrev pub WordListRead : {Word E B S : Type 0} → (Word → ℕ) → reading.Ghosts B Word S E → B → List ℕ → B → Type 0
+WordListRead number reads old [] new = new ≡ old
+WordListRead {Word} {B = B} number reads old (x ∷ xs) new =
+    (word : Word) × (between : B) × reads.reads old (Ok (Some word)) between × (x ≡ number word) × WordListRead number reads between xs new
 
 -- Takes `x` as the next word of a point. The two `Bool`s state whether the words had ended before, and whether they
 -- have ended after. If the words have ended after, `x` is 0. If they had ended before, no read is made.
-abbrev pub TakesNext : {Word E B S : Type 0} → (Word → ℕ) → reading.Ghosts B Word S E → B → Bool → ℕ → Bool → B → Type 0
-TakesNext {Word} number reads old false x false new = (word : Word) × reads.reads old (Ok (Some word)) new × (x ≡ number word)
-TakesNext number reads old true x false new = ⊥
-TakesNext number reads old false x true new = reads.reads old (Ok None) new × (x ≡ 0)
-TakesNext number reads old true x true new = (new ≡ old) × (x ≡ 0)
+abbrev pub PointWordRead : {Word E B S : Type 0} → (Word → ℕ) → reading.Ghosts B Word S E → B → Bool → ℕ → Bool → B → Type 0
+PointWordRead {Word} number reads old false x false new = (word : Word) × reads.reads old (Ok (Some word)) new × (x ≡ number word)
+PointWordRead number reads old true x false new = ⊥
+PointWordRead number reads old false x true new = reads.reads old (Ok None) new × (x ≡ 0)
+PointWordRead number reads old true x true new = (new ≡ old) × (x ≡ 0)
 
 -- The point is the number formed by the first `s / w` words of the old backend, with zero words past the end. The new
 -- backend has the words after them.
@@ -95,14 +95,14 @@ HasPoint number holds w s old point new =
 -- last one, returns no word. The point is the number formed by these words, with zero words for the missing words.
 abbrev pub ReadsPoint : {Word E B S : Type 0} → (Word → ℕ) → reading.Ghosts B Word S E → ℕ → ℕ → B → ℕ → B → Type 0
 ReadsPoint {B = B} number reads w s old point new =
-    (xs : List ℕ) × (((length xs ≡ s / w) × TakesWords number reads old xs new)
-    ⊎ ((length xs < s / w) × ((end : B) × TakesWords number reads old xs end × reads.reads end (Ok None) new)))
+    (xs : List ℕ) × (((length xs ≡ s / w) × WordListRead number reads old xs new)
+    ⊎ ((length xs < s / w) × ((end : B) × WordListRead number reads old xs end × reads.reads end (Ok None) new)))
     × (point ≡ number_of_first (2 ^ w) (s / w) xs)
 
 -- A read of a word for a point returns the error `e`. Fewer than `s / w` reads come before, and each returns a word.
 abbrev pub RefusesPoint : {Word E B S : Type 0} → (Word → ℕ) → reading.Ghosts B Word S E → ℕ → ℕ → B → E → B → Type 0
 RefusesPoint {B = B} number reads w s old e new =
-    (xs : List ℕ) × (length xs < s / w) × ((before : B) × TakesWords number reads old xs before × reads.reads before (Err e) new)
+    (xs : List ℕ) × (length xs < s / w) × ((before : B) × WordListRead number reads old xs before × reads.reads before (Err e) new)
 
 -- The decoder has decoded no symbol, and it reads its point from the backend `first`.
 abbrev pub BeginsOver : {Word E B S : Type 0} → (Word → ℕ) → reading.Ghosts B Word S E → ℕ → ℕ → B → Decoder B → Type 0
@@ -117,7 +117,7 @@ LeadsOn w s next taken old new =
 -- The decoder goes from each run `r` to `next r`. It makes exactly one read if `owes` holds, and otherwise no read.
 abbrev pub ReadsOn : {Word E B S : Type 0} → (Word → ℕ) → reading.Ghosts B Word S E → ℕ → ℕ → (Run → Run) → Type 0 → Decoder B → Decoder B → Type 0
 ReadsOn number reads w s next owes old new =
-    (owes × ((x : ℕ) × TakesWord number reads old.bulk x new.bulk × LeadsOn w s next (x ∷ []) old new))
+    (owes × ((x : ℕ) × WordRead number reads old.bulk x new.bulk × LeadsOn w s next (x ∷ []) old new))
     ⊎ ((owes → ⊥) × (new.bulk ≡ old.bulk) × LeadsOn w s next [] old new)
 
 -- The decoder takes the step. It makes exactly one read if it has to read a word, and otherwise no read.

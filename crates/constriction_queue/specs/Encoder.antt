@@ -17,19 +17,19 @@ number_of b [] = 0
 number_of b (w ∷ ws) = number_of b ws * b + w
 
 -- A list of `count` words: in writing order, `first` comes first, and every word after it equals `others`.
-abbrev pub words_held : ℕ → ℕ → ℕ → List ℕ
-words_held others count first = replicate (count - 1) others ++ first ∷ []
+abbrev pub repeated_words : ℕ → ℕ → ℕ → List ℕ
+repeated_words others count first = replicate (count - 1) others ++ first ∷ []
 
 -- Returns `count` pending words, the first of them `first` in writing order. A carry is added to the words if `carry`
 -- is true.
-abbrev pub words_let_go : ℕ → Bool → ℕ → ℕ → List ℕ
-words_let_go w carry count first = words_held (if carry then 0 else 2 ^ w - 1) count (if carry then first + 1 else first)
+abbrev pub words_with_carry : ℕ → Bool → ℕ → ℕ → List ℕ
+words_with_carry w carry count first = repeated_words (if carry then 0 else 2 ^ w - 1) count (if carry then first + 1 else first)
 
 -- The pending words (outstanding words), which a carry may still change. In writing order, the first of them comes
 -- first, and every word after it is all ones.
-abbrev pub held_of : {Word : Type 0} → (Word → ℕ) → ℕ → EncoderSituation Word → List ℕ
-held_of number w Normal = []
-held_of number w (Inverted count first) = words_held (2 ^ w - 1) (non_zero_usize_get count) (number first)
+abbrev pub pending_of : {Word : Type 0} → (Word → ℕ) → ℕ → EncoderSituation Word → List ℕ
+pending_of number w Normal = []
+pending_of number w (Inverted count first) = repeated_words (2 ^ w - 1) (non_zero_usize_get count) (number first)
 
 -- The situation fits the interval. If no word is pending, the interval ends below `2 ^ s`. If words are pending, the
 -- interval ends at `2 ^ s` or above, and its length isn't the length before the first symbol. The first pending word
@@ -51,7 +51,7 @@ pub record Encoder (B : Type 0) : Type 0 where
 -- The value of the encoder with this interval, backend and situation.
 abbrev pub encoder_of : {Word B S : Type 0} → (Word → ℕ) → holding.Ghosts B Word S → ℕ → ℕ → ℕ → B → EncoderSituation Word → Encoder B
 encoder_of number holds w lower range bulk situation =
-    record { bulk = bulk; words = map number (holds.words bulk); held = held_of number w situation; lower = lower; range = range }
+    record { bulk = bulk; words = map number (holds.words bulk); held = pending_of number w situation; lower = lower; range = range }
 
 -- The value of the encoder with the interval and the situation that a step returns, over this backend.
 abbrev pub shifted_over : {Word State B S : Type 0} → (Word → ℕ) → (State → ℕ) → holding.Ghosts B Word S → ℕ → Shifted Word State → B → Encoder B
@@ -68,7 +68,7 @@ pub record IsEncoder {Word B S : Type 0} (number : Word → ℕ) (holds : holdin
   pub sizes : IsSizes w s
   pub words_are : e.words ≡ map number (holds.words e.bulk)
   pub situation : EncoderSituation Word
-  pub held_is : e.held ≡ held_of number w situation
+  pub held_is : e.held ≡ pending_of number w situation
   pub fits : PartsFit number w s situation e.lower e.range
   pub least : 2 ^ (s - w) ≤ e.range
   pub lower_fits : e.lower < 2 ^ s
@@ -82,7 +82,7 @@ run_of w s words lower range = record { low = number_of (2 ^ w) words * 2 ^ s + 
 -- holds for every list of words written earlier.
 abbrev pub ChangesRun : {Word : Type 0} → (Word → ℕ) → ℕ → ℕ → (Run → Run) → EncoderSituation Word → ℕ → ℕ → List ℕ → EncoderSituation Word → ℕ → ℕ → Type 0
 ChangesRun number w s change situation lower range owed situation' lower' range' =
-    (words : List ℕ) → run_of w s (held_of number w situation' ++ (owed ++ words)) lower' range' ≡ change (run_of w s (held_of number w situation ++ words) lower range)
+    (words : List ℕ) → run_of w s (pending_of number w situation' ++ (owed ++ words)) lower' range' ≡ change (run_of w s (pending_of number w situation ++ words) lower range)
 
 -- The run of an encoder, from its words (written and pending) and its interval.
 abbrev pub run_by : {B : Type 0} → ℕ → ℕ → Encoder B → Run
@@ -112,16 +112,16 @@ abbrev pub left_to_encode : {B : Type 0} → Encoder B → ℕ
 left_to_encode e = 2 ^ 64 - 18 - length e.held
 
 -- One more word can become pending: the number of pending words plus 18 is below `2 ^ 64`.
-abbrev pub HasPlace : {Word : Type 0} → EncoderSituation Word → Type 0
-HasPlace Normal = Unit {0}
-HasPlace (Inverted count first) = non_zero_usize_get count + 18 < 2 ^ 64
+abbrev pub CanHoldMore : {Word : Type 0} → EncoderSituation Word → Type 0
+CanHoldMore Normal = Unit {0}
+CanHoldMore (Inverted count first) = non_zero_usize_get count + 18 < 2 ^ 64
 
 -- ---- words that a call has to write
 
 -- The words of a `HeldWords`, which are no longer pending.
 abbrev pub released_of : {Word : Type 0} → (Word → ℕ) → Option (HeldWords Word) → List ℕ
 released_of number None = []
-released_of number (Some h) = words_held (number h.others) (non_zero_usize_get h.count) (number h.first)
+released_of number (Some h) = repeated_words (number h.others) (non_zero_usize_get h.count) (number h.first)
 
 -- The list of this word, or the empty list if there is no word.
 abbrev pub word_of : {Word : Type 0} → (Word → ℕ) → Option Word → List ℕ
@@ -129,28 +129,28 @@ word_of number None = []
 word_of number (Some w) = number w ∷ []
 
 -- All words that a call has to write. In writing order, the words of `released` come first, then `top`, then `last`.
-abbrev pub owed_of : {Word : Type 0} → (Word → ℕ) → Option (HeldWords Word) → Option Word → Option Word → List ℕ
-owed_of number released top last = word_of number last ++ (word_of number top ++ released_of number released)
+abbrev pub flushed_of : {Word : Type 0} → (Word → ℕ) → Option (HeldWords Word) → Option Word → Option Word → List ℕ
+flushed_of number released top last = word_of number last ++ (word_of number top ++ released_of number released)
 
 -- The words of a `HeldWords` in writing order.
-abbrev pub first_held : {Word : Type 0} → (Word → ℕ) → Option (HeldWords Word) → List ℕ
-first_held number None = []
-first_held number (Some h) = number h.first ∷ replicate (non_zero_usize_get h.count - 1) (number h.others)
+abbrev pub pending_in_order : {Word : Type 0} → (Word → ℕ) → Option (HeldWords Word) → List ℕ
+pending_in_order number None = []
+pending_in_order number (Some h) = number h.first ∷ replicate (non_zero_usize_get h.count - 1) (number h.others)
 
--- The words of `owed_of` in writing order.
-abbrev pub first_owed : {Word : Type 0} → (Word → ℕ) → Option (HeldWords Word) → Option Word → Option Word → List ℕ
-first_owed number released top last = first_held number released ++ (word_of number top ++ word_of number last)
+-- The words of `flushed_of` in writing order.
+abbrev pub flushed_in_order : {Word : Type 0} → (Word → ℕ) → Option (HeldWords Word) → Option Word → Option Word → List ℕ
+flushed_in_order number released top last = pending_in_order number released ++ (word_of number top ++ word_of number last)
 
 -- The step has to write the words `owed`. With them and with this situation and interval, the encoder has the run after
 -- the step.
-pub record Owes {Word B : Type 0} (number : Word → ℕ) (w s : ℕ) (step : Step) (old : Encoder B) (owed : List ℕ) : Type 0 where
+pub record Flushes {Word B : Type 0} (number : Word → ℕ) (w s : ℕ) (step : Step) (old : Encoder B) (owed : List ℕ) : Type 0 where
   pub are_words : AreWords w owed
   pub situation : EncoderSituation Word
   pub lower : ℕ
   pub range : ℕ
   pub lower_fits : lower < 2 ^ s
   pub fits : PartsFit number w s situation lower range
-  pub is : run_of w s (held_of number w situation ++ (owed ++ old.words)) lower range ≡ narrowed_by w s step (run_by w s old)
+  pub is : run_of w s (pending_of number w situation ++ (owed ++ old.words)) lower range ≡ narrowed_by w s step (run_by w s old)
 
 -- Writing the part's released words and switching to the part's situation and interval cuts the run by the step.
 abbrev pub CutsRun : {Word State : Type 0} → (Word → ℕ) → (State → ℕ) → ℕ → ℕ → Step → EncoderSituation Word → State → State → Part Word State → Type 0
@@ -171,8 +171,8 @@ pub record IsCarried (w : ℕ) (carry : Bool) (old new : List ℕ) : Type 0 wher
   pub fit : AreWords w new
 
 -- The released words are the pending words with the carry added, for every list of words written earlier.
-abbrev pub LetsGo : {Word : Type 0} → (Word → ℕ) → ℕ → Bool → EncoderSituation Word → Option (HeldWords Word) → Type 0
-LetsGo number w carry situation released = (words : List ℕ) → AreWords w words → IsCarried w carry (held_of number w situation ++ words) (released_of number released ++ words)
+abbrev pub ReleasesPending : {Word : Type 0} → (Word → ℕ) → ℕ → Bool → EncoderSituation Word → Option (HeldWords Word) → Type 0
+ReleasesPending number w carry situation released = (words : List ℕ) → AreWords w words → IsCarried w carry (pending_of number w situation ++ words) (released_of number released ++ words)
 
 -- If no word is pending, there is no carry. Otherwise the first pending word isn't all ones, so it can take a carry.
 abbrev pub CanCarry : {Word : Type 0} → (Word → ℕ) → ℕ → EncoderSituation Word → Bool → Type 0

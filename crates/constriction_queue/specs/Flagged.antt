@@ -39,15 +39,15 @@ pub record Switch (B : Type 0) : Type 0 where
   pub switched : Bool
 
 -- The words encode no symbol of any model with this precision, because the quantile is `2 ^ precision` or more.
-abbrev pub HoldsNone : {B : Type 0} → ℕ → ℕ → Decoder B → Type 0
-HoldsNone s precision decoder = 2 ^ precision ≤ quantile_read s precision decoder
+abbrev pub NoSymbolFrom : {B : Type 0} → ℕ → ℕ → Decoder B → Type 0
+NoSymbolFrom s precision decoder = 2 ^ precision ≤ quantile_read s precision decoder
 
 -- The possible results of decoding one symbol with this model.
 abbrev pub DecodesUnder : {Word B E S : Type 0} → (Word → ℕ) → holding.Ghosts B Word S → reading.Ghosts B Word S E → ℕ → ℕ
     → Model ℕ → Decoder B → Result ℕ (CoderError DecoderFrontendError E) → Decoder B → Type 0
 DecodesUnder number holds reads w s model old answer new =
     DecodesSymbol (ByBackend (DecodeCall number holds reads w s))
-    (λ old error new. (error ≡ coder_error.Frontend frontend_error.InvalidData) × HoldsNone s model.precision old × (new ≡ old))
+    (λ old error new. (error ≡ coder_error.Frontend frontend_error.InvalidData) × NoSymbolFrom s model.precision old × (new ≡ old))
     model.precision model.table old answer new
 
 -- ---- encodes

@@ -24,5 +24,5 @@ abbrev pub lent_back : {A B : Type 0} → A × B → A
 lent_back exit = exit.0
 
 -- The backend has less room than there are sealed words that are not written yet.
-abbrev pub SealLacksRoom : {B : Type 0} → (B → ℕ) → ℕ → ℕ → Encoder B → Type 0
-SealLacksRoom room w s e = room e.bulk + length e.words < length (sealed_by w s e)
+abbrev pub TooShortForSeal : {B : Type 0} → (B → ℕ) → ℕ → ℕ → Encoder B → Type 0
+TooShortForSeal room w s e = room e.bulk + length e.words < length (sealed_by w s e)

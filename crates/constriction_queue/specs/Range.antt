@@ -72,14 +72,14 @@ abbrev pub offset : ℕ → ℕ → List ℕ → Run → ℕ
 offset w s ws r = (number_read w s ws r.moves + (2 ^ s - r.low % 2 ^ s)) % 2 ^ s
 
 -- The quantile that a decoder reads at this run lies in the interval of the step's symbol.
-pub record Takes (w s : ℕ) (ws : List ℕ) (e : Step) (r : Run) : Type 0 where
+pub record QuantileInInterval (w s : ℕ) (ws : List ℕ) (e : Step) (r : Run) : Type 0 where
   pub from : e.left ≤ offset w s ws r / scale e r
   pub below : offset w s ws r / scale e r < e.left + e.p
 
 -- A decoder that reads the words from this run on takes these steps, in order.
 abbrev pub ReadAs : ℕ → ℕ → List ℕ → List Step → Run → Type 0
 ReadAs w s ws [] r = ⊤
-ReadAs w s ws (e ∷ es) r = Takes w s ws e r × ReadAs w s ws es (narrowed_by w s e r)
+ReadAs w s ws (e ∷ es) r = QuantileInInterval w s ws e r × ReadAs w s ws es (narrowed_by w s e r)
 
 -- The number read from the words lies in the interval.
 pub record Within (w s : ℕ) (ws : List ℕ) (r : Run) : Type 0 where

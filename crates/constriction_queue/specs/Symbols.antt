@@ -3,7 +3,7 @@ use Rattle.std.specs.Prelude.{◌≡◌, ℕ, ◌+◌, ◌-◌, ◌*◌, ◌/◌
 use Rattle.constriction_base.specs.Steps.{InTurn}
 use Rattle.constriction_base.specs.Tables.{AtEntry}
 use Rattle.constriction_base.specs.Models.{Model, Item}
-use Rattle.constriction_queue.specs.Range.{Run, Takes, narrowed_by, offset}
+use Rattle.constriction_queue.specs.Range.{Run, QuantileInInterval, narrowed_by, offset}
 
 -- Returns the model with this precision, and with the table that the function `table` gives for `model`.
 abbrev pub model_by : {S M : Type 0} → ℕ → (M → List (S × ℕ × ℕ)) → M → Model S
@@ -16,7 +16,7 @@ Narrows w s model symbol old new = AtEntry model.precision model.table symbol (�
 -- Decoding the symbol from these words leads from the old run to the new run. The quantile that is read at the old run
 -- lies in the symbol's entry, and the interval is narrowed to this entry.
 abbrev pub Finds : {S : Type 0} → ℕ → ℕ → List ℕ → Model S → S → Run → Run → Type 0
-Finds w s words model symbol old new = AtEntry model.precision model.table symbol (λ e. Takes w s words e old × (new ≡ narrowed_by w s e old))
+Finds w s words model symbol old new = AtEntry model.precision model.table symbol (λ e. QuantileInInterval w s words e old × (new ≡ narrowed_by w s e old))
 
 -- Encoding the items in order leads from the old run to the new run.
 abbrev pub NarrowsAll : {S : Type 0} → ℕ → ℕ → List (Item S) → Run → Run → Type 0

@@ -20,7 +20,7 @@ ghost use Rattle.std.specs.Prelude.{◌≡◌, ◌↔◌, ◌+◌, ◌≤◌, �
 ghost use Rattle.constriction_base.specs.declared.errors.CoderError.TheVariants as coder_error;
 ghost use Rattle.constriction_queue.specs.declared.decoder.symbols.DecoderFrontendError.TheVariants as frontend_error;
 ghost use Rattle.constriction_queue.specs.Encoder.{left_to_encode};
-ghost use Rattle.constriction_queue.specs.Flagged.{DecodesUnder, EncodesItem, HoldsNone, StepsToFault};
+ghost use Rattle.constriction_queue.specs.Flagged.{DecodesUnder, EncodesItem, NoSymbolFrom, StepsToFault};
 ghost use Rattle.constriction_queue.specs.Flagged.{flagged, next_model};
 ghost use Rattle.constriction_queue.specs.Symbols.{model_by};
 
@@ -141,7 +141,7 @@ impl<
             (model_by P1 M1.table first) (model_by P2 M2.table second))
             self.old.decoder result self.new.decoder }
         ensures variant { (result ≡ Err (coder_error.Frontend frontend_error.InvalidData))
-            ↔ HoldsNone State.BITS (if self.old.switched then P2 else P1) self.old.decoder }
+            ↔ NoSymbolFrom State.BITS (if self.old.switched then P2 else P1) self.old.decoder }
         ensures switched { IfOk result (λ symbol. self.new.switched ≡ (self.old.switched || symbol == self.old.flag)) }
         ensures kept { OnErr result (self.new.switched ≡ self.old.switched) }
         ensures flag { self.new.flag ≡ self.old.flag }

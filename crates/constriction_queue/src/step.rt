@@ -4,8 +4,8 @@ ghost use Rattle.std.specs.Prelude.{◌≡◌, ◌↔◌, ◌+◌, ◌-◌, ◌*
 ghost use Rattle.std.specs.Int.NonZero.{non_zero_usize_get};
 ghost use Rattle.constriction_base.specs.Steps.{IsStep, IsSizes};
 ghost use Rattle.constriction_queue.specs.Range.{step_of};
-ghost use Rattle.constriction_queue.specs.Encoder.{held_of, released_of, words_let_go};
-ghost use Rattle.constriction_queue.specs.Encoder.{CutsRun, GrowsRun, HasPlace, PartsFit};
+ghost use Rattle.constriction_queue.specs.Encoder.{pending_of, released_of, words_with_carry};
+ghost use Rattle.constriction_queue.specs.Encoder.{CutsRun, GrowsRun, CanHoldMore, PartsFit};
 ghost use Rattle.constriction_queue.specs.Calls.{EncodesAtInterval};
 
 use crate::situation::{EncoderSituation, HeldWords, nonzero_count};
@@ -30,7 +30,7 @@ pub fn reaches_over<State: BitArray>(lower: State, range: State) -> bool
 pub fn carried<Word: BitArray>(count: NonZeroUsize, first: Word, carry: bool) -> HeldWords<Word>
     requires { Word.number first + 1 < 2 ^ Word.BITS }
     ensures { released_of Word.number (Some result)
-        ≡ words_let_go Word.BITS carry (non_zero_usize_get count) (Word.number first) }
+        ≡ words_with_carry Word.BITS carry (non_zero_usize_get count) (Word.number first) }
 {
     if carry {
         HeldWords {
@@ -73,11 +73,11 @@ pub fn narrowed<Word: WordOf<State>, State: BitArray>(
     requires fit { PartsFit Word.number Word.BITS State.BITS situation (State.number lower) (State.number range) }
     ensures fit { PartsFit Word.number Word.BITS State.BITS result.situation
         (State.number result.lower) (State.number result.range) }
-    ensures place { HasPlace situation → HasPlace result.situation }
+    ensures place { CanHoldMore situation → CanHoldMore result.situation }
     ensures few { length (released_of Word.number result.released) + 2 < 2 ^ 64 }
-    ensures held { length (held_of Word.number Word.BITS result.situation)
-        ≤ length (held_of Word.number Word.BITS situation) }
-    ensures none { held_of Word.number Word.BITS situation ≡ [] → result.released ≡ None }
+    ensures held { length (pending_of Word.number Word.BITS result.situation)
+        ≤ length (pending_of Word.number Word.BITS situation) }
+    ensures none { pending_of Word.number Word.BITS situation ≡ [] → result.released ≡ None }
     ensures range { State.number result.range ≡ State.number range / 2 ^ precision * State.number p }
     ensures run { CutsRun Word.number State.number Word.BITS State.BITS
         (step_of precision (State.number left) (State.number p)) situation lower range result }
@@ -132,12 +132,12 @@ pub fn grow<Word: WordOf<State>, State: BitArray>(
     requires sized { 2 * Word.BITS ≤ State.BITS }
     requires wide { 2 ^ (State.BITS - Word.BITS) ≤ State.number range * 2 ^ Word.BITS }
     requires fit { PartsFit Word.number Word.BITS State.BITS situation (State.number lower) (State.number range) }
-    requires place { HasPlace situation }
+    requires place { CanHoldMore situation }
     ensures wide { 2 ^ (State.BITS - Word.BITS) ≤ State.number result.range }
     ensures fit { PartsFit Word.number Word.BITS State.BITS result.situation
         (State.number result.lower) (State.number result.range) }
-    ensures held { length (held_of Word.number Word.BITS result.situation)
-        ≤ length (held_of Word.number Word.BITS situation) + 1 }
+    ensures held { length (pending_of Word.number Word.BITS result.situation)
+        ≤ length (pending_of Word.number Word.BITS situation) + 1 }
     ensures run { GrowsRun Word.number State.number Word.BITS State.BITS situation lower range result }
 {
     let below = State::BITS - Word::BITS;
@@ -197,7 +197,7 @@ pub fn step_onto<Word: WordOf<State>, State: BitArray, Backend: WriteWords<Word>
     requires step { IsStep Word.BITS (step_of precision (State.number left) (State.number p)) }
     requires wide { 2 ^ (State.BITS - Word.BITS) ≤ State.number range }
     requires fit { PartsFit Word.number Word.BITS State.BITS situation (State.number lower) (State.number range) }
-    requires place { HasPlace situation }
+    requires place { CanHoldMore situation }
     ensures { EncodesAtInterval Word.number State.number Backend.Holds Backend.WriteWords.own Word.BITS State.BITS
         lower range situation (step_of precision (State.number left) (State.number p))
         bulk.old result bulk.new }

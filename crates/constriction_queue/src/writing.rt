@@ -6,7 +6,7 @@
 
 ghost use Rattle.std.specs.Prelude.{◌≡◌, ◌+◌, ◌<◌, ◌≤◌, ◌^◌, ◌++◌, ◌∷◌, ◌⊎◌, [], None, Some, length, IfErr};
 ghost use Rattle.constriction_base.specs.Writing.{Appends, WritesAll};
-ghost use Rattle.constriction_queue.specs.Encoder.{released_of, word_of, owed_of};
+ghost use Rattle.constriction_queue.specs.Encoder.{released_of, word_of, flushed_of};
 
 use crate::situation::HeldWords;
 use constriction_base::backends::{Holds, Stack, WriteWords};
@@ -87,7 +87,7 @@ pub fn owed_count<Word: BitArray>(
     last: &Option<Word>,
 ) -> usize
     requires { length (released_of Word.number held.now) + 2 < 2 ^ 64 }
-    ensures { result ≡ length (owed_of Word.number held.now top.now last.now) }
+    ensures { result ≡ length (flushed_of Word.number held.now top.now last.now) }
 {
     held_count(held) + count_in(top) + count_in(last)
 }
@@ -107,7 +107,7 @@ pub fn write_owed<Word: BitArray, Backend: WriteWords<Word>>(
 ) -> Result<(), Backend::WriteError>
     requires { length (released_of Word.number held) + 2 + length (released_of Word.number behind) < 2 ^ 64 }
     ensures { Appends Word.number Backend.Holds Backend.WriteWords.own
-        (released_of Word.number behind ++ owed_of Word.number held top last) bulk.old result bulk.new }
+        (released_of Word.number behind ++ flushed_of Word.number held top last) bulk.old result bulk.new }
 {
     let count = owed_count(&held, &top, &last) + held_count(&behind);
     if count == 0 {
@@ -154,7 +154,7 @@ pub fn write_step<Word: BitArray, Backend: WriteWords<Word>>(
 ) -> Result<(), Backend::WriteError>
     requires { length (released_of Word.number held) + 2 < 2 ^ 64 }
     ensures written { Appends Word.number Backend.Holds Backend.WriteWords.own
-        (owed_of Word.number held top None) bulk.old result bulk.new }
+        (flushed_of Word.number held top None) bulk.old result bulk.new }
     ensures one { held ≡ None → IfErr result (λ e. Backend.prepare_fails bulk.old 1 e
         ⊎ ((Backend.makes_room → ⊥) × Backend.write_fails bulk.old e)) }
 {

@@ -17,7 +17,7 @@ use constriction_base::cursor::Cursor;
 use constriction_base::model::DecoderModel;
 use constriction_base::weights::WeightTable;
 use constriction_queue::RangeDecoder;
-use constriction_scripts::answers::{DONE, OTHER, Told, answer_if};
+use constriction_scripts::answers::{DONE, OTHER, ScriptWord, answer_if};
 use constriction_scripts::numbers::Number;
 use constriction_scripts::script::{Act, Script};
 use constriction_scripts::taking::take_by;
@@ -97,8 +97,8 @@ fn takes<C, M, const PRECISION: usize>(
 ) -> bool
 where
     C: Decode<PRECISION>,
-    C::FrontendError: Told + Drop,
-    C::BackendError: Told + Drop,
+    C::FrontendError: ScriptWord + Drop,
+    C::BackendError: ScriptWord + Drop,
     M: DecoderModel<PRECISION, Symbol = usize>,
     M::Probability: WordOf<C::Word>,
 {

@@ -27,7 +27,7 @@ use constriction_base::errors::ReadWriteError;
 use constriction_base::model::DecoderModel;
 use constriction_base::weights::WeightTable;
 use constriction_queue::{EncoderGuard, RangeDecoder, RangeEncoder};
-use constriction_scripts::answers::{DONE, MEMORY, OTHER, Told, answer_if};
+use constriction_scripts::answers::{DONE, MEMORY, OTHER, ScriptWord, answer_if};
 use constriction_scripts::numbers::{Number, same, words_of};
 use constriction_scripts::putting::put_by;
 use constriction_scripts::script::{Act, Script};
@@ -318,8 +318,8 @@ where
 fn takes_each<C, M, const PRECISION: usize>(coder: &mut C, model: &M, symbols: &[usize]) -> bool
 where
     C: Decode<PRECISION>,
-    C::FrontendError: Told + Drop,
-    C::BackendError: Told + Drop,
+    C::FrontendError: ScriptWord + Drop,
+    C::BackendError: ScriptWord + Drop,
     M: DecoderModel<PRECISION, Symbol = usize>,
     M::Probability: WordOf<C::Word>,
 {

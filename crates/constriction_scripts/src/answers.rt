@@ -16,7 +16,7 @@ pub const OTHER: &str = "other";
 pub const MEMORY: &str = "Memory";
 
 /// An error that a script can expect as the answer of a call.
-pub trait Told {
+pub trait ScriptWord {
     /// Returns the text for `error` in scripts, or a text for the error type if `error` is `None`.
     fn word(error: Option<&Self>) -> &'static str;
 
@@ -26,20 +26,20 @@ pub trait Told {
     }
 }
 
-impl Told for AllocError {
+impl ScriptWord for AllocError {
     fn word(_error: Option<&AllocError>) -> &'static str {
         "no-memory"
     }
 }
 
-impl Told for Infallible {
+impl ScriptWord for Infallible {
     fn word(_error: Option<&Infallible>) -> &'static str {
         OTHER
     }
 }
 
 /// Errors of the iterators that tests pass to a coder. The error 7 has the word `bad7`, and all others have `bad`.
-impl Told for u8 {
+impl ScriptWord for u8 {
     fn word(error: Option<&u8>) -> &'static str {
         match error {
             Some(7) => "bad7",
@@ -48,7 +48,7 @@ impl Told for u8 {
     }
 }
 
-impl Told for BoundedWriteError {
+impl ScriptWord for BoundedWriteError {
     fn word(error: Option<&BoundedWriteError>) -> &'static str {
         match error {
             Some(BoundedWriteError::OutOfSpace) => "full",
@@ -58,25 +58,25 @@ impl Told for BoundedWriteError {
     }
 }
 
-impl Told for DefaultEncoderFrontendError {
+impl ScriptWord for DefaultEncoderFrontendError {
     fn word(_error: Option<&DefaultEncoderFrontendError>) -> &'static str {
         "unknown"
     }
 }
 
-impl Told for constriction_queue::DecoderFrontendError {
+impl ScriptWord for constriction_queue::DecoderFrontendError {
     fn word(_error: Option<&constriction_queue::DecoderFrontendError>) -> &'static str {
         "invalid"
     }
 }
 
-impl Told for constriction_chain::DecoderFrontendError {
+impl ScriptWord for constriction_chain::DecoderFrontendError {
     fn word(_error: Option<&constriction_chain::DecoderFrontendError>) -> &'static str {
         "ended"
     }
 }
 
-impl Told for EncoderFrontendError {
+impl ScriptWord for EncoderFrontendError {
     fn word(error: Option<&EncoderFrontendError>) -> &'static str {
         match error {
             Some(EncoderFrontendError::OutOfRemainders) => "ended",
@@ -86,7 +86,7 @@ impl Told for EncoderFrontendError {
     }
 }
 
-impl<C: Told, R: Told> Told for BackendError<C, R> {
+impl<C: ScriptWord, R: ScriptWord> ScriptWord for BackendError<C, R> {
     fn word(error: Option<&BackendError<C, R>>) -> &'static str {
         match error {
             Some(BackendError::Compressed(error)) => error.told(),
@@ -96,7 +96,7 @@ impl<C: Told, R: Told> Told for BackendError<C, R> {
     }
 }
 
-impl<F: Told, B: Told> Told for CoderError<F, B> {
+impl<F: ScriptWord, B: ScriptWord> ScriptWord for CoderError<F, B> {
     fn word(error: Option<&CoderError<F, B>>) -> &'static str {
         match error {
             Some(CoderError::Frontend(error)) => error.told(),
@@ -106,7 +106,7 @@ impl<F: Told, B: Told> Told for CoderError<F, B> {
     }
 }
 
-impl<C: Told, E: Told> Told for TryCodingError<C, E> {
+impl<C: ScriptWord, E: ScriptWord> ScriptWord for TryCodingError<C, E> {
     fn word(error: Option<&TryCodingError<C, E>>) -> &'static str {
         match error {
             Some(TryCodingError::CodingError(error)) => error.told(),
@@ -117,7 +117,7 @@ impl<C: Told, E: Told> Told for TryCodingError<C, E> {
 }
 
 /// Returns the answer of a call that returns no value: [`DONE`], or the text for the error in scripts.
-pub fn answer_of<E: Told + Drop>(answer: Result<(), E>) -> &'static str {
+pub fn answer_of<E: ScriptWord + Drop>(answer: Result<(), E>) -> &'static str {
     match answer {
         Ok(()) => DONE,
         Err(error) => error.told(),

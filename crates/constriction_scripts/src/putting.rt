@@ -1,6 +1,6 @@
 //! The acts of a script that encode symbols, for any encoder.
 
-use crate::answers::{DONE, MEMORY, OTHER, Told, answer_of};
+use crate::answers::{DONE, MEMORY, OTHER, ScriptWord, answer_of};
 use crate::script::{Act, error_at, find};
 use constriction_base::model::{EncoderModel, EntropyModel};
 use constriction_stream::coder::Code;
@@ -18,8 +18,8 @@ pub fn put_each<C, M, const PRECISION: usize>(
 ) -> &'static str
 where
     C: Encode<PRECISION>,
-    C::FrontendError: Told + Drop,
-    C::BackendError: Told + Drop,
+    C::FrontendError: ScriptWord + Drop,
+    C::BackendError: ScriptWord + Drop,
     M: EncoderModel<PRECISION, Symbol = usize>,
     M::Probability: WordOf<C::Word>,
 {
@@ -43,8 +43,8 @@ fn put_list<C, M, const PRECISION: usize>(
 ) -> &'static str
 where
     C: Encode<PRECISION>,
-    C::FrontendError: Told + Drop,
-    C::BackendError: Told + Drop,
+    C::FrontendError: ScriptWord + Drop,
+    C::BackendError: ScriptWord + Drop,
     M: EncoderModel<PRECISION, Symbol = usize>,
     M::Probability: WordOf<C::Word>,
 {
@@ -62,8 +62,8 @@ fn put_list_back<C, M, const PRECISION: usize>(
 ) -> &'static str
 where
     C: EncodeReverse<PRECISION>,
-    C::FrontendError: Told + Drop,
-    C::BackendError: Told + Drop,
+    C::FrontendError: ScriptWord + Drop,
+    C::BackendError: ScriptWord + Drop,
     M: EncoderModel<PRECISION, Symbol = usize>,
     M::Probability: WordOf<C::Word>,
 {
@@ -98,8 +98,8 @@ fn put_pairs<C, M, const PRECISION: usize>(
 ) -> &'static str
 where
     C: Encode<PRECISION>,
-    C::FrontendError: Told + Drop,
-    C::BackendError: Told + Drop,
+    C::FrontendError: ScriptWord + Drop,
+    C::BackendError: ScriptWord + Drop,
     M: EncoderModel<PRECISION, Symbol = usize>,
     M::Probability: WordOf<C::Word>,
 {
@@ -121,8 +121,8 @@ fn put_pairs_back<C, M, const PRECISION: usize>(
 ) -> &'static str
 where
     C: EncodeReverse<PRECISION>,
-    C::FrontendError: Told + Drop,
-    C::BackendError: Told + Drop,
+    C::FrontendError: ScriptWord + Drop,
+    C::BackendError: ScriptWord + Drop,
     M: EncoderModel<PRECISION, Symbol = usize>,
     M::Probability: WordOf<C::Word>,
 {
@@ -163,8 +163,8 @@ fn put_items<C, M, const PRECISION: usize>(
 ) -> &'static str
 where
     C: Encode<PRECISION>,
-    C::FrontendError: Told + Drop,
-    C::BackendError: Told + Drop,
+    C::FrontendError: ScriptWord + Drop,
+    C::BackendError: ScriptWord + Drop,
     M: EncoderModel<PRECISION, Symbol = usize>,
     M::Probability: WordOf<C::Word>,
 {
@@ -186,8 +186,8 @@ fn put_items_back<C, M, const PRECISION: usize>(
 ) -> &'static str
 where
     C: EncodeReverse<PRECISION>,
-    C::FrontendError: Told + Drop,
-    C::BackendError: Told + Drop,
+    C::FrontendError: ScriptWord + Drop,
+    C::BackendError: ScriptWord + Drop,
     M: EncoderModel<PRECISION, Symbol = usize>,
     M::Probability: WordOf<C::Word>,
 {
@@ -233,8 +233,8 @@ pub fn put_by<C, M, const PRECISION: usize>(
 ) -> Option<&'static str>
 where
     C: Encode<PRECISION>,
-    C::FrontendError: Told + Drop,
-    C::BackendError: Told + Drop,
+    C::FrontendError: ScriptWord + Drop,
+    C::BackendError: ScriptWord + Drop,
     M: EncoderModel<PRECISION, Symbol = usize>,
     M::Probability: WordOf<C::Word>,
 {
@@ -264,8 +264,8 @@ pub fn put_back_by<C, M, const PRECISION: usize>(
 ) -> Option<&'static str>
 where
     C: EncodeReverse<PRECISION>,
-    C::FrontendError: Told + Drop,
-    C::BackendError: Told + Drop,
+    C::FrontendError: ScriptWord + Drop,
+    C::BackendError: ScriptWord + Drop,
     M: EncoderModel<PRECISION, Symbol = usize>,
     M::Probability: WordOf<C::Word>,
 {

@@ -1,6 +1,6 @@
 //! The acts of a script that decode symbols, one by one and with iterators, for any decoder.
 
-use crate::answers::{DONE, MEMORY, OTHER, Told, answer_if};
+use crate::answers::{DONE, MEMORY, OTHER, ScriptWord, answer_if};
 use crate::script::{Act, error_at, find};
 use constriction_base::model::{DecoderModel, EntropyModel};
 use constriction_stream::coder::Code;
@@ -18,8 +18,8 @@ pub fn take_each<C, M, const PRECISION: usize>(
 ) -> &'static str
 where
     C: Decode<PRECISION>,
-    C::FrontendError: Told + Drop,
-    C::BackendError: Told + Drop,
+    C::FrontendError: ScriptWord + Drop,
+    C::BackendError: ScriptWord + Drop,
     M: DecoderModel<PRECISION, Symbol = usize>,
     M::Probability: WordOf<C::Word>,
 {
@@ -36,8 +36,8 @@ where
 fn take_next<C, M, const PRECISION: usize>(coder: &mut C, model: &M, symbol: usize) -> &'static str
 where
     C: Decode<PRECISION>,
-    C::FrontendError: Told + Drop,
-    C::BackendError: Told + Drop,
+    C::FrontendError: ScriptWord + Drop,
+    C::BackendError: ScriptWord + Drop,
     M: DecoderModel<PRECISION, Symbol = usize>,
     M::Probability: WordOf<C::Word>,
 {
@@ -45,7 +45,7 @@ where
 }
 
 /// Returns the answer of a decode that should return `symbol`.
-fn came<E: Told + Drop>(answer: Result<usize, E>, symbol: usize) -> &'static str {
+fn came<E: ScriptWord + Drop>(answer: Result<usize, E>, symbol: usize) -> &'static str {
     match answer {
         Ok(found) => answer_if(found == symbol),
         Err(error) => error.told(),
@@ -55,7 +55,7 @@ fn came<E: Told + Drop>(answer: Result<usize, E>, symbol: usize) -> &'static str
 /// Returns whether `answer` is the expected result of an iterator at index `at`: a symbol, an error, or the end.
 ///
 /// `act` has the expected symbols, and the numbers that may stand for errors.
-fn is_as_asked<E: Told + Drop>(
+fn is_as_asked<E: ScriptWord + Drop>(
     answer: Option<Result<usize, E>>,
     act: (&[usize], &[u128]),
     at: usize,
@@ -75,8 +75,8 @@ fn is_as_asked<E: Told + Drop>(
 fn by_one<C, M, const PRECISION: usize>(coder: &mut C, model: &M, numbers: &[usize]) -> &'static str
 where
     C: Decode<PRECISION>,
-    C::FrontendError: Told + Drop,
-    C::BackendError: Told + Drop,
+    C::FrontendError: ScriptWord + Drop,
+    C::BackendError: ScriptWord + Drop,
     M: DecoderModel<PRECISION, Symbol = usize>,
     M::Probability: WordOf<C::Word>,
 {
@@ -113,8 +113,8 @@ fn by_models<C, M, const PRECISION: usize>(
 ) -> &'static str
 where
     C: Decode<PRECISION>,
-    C::FrontendError: Told + Drop,
-    C::BackendError: Told + Drop,
+    C::FrontendError: ScriptWord + Drop,
+    C::BackendError: ScriptWord + Drop,
     M: DecoderModel<PRECISION, Symbol = usize>,
     M::Probability: WordOf<C::Word>,
 {
@@ -158,8 +158,8 @@ fn by_items<C, M, const PRECISION: usize>(
 ) -> &'static str
 where
     C: Decode<PRECISION>,
-    C::FrontendError: Told + Drop,
-    C::BackendError: Told + Drop,
+    C::FrontendError: ScriptWord + Drop,
+    C::BackendError: ScriptWord + Drop,
     M: DecoderModel<PRECISION, Symbol = usize>,
     M::Probability: WordOf<C::Word>,
 {
@@ -215,8 +215,8 @@ pub fn take_by<C, M, const PRECISION: usize>(
 ) -> Option<&'static str>
 where
     C: Decode<PRECISION>,
-    C::FrontendError: Told + Drop,
-    C::BackendError: Told + Drop,
+    C::FrontendError: ScriptWord + Drop,
+    C::BackendError: ScriptWord + Drop,
     M: DecoderModel<PRECISION, Symbol = usize>,
     M::Probability: WordOf<C::Word>,
 {

@@ -3,7 +3,7 @@ use Rattle.std.proofs.Common.{◌≡◌, ℕ, zero, suc, ◌+◌, ◌-◌, ◌*�
 use Rattle.std.proofs.lemmas.Bool.{cases_lt}
 use Rattle.constriction_base.specs.Digits.{fixed_digits}
 use Rattle.constriction_base.specs.Steps.{IsSizes, AreWords}
-use Rattle.constriction_stack.specs.Ans.{AnsState, IsValid, filled}
+use Rattle.constriction_stack.specs.Ans.{AnsState, IsNormalized, filled}
 use Rattle.constriction_base.specs.Writing.{IsOneAbove}
 use Rattle.constriction_base.proofs.OneAbove.{limit_more, one_rest, power_more}
 use Rattle.constriction_base.proofs.Written.{fixed_next, fixed_push}
@@ -59,12 +59,12 @@ digits_fill_one w s (suc m) n vs base from below top =
     rw (fixed_next b m n vs) (before ∙ filled_low w s (n / b) (n % b) vs low ∙ ap (λ k. filled w s k vs) (div-add-mod' n b))
 
 -- a valid binary state is the one of its words
-pub binary_import : (w s m : ℕ) (x : AnsState) → IsSizes w s → IsValid w s x → IsOneAbove w m x.head → binary_state w s (binary_words w m x) ≡ x
+pub binary_import : (w s m : ℕ) (x : AnsState) → IsSizes w s → IsNormalized w s x → IsOneAbove w m x.head → binary_state w s (binary_words w m x) ≡ x
 binary_import w s m x z v i =
     let f : Facts w s = facts w s z in
     digits_fill_one w s m x.head x.words f.base i.from i.below (omega (arith, v.state.fits, f.whole)) ∙ filled_full w s x.head x.words v.full
 
-pub binary_valid : (w s : ℕ) (vs : List ℕ) → IsSizes w s → AreWords w vs → IsValid w s (binary_state w s vs)
+pub binary_valid : (w s : ℕ) (vs : List ℕ) → IsSizes w s → AreWords w vs → IsNormalized w s (binary_state w s vs)
 binary_valid w s vs z h =
     let two : 2 ^ 1 ≤ 2 ^ s = pow_le 1 s (omega (arith, z.some_bits, z.two_words)) in
     valid_filled w s 1 vs z (omega (arith, two)) h

@@ -2,12 +2,12 @@
 use Rattle.std.specs.Prelude.{reverse, take}
 use Rattle.std.proofs.Common.{◌≡◌, ℕ, List, ◌∷◌, length, map, ap, subst, ◌∙◌, arith, inl, inr}
 use Rattle.std.proofs.lemmas.List.{take_all}
-use Rattle.constriction_base.specs.Backends.{Place}
+use Rattle.constriction_base.specs.Backends.{BufferPosition}
 use Rattle.constriction_base.specs.Readings.{BeginsHigh}
 use Rattle.constriction_stack.specs.Imports.{ListRefused}
 
 -- below such a cursor stand all words
-pub all_below : {B W : Type 0} (lent : B → List W) (buf : B) (cursor : Place B) → cursor ≡ record { buf = buf; pos = length (lent buf) } → reverse (take cursor.pos (lent cursor.buf)) ≡ reverse (lent buf)
+pub all_below : {B W : Type 0} (lent : B → List W) (buf : B) (cursor : BufferPosition B) → cursor ≡ record { buf = buf; pos = length (lent buf) } → reverse (take cursor.pos (lent cursor.buf)) ≡ reverse (lent buf)
 all_below lent buf cursor is =
     ap (λ c. reverse (take c.pos (lent c.buf))) is ∙ ap reverse (take_all (length (lent buf)) (lent buf) (omega arith))
 

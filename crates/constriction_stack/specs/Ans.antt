@@ -23,7 +23,7 @@ pub record IsState (w s : ℕ) (x : AnsState) : Type 0 where
   pub are_words : AreWords w x.words
 
 -- The state is normalized: its head is at least `2 ^ (s - w)`, or no words are below the head.
-pub record IsValid (w s : ℕ) (x : AnsState) : Type 0 where
+pub record IsNormalized (w s : ℕ) (x : AnsState) : Type 0 where
   pub state : IsState w s x
   pub full : (2 ^ (s - w) ≤ x.head) ⊎ (x.words ≡ [])
 
@@ -55,7 +55,7 @@ IsPop w s e old new = IsNext e old × (new ≡ pop w s e old)
 -- which a pop takes this step and leaves the old state. For a normalized old state, the law `one_push` states that
 -- exactly one new state exists.
 pub record IsPush (w s : ℕ) (e : Step) (old new : AnsState) : Type 0 where
-  pub valid : IsValid w s new
+  pub valid : IsNormalized w s new
   pub holds : IsNext e new
   pub back : pop w s e new ≡ old
 
@@ -143,7 +143,7 @@ pub record EncodeCall {W B E S : Type 0} (number : W → ℕ) (holds : holding.G
   pub before : IsCoder number holds w s old
   pub after : IsCoder number holds w s new
   -- On success, if the old state is normalized, the new state is the push of the step.
-  pub pushed : OnOk answer (IsValid w s old.state → IsPush w s step old.state new.state)
+  pub pushed : OnOk answer (IsNormalized w s old.state → IsPush w s step old.state new.state)
   -- On success, a word is written if and only if the head has no room for the step.
   pub words : OnOk answer (new.state.words ≡ words_after w s step old.state)
   -- On success, the room shrinks by at most the number of words written.

@@ -3,7 +3,7 @@
 use Rattle.std.specs.Prelude.{◌≡◌, ℕ, ◌-◌, ◌<◌, ◌≤◌, ◌^◌, ◌⊎◌, List, ◌++◌, Option, None, Result, Ok, Err, map}
 use Rattle.std.specs.Int.Digits.{number_from_digits_after}
 use Rattle.constriction_base.specs.Digits.{fixed_digits}
-use Rattle.constriction_base.specs.Readings.{Gives}
+use Rattle.constriction_base.specs.Readings.{ReadsReturn}
 use Rattle.constriction_stack.specs.Ans.{AnsState, filled}
 
 -- The state that a list of words in binary form stands for. The head starts at 1, and words move into it while it is
@@ -19,7 +19,7 @@ binary_words w m x = fixed_digits (2 ^ w) m x.head ++ x.words
 -- Reads return the words `words`, and the head consists of a leading 1 and these words as digits.
 pub record BinaryMovesIn {W E B : Type 0} (number : W → ℕ) (reads : B → Result (Option W) E → B → Type 0) (w : ℕ) (old : B) (head : ℕ) (new : B) : Type 0 where
   pub words : List W
-  pub given : Gives reads old words new
+  pub given : ReadsReturn reads old words new
   pub is : head ≡ number_from_digits_after (2 ^ w) 1 (map number words)
 
 -- An import that succeeds: the coder reads words until the head is full or no word is left.

@@ -3,7 +3,7 @@
 use Rattle.std.specs.Prelude.{◌≡◌, ◌⊎◌, ℕ, ◌^◌, List, Option, Result, drop, map}
 use Rattle.std.specs.Int.Digits.{digits_of}
 use Rattle.constriction_base.specs.Digits.{fixed_digits}
-use Rattle.constriction_base.specs.Readings.{NeverRefused, TakesUpTo}
+use Rattle.constriction_base.specs.Readings.{NeverRefused, ReadsUpTo}
 use Rattle.constriction_base.specs.Writing.{IsBegun, IsOneAbove, RefusesWrite}
 use Rattle.constriction_base.specs.declared.backends.reading.Holds as holding
 use Rattle.constriction_base.specs.declared.backends.writing.WriteWords as writing
@@ -26,10 +26,10 @@ ShowsBinary w old new = (m : ℕ) × IsOneAbove w m old.head × (new ≡ record 
 
 -- A write of the words `owed` is refused, and reads then take off the `count` words that lie on the old ones. If a read
 -- fails, it is the last.
-abbrev pub TakesWritten : {W B E F S : Type 0} → (W → ℕ) → holding.Ghosts B W S → writing.Ghosts B W E → (B → Result (Option W) F → B → Type 0) → List ℕ → B → E → B → Type 0
-TakesWritten {B = B} number holds writes reads owed old e new =
+abbrev pub ReadsWrittenBack : {W B E F S : Type 0} → (W → ℕ) → holding.Ghosts B W S → writing.Ghosts B W E → (B → Result (Option W) F → B → Type 0) → List ℕ → B → E → B → Type 0
+ReadsWrittenBack {B = B} number holds writes reads owed old e new =
     (left : B) × (count : ℕ) × IsBegun owed (map number (holds.words old)) (map number (holds.words left))
-    × RefusesWrite number holds writes owed old e left × (drop count (holds.words left) ≡ holds.words old) × TakesUpTo reads count left new
+    × RefusesWrite number holds writes owed old e left × (drop count (holds.words left) ≡ holds.words old) × ReadsUpTo reads count left new
 
 -- The coder after a guard fails to write the words `owed`. Either the state is unchanged, or a write fails and the head
 -- is unchanged. The words written before are then read back. If no read ever fails, the words are unchanged too.
@@ -37,7 +37,7 @@ abbrev pub LeftByRefusal : {W B E F S : Type 0} → (W → ℕ) → holding.Ghos
 LeftByRefusal number holds writes reads owed old e new =
     (new.state ≡ old.state)
     ⊎ ((new.state.head ≡ old.state.head) × (NeverRefused reads → new.state ≡ old.state)
-    × TakesWritten number holds writes reads owed old.backend e new.backend)
+    × ReadsWrittenBack number holds writes reads owed old.backend e new.backend)
 
 -- The coder after a guard fails to write the words of the export.
 abbrev pub ExportLeft : {W B E F S : Type 0} → (W → ℕ) → holding.Ghosts B W S → writing.Ghosts B W E → (B → Result (Option W) F → B → Type 0) → ℕ → AnsValue B → E → AnsValue B → Type 0

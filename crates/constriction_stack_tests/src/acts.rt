@@ -4,7 +4,7 @@ use crate::reading::{Below, is_at_head};
 use constriction_base::backends::{BoundedReadWords, ReadWords, Stack, WriteWords};
 use constriction_base::errors::CoderError;
 use constriction_base::weights::WeightTable;
-use constriction_scripts::answers::{OTHER, Told, answer_if};
+use constriction_scripts::answers::{OTHER, ScriptWord, answer_if};
 use constriction_scripts::numbers::{Number, same};
 use constriction_scripts::putting::{put_back_by, put_by};
 use constriction_scripts::script::{Act, Script, find};
@@ -60,7 +60,7 @@ where
     State: BitArray,
     Backend: WriteWords<Word> + ReadWords<Word, Stack> + Below<Word>,
     Backend::ReadError: Drop,
-    Backend::WriteError: Told + Drop,
+    Backend::WriteError: ScriptWord + Drop,
 {
     match coder.get_compressed() {
         Ok(guard) => answer_if(same(guard.backend().below(), numbers)),
@@ -80,7 +80,7 @@ where
     State: BitArray,
     Backend: WriteWords<Word> + ReadWords<Word, Stack> + Below<Word>,
     Backend::ReadError: Drop,
-    Backend::WriteError: Told + Drop,
+    Backend::WriteError: ScriptWord + Drop,
 {
     match coder.get_binary() {
         Ok(guard) => answer_if(same(guard.backend().below(), numbers)),
@@ -122,7 +122,7 @@ where
     State: BitArray + Number,
     Backend: WriteWords<Word> + BoundedReadWords<Word, Stack> + Below<Word>,
     Backend::ReadError: Drop,
-    Backend::WriteError: Told + Drop,
+    Backend::WriteError: ScriptWord + Drop,
 {
     let is_so = match find(SHOWS, act.verb)? {
         Shows::Shown => return Some(shown(coder, act.numbers)),
@@ -151,8 +151,8 @@ where
     Word: WordOf<State> + Number,
     State: BitArray + Number,
     Backend: WriteWords<Word> + BoundedReadWords<Word, Stack> + Below<Word>,
-    Backend::ReadError: Told + Drop,
-    Backend::WriteError: Told + Drop,
+    Backend::ReadError: ScriptWord + Drop,
+    Backend::WriteError: ScriptWord + Drop,
     Probability: WordOf<Word>,
 {
     if let Some(answer) = put_by(alloc, coder, table, act) {
@@ -180,8 +180,8 @@ where
     Word: WordOf<State> + Number,
     State: BitArray + Number,
     Backend: WriteWords<Word> + BoundedReadWords<Word, Stack> + Below<Word>,
-    Backend::ReadError: Told + Drop,
-    Backend::WriteError: Told + Drop,
+    Backend::ReadError: ScriptWord + Drop,
+    Backend::WriteError: ScriptWord + Drop,
     Probability: WordOf<Word>,
 {
     for at in 0..script.len() {

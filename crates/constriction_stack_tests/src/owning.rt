@@ -7,7 +7,7 @@ use crate::reading::{Below, seek, stands_at};
 use constriction_base::backends::{ReadWords, Stack, WriteWords};
 use constriction_base::cursor::Cursor;
 use constriction_base::weights::WeightTable;
-use constriction_scripts::answers::{DONE, MEMORY, OTHER, Told, answer_if};
+use constriction_scripts::answers::{DONE, MEMORY, OTHER, ScriptWord, answer_if};
 use constriction_scripts::numbers::{Number, same, words_of};
 use constriction_scripts::script::{Act, Script, find};
 use constriction_scripts::taking::take_each;
@@ -211,7 +211,7 @@ where
     Word: WordOf<State> + Number,
     State: BitArray,
     Backend: WriteWords<Word> + Below<Word> + Drop,
-    Backend::WriteError: Told + Drop,
+    Backend::WriteError: ScriptWord + Drop,
 {
     match coder.into_compressed() {
         Ok(all) => answer_if(same(all.below(), numbers)),
@@ -230,7 +230,7 @@ where
     Word: WordOf<State> + Number,
     State: BitArray,
     Backend: WriteWords<Word> + Below<Word> + Drop,
-    Backend::WriteError: Told + Drop,
+    Backend::WriteError: ScriptWord + Drop,
 {
     match coder.into_binary() {
         Ok(all) => answer_if(same(all.below(), numbers)),
@@ -265,7 +265,7 @@ where
     Word: WordOf<State>,
     State: BitArray,
     Backend: ReadWords<Word, Stack> + Drop,
-    Backend::ReadError: Told + Drop,
+    Backend::ReadError: ScriptWord + Drop,
     Probability: WordOf<Word>,
 {
     take_each(&mut decoder, table, symbols) == DONE && decoder.is_empty()

@@ -5,7 +5,7 @@ use constriction_base::backends::{
 };
 use constriction_base::cursor::Cursor;
 use constriction_base::weights::WeightTable;
-use constriction_scripts::answers::{OTHER, Told, answer_if};
+use constriction_scripts::answers::{OTHER, ScriptWord, answer_if};
 use constriction_scripts::numbers::Number;
 use constriction_scripts::script::{Act, Script};
 use constriction_scripts::taking::take_each;
@@ -100,7 +100,7 @@ where
     u8: WordOf<State>,
     State: BitArray + Number,
     Backend: ReadWords<u8, Stack>,
-    Backend::ReadError: Told + Drop,
+    Backend::ReadError: ScriptWord + Drop,
 {
     match act.verb {
         "take" => take_each(coder, table, act.symbols),
@@ -121,7 +121,7 @@ where
     u8: WordOf<State>,
     State: BitArray + Number,
     Backend: ReadWords<u8, Stack> + Pos + Seek + PosSeek<Position = usize>,
-    Backend::ReadError: Told + Drop,
+    Backend::ReadError: ScriptWord + Drop,
     requires { (backend : Backend) → Backend.can_tell backend }
 {
     for at in 0..script.len() {

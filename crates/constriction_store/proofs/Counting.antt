@@ -2,7 +2,7 @@
 use Rattle.std.proofs.Common.{◌≡◌, ◌∙◌, ℕ, zero, suc, ◌+◌, ◌<◌, ◌≤◌, List, [], ◌∷◌, ◌++◌, get_or, length, map, take, sym, ap, arith}
 use Rattle.std.proofs.lemmas.List.{take_more}
 use Rattle.constriction_store.specs.Chunks.{count_of}
-use Rattle.constriction_store.specs.Stores.{Entry, ArePlaces, total_of}
+use Rattle.constriction_store.specs.Stores.{Entry, EntriesWithin, total_of}
 
 -- a list and the item at a place, as loops give it
 pub taken_at : {X : Type 0} (xs : List X) (k : ℕ) (x : X) → k < length xs → x ≡ get_or xs k x → take (k + 1) xs ≡ take k xs ++ x ∷ []
@@ -34,15 +34,15 @@ module _ {X : Type 0} where
   totalled_le [] f (suc k) = omega arith
   totalled_le (x ∷ xs) f (suc k) = omega (arith, totalled_le xs f k)
 
-  places_append : (count : ℕ) (xs ys : List X) (f : X → Entry) → ArePlaces count (map f xs) → ArePlaces count (map f ys) → ArePlaces count (map f (xs ++ ys))
+  places_append : (count : ℕ) (xs ys : List X) (f : X → Entry) → EntriesWithin count (map f xs) → EntriesWithin count (map f ys) → EntriesWithin count (map f (xs ++ ys))
   places_append count [] ys f all rest = rest
   places_append count (x ∷ xs) ys f all rest = (all.0, places_append count xs ys f all.1 rest)
 
-  pub places_more : (count : ℕ) (xs : List X) (f : X → Entry) (k : ℕ) (x : X) → k < length xs → x ≡ get_or xs k x → ArePlaces count (map f (take k xs)) → (f x).place ≤ count
-      → ArePlaces count (map f (take (k + 1) xs))
+  pub places_more : (count : ℕ) (xs : List X) (f : X → Entry) (k : ℕ) (x : X) → k < length xs → x ≡ get_or xs k x → EntriesWithin count (map f (take k xs)) → (f x).place ≤ count
+      → EntriesWithin count (map f (take (k + 1) xs))
   places_more count xs f k x inside is all here = rw (taken_at xs k x inside is) (places_append count (take k xs) (x ∷ []) f all (here, tt))
 
-  pub place_at : (count : ℕ) (xs : List X) (f : X → Entry) (k : ℕ) (x : X) → k < length xs → x ≡ get_or xs k x → ArePlaces count (map f xs) → (f x).place ≤ count
+  pub place_at : (count : ℕ) (xs : List X) (f : X → Entry) (k : ℕ) (x : X) → k < length xs → x ≡ get_or xs k x → EntriesWithin count (map f xs) → (f x).place ≤ count
   place_at count [] f k x inside is all = absurd (omega arith)
   place_at count (y ∷ xs) f zero x inside is all = rw is all.0
   place_at count (y ∷ xs) f (suc k) x inside is all = place_at count xs f k x (omega arith) is all.1

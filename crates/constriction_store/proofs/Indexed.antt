@@ -9,7 +9,7 @@ use Rattle.constriction_base.specs.Models.{Model, Item, IsModel, AreModels, item
 use Rattle.constriction_base.specs.Steps.{Step, InTurn, IsSizes}
 use Rattle.constriction_base.proofs.InTurn.{InTurn-append}
 use Rattle.constriction_base.specs.Digits.{fixed_digits}
-use Rattle.constriction_queue.specs.Range.{Run, Takes, cut, grown, narrowed_by, offset, seal_number, initial}
+use Rattle.constriction_queue.specs.Range.{Run, QuantileInInterval, cut, grown, narrowed_by, offset, seal_number, initial}
 use Rattle.constriction_queue.specs.SelfDelimiting.{SelfDelimits}
 use Rattle.constriction_queue.proofs.Narrowing.{grown_large, grown_small}
 use Rattle.constriction_queue.proofs.Pointing.{mod_sum}
@@ -17,7 +17,7 @@ use Rattle.constriction_queue.specs.Symbols.{Narrows, NarrowsAll, Finds, FindsAl
 use Rattle.constriction_base.proofs.SameModel.{are_models}
 use Rattle.std.specs.List.{AllByRecursion}
 use Rattle.constriction_store.specs.Chunks.{AllKnown, chunk_in, count_of}
-use Rattle.constriction_store.specs.Stores.{ArePlaces, Entry, HoldsChunks, Indexes, IsIndex, StandsAtEntry, entry_in, run_at, total_of}
+use Rattle.constriction_store.specs.Stores.{EntriesWithin, Entry, HoldsChunks, Indexes, IsIndex, StandsAtEntry, entry_in, run_at, total_of}
 use Rattle.constriction_store.proofs.Symbols.{moves_least, moves_most, narrows_known}
 use Rattle.constriction_base.proofs.Guards.{fixed-length}
 use Rattle.constriction_base.proofs.Turns.{all-append}
@@ -43,7 +43,7 @@ moves_within w s model (c ∷ cs) (e ∷ es) old new all =
     omega (arith, moves_most w s model c old all.2.0 all.2.1, moves_within w s model cs es all.2.0 new all.2.2)
 
 -- no entry begins past the last run
-places_upto : (m n : ℕ) (entries : List Entry) → m ≤ n → ArePlaces m entries → ArePlaces n entries
+places_upto : (m n : ℕ) (entries : List Entry) → m ≤ n → EntriesWithin m entries → EntriesWithin n entries
 places_upto m n [] le all = tt
 places_upto m n (e ∷ es) le all = (omega (arith, le, all.0), places_upto m n es le all.1)
 
@@ -54,7 +54,7 @@ moves_go_on w s model (c ∷ cs) [] old new all = absurd all
 moves_go_on w s model (c ∷ cs) (e ∷ es) old new all =
     omega (arith, moves_least w s model c old all.2.0 all.2.1, moves_go_on w s model cs es all.2.0 new all.2.2)
 
-places_within : (w s : ℕ) (model : Model ℕ) (chunks : List (List ℕ)) (entries : List Entry) (old new : Run) → Indexes w s model chunks entries old new → ArePlaces new.moves entries
+places_within : (w s : ℕ) (model : Model ℕ) (chunks : List (List ℕ)) (entries : List Entry) (old new : Run) → Indexes w s model chunks entries old new → EntriesWithin new.moves entries
 places_within w s model [] [] old new all = tt
 places_within w s model [] (e ∷ es) old new all = absurd all
 places_within w s model (c ∷ cs) [] old new all = absurd all
@@ -152,7 +152,7 @@ alike_grown w s a b h = elim (cases_lt a.range (2 ^ (s - w))) [
       rw (grown_large w s a large, grown_large w s b other) h
 ]
 
-alike_taken : (w s : ℕ) (words : List ℕ) (e : Step) (a b : Run) → Alike s a b → Takes w s words e a → Takes w s words e b
+alike_taken : (w s : ℕ) (words : List ℕ) (e : Step) (a b : Run) → Alike s a b → QuantileInInterval w s words e a → QuantileInInterval w s words e b
 alike_taken w s words e a b h t =
     let same : offset w s words b / (b.range / 2 ^ e.precision) ≡ offset w s words a / (a.range / 2 ^ e.precision) =
     ap (λ (o : ℕ). o / (b.range / 2 ^ e.precision)) (sym (alike_offset w s words a b h)) ∙ ap (λ (r : ℕ). offset w s words a / (r / 2 ^ e.precision)) (sym h.range) in

@@ -2,7 +2,7 @@
 use Rattle.std.proofs.Common.{◌≡◌, ◌∙◌, ℕ, zero, suc, ◌+◌, ◌-◌, ◌*◌, ◌/◌, ◌%◌, ◌^◌, ◌<◌, ◌≤◌, List, [], ◌∷◌, drop, get_or, refl, sym, ap, ap₂, subst, arith, pow_pos, get_or-drop}
 use Rattle.constriction_base.specs.Models.{Model, items_of}
 use Rattle.constriction_base.specs.Steps.{Step, IsSizes, AreWords}
-use Rattle.constriction_queue.specs.Range.{Run, Takes, number_of_first, number_read, offset}
+use Rattle.constriction_queue.specs.Range.{Run, QuantileInInterval, number_of_first, number_read, offset}
 use Rattle.constriction_queue.proofs.Pointing.{mod_sum}
 use Rattle.constriction_queue.proofs.Sought.{sought_is_at}
 use Rattle.constriction_queue.specs.Symbols.{FindsAll}
@@ -34,7 +34,7 @@ module _ (w s : ℕ) (words others : List ℕ) (z : IsSizes w s) (fit : AreWords
       read_there w s r.moves others z fit' ∙ first_alike (2 ^ w) (s / w) r.moves words others agree ∙ sym (read_there w s r.moves words z fit) in
       sym (mod_sum (number_read w s others r.moves) above m (pow_pos s)) ∙ ap (λ (n : ℕ). (n + above) % m) same ∙ mod_sum (number_read w s words r.moves) above m (pow_pos s)
 
-  taken_alike : (e : Step) (r : Run) → Agree words others r.moves (r.moves + s / w) → Takes w s words e r → Takes w s others e r
+  taken_alike : (e : Step) (r : Run) → Agree words others r.moves (r.moves + s / w) → QuantileInInterval w s words e r → QuantileInInterval w s others e r
   taken_alike e r agree t =
       let same = offset_alike r agree in
       record { from = rw same t.from; below = rw same t.below }

@@ -43,8 +43,8 @@ StoreHoldsEach w s precision table store places chunks =
     HoldsEach w s (model_by precision table store.model) store.words store.index places chunks
 
 -- The store holds a chunk at this place, but there is no memory to add the chunk to a list.
-abbrev pub HasNoRoom : ℕ → ℕ → Model ℕ → List ℕ → List Entry → ℕ → ChunkError → Type 0
-HasNoRoom w s model words index i refusal =
+abbrev pub NoMemoryForChunk : ℕ → ℕ → Model ℕ → List ℕ → List Entry → ℕ → ChunkError → Type 0
+NoMemoryForChunk w s model words index i refusal =
     (refusal ≡ Memory) × (i < length index) × ((chunk : List ℕ) × HoldsChunk w s model words (entry_in index i) chunk)
 
 -- The look-ups at the first `k` places return chunks. The next look-up fails, or there is no memory to add its chunk to
@@ -52,7 +52,7 @@ HasNoRoom w s model words index i refusal =
 abbrev pub FailsFirst : ℕ → ℕ → Model ℕ → List ℕ → List Entry → List ℕ → ChunkError → Type 0
 FailsFirst w s model words index places refusal =
     (k : ℕ) × (chunks : List (List ℕ)) × (k < length places) × HoldsEach w s model words index (take k places) chunks
-    × (LookUpFails w s model words index (slice_index places k) refusal ⊎ HasNoRoom w s model words index (slice_index places k) refusal)
+    × (LookUpFails w s model words index (slice_index places k) refusal ⊎ NoMemoryForChunk w s model words index (slice_index places k) refusal)
 
 -- The answer is these symbols, or `Memory`.
 abbrev pub IsChunk : {A : Type 0} → List ℕ → Result (Vec ℕ A) ChunkError → Type 0

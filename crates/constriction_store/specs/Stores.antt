@@ -30,8 +30,8 @@ abbrev pub entry_in : List Entry → ℕ → Entry
 entry_in index i = slice_index_or index i (entry_of 0 0 0 0)
 
 -- No entry begins past `count` words.
-abbrev pub ArePlaces : ℕ → List Entry → Type 0
-ArePlaces count index = AllByRecursion (λ e. e.place ≤ count) index
+abbrev pub EntriesWithin : ℕ → List Entry → Type 0
+EntriesWithin count index = AllByRecursion (λ e. e.place ≤ count) index
 
 -- The number of symbols of all entries.
 abbrev pub total_of : List Entry → ℕ
@@ -40,7 +40,7 @@ total_of (entry ∷ entries) = entry.len + total_of entries
 
 -- The index fits `count` words, and counts at most 1048576 symbols.
 pub record IsIndex (count : ℕ) (index : List Entry) : Type 0 where
-  pub places : ArePlaces count index
+  pub places : EntriesWithin count index
   pub few : total_of index ≤ 1048576
 
 -- ---- the store

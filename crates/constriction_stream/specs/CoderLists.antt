@@ -3,7 +3,7 @@ use Rattle.std.specs.Prelude.{ℕ, List, Option, Result}
 use Rattle.std.specs.Iterator.{Count}
 use Rattle.constriction_base.specs.Steps.{Step}
 use Rattle.constriction_base.specs.declared.errors.CoderError.{CoderError}
-use Rattle.constriction_stream.specs.Lists.{GivesAtMost, LowersByItems, StepsUntilFault, TriesItem}
+use Rattle.constriction_stream.specs.Lists.{YieldsUpTo, LowersByItems, StepsUntilFault, TriesItem}
 use Rattle.constriction_stream.specs.Symbols.{EncodesPair, EncodesSymbol}
 use Rattle.constriction_stream.specs.declared.errors.TryCodingError.{TryCodingError}
 
@@ -19,8 +19,8 @@ module _ {C V F B : Type 0} (coder : record {
 }) where
   -- Each such iterator can be called, and ends. If the coder counts symbols, the iterator returns at most as many items
   -- as symbols are left.
-  abbrev pub GivesAtMostLeft : {I : Type 0} → (I → Type 0) → (I → Type 0) → (I → Count) → C → Type 0
-  GivesAtMostLeft gives can_next remaining old = GivesAtMost gives can_next remaining coder.counts_symbols (coder.symbols_left old)
+  abbrev pub YieldsUpToLeft : {I : Type 0} → (I → Type 0) → (I → Type 0) → (I → Count) → C → Type 0
+  YieldsUpToLeft gives can_next remaining old = YieldsUpTo gives can_next remaining coder.counts_symbols (coder.symbols_left old)
 
   -- Symbols with their models are encoded in order, up to the first symbol that is refused.
   abbrev pub EncodesEachPair : {S M A I : Type 0} → ℕ → (M → List (S × ℕ × ℕ)) → (A → S) → (I → Type 0) → (I → Option (A × M) → I → Type 0)

@@ -21,8 +21,8 @@ StepsUntilFault {C} {I} {A} step gives next old result new =
     (λ e. (item : A) × (rest : I) × YieldsThen next iterator coded (Some item) rest × step mid item (Err e) new)
 
 -- Each iterator for which `gives` holds can be called, and ends. If `counts` holds, it returns at most `most` items.
-abbrev pub GivesAtMost : {I : Type 0} → (I → Type 0) → (I → Type 0) → (I → Count) → Type 0 → ℕ → Type 0
-GivesAtMost {I} gives can_next remaining counts most =
+abbrev pub YieldsUpTo : {I : Type 0} → (I → Type 0) → (I → Type 0) → (I → Count) → Type 0 → ℕ → Type 0
+YieldsUpTo {I} gives can_next remaining counts most =
     (iterator : I) → gives iterator → can_next iterator × IsFinite (remaining iterator) × (counts → size (remaining iterator) ≤ most)
 
 -- `old` and `new` are the numbers of symbols left before and after a call. If every iterator for which `gives` holds

@@ -6,7 +6,7 @@ ghost use Rattle.constriction_base.specs.Steps.{Step};
 ghost use Rattle.constriction_base.specs.declared.errors.CoderError.{CoderError};
 ghost use Rattle.constriction_base.specs.declared.errors.CoderError.TheVariants as coder_error;
 ghost use Rattle.constriction_stream.specs.Symbols.{EncodesSymbol, EncodesPair, HasRoom};
-ghost use Rattle.constriction_stream.specs.Lists.{StepsUntilFault, GivesAtMost, LowersByItems, TriesItem};
+ghost use Rattle.constriction_stream.specs.Lists.{StepsUntilFault, YieldsUpTo, LowersByItems, TriesItem};
 
 mod reverse;
 
@@ -151,7 +151,7 @@ pub trait Encode<const PRECISION: usize>: Code {
         S: Lent<M::Symbol> + Drop,
         I: IntoIterator<Item = (S, M)>,
         I::IntoIter: Drop,
-        requires { GivesAtMost (I.into_iter_gives symbols_and_models) I.IntoIter.can_next I.IntoIter.remaining
+        requires { YieldsUpTo (I.into_iter_gives symbols_and_models) I.IntoIter.can_next I.IntoIter.remaining
             counts_symbols (symbols_left self.old) }
         ensures steps { StepsUntilFault (EncodesPair encodes is_impossible_symbol PRECISION M.table S.lent)
             (I.into_iter_gives symbols_and_models) I.IntoIter.next_gives self.old result self.new }
@@ -189,7 +189,7 @@ pub trait Encode<const PRECISION: usize>: Code {
         S: Lent<M::Symbol> + Drop,
         I: IntoIterator<Item = Result<(S, M), E>>,
         I::IntoIter: Drop,
-        requires { GivesAtMost (I.into_iter_gives symbols_and_models) I.IntoIter.can_next I.IntoIter.remaining
+        requires { YieldsUpTo (I.into_iter_gives symbols_and_models) I.IntoIter.can_next I.IntoIter.remaining
             counts_symbols (symbols_left self.old) }
         ensures steps { StepsUntilFault (TriesItem (EncodesPair encodes is_impossible_symbol PRECISION M.table S.lent))
             (I.into_iter_gives symbols_and_models) I.IntoIter.next_gives self.old result self.new }
@@ -235,7 +235,7 @@ pub trait Encode<const PRECISION: usize>: Code {
         S: Lent<M::Symbol> + Drop,
         I: IntoIterator<Item = S>,
         I::IntoIter: Drop,
-        requires { GivesAtMost (I.into_iter_gives symbols) I.IntoIter.can_next I.IntoIter.remaining counts_symbols
+        requires { YieldsUpTo (I.into_iter_gives symbols) I.IntoIter.can_next I.IntoIter.remaining counts_symbols
             (symbols_left self.old) }
         ensures steps { StepsUntilFault
             (λ old symbol result new. EncodesSymbol encodes is_impossible_symbol PRECISION (M.table model)

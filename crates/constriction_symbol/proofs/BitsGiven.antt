@@ -1,15 +1,15 @@
 -- Bits that come from an iterator, one list after the other.
 use Rattle.std.proofs.Common.{◌≡◌, ◌+◌, ◌<◌, ◌≤◌, ℕ, zero, suc, Bool, true, false, List, [], ◌∷◌, ◌++◌, Option, Result, Err, ap, subst, sym, refl, arith, replicate, add-one, ◌*◌, ◌-◌, ◌^◌, mul-le-mul, pow_pos}
 use Rattle.std.proofs.Math.Nat.{pow-succ'}
-use Rattle.constriction_symbol.specs.Codewords.{GivesBits, EndsAfter, FailsAfter, StopsWithin, ReadsSymbol}
+use Rattle.constriction_symbol.specs.Codewords.{YieldsBits, EndsAfter, FailsAfter, StopsWithin, ReadsSymbol}
 use Rattle.constriction_base.specs.declared.errors.CoderError.{CoderError}
 use Rattle.constriction_base.specs.declared.errors.CoderError.TheVariants.{Frontend, Backend}
 use Rattle.constriction_symbol.specs.declared.codebooks.SymbolCodeError.{SymbolCodeError}
 use Rattle.constriction_symbol.specs.declared.codebooks.SymbolCodeError.TheVariants.{OutOfCompressedData, InvalidCodeword}
 use Rattle.constriction_symbol.specs.Golomb.{number_after}
 
-pub gives_then : {I E : Type 0} (next : I → Option (Result Bool E) → I → Type 0) (a b c : I) (xs ys : List Bool) → GivesBits next a xs b → GivesBits next b ys c → GivesBits next a (xs ++ ys) c
-gives_then next a b c [] ys e h = subst (λ from. GivesBits next from ys c) (sym e) h
+pub gives_then : {I E : Type 0} (next : I → Option (Result Bool E) → I → Type 0) (a b c : I) (xs ys : List Bool) → YieldsBits next a xs b → YieldsBits next b ys c → YieldsBits next a (xs ++ ys) c
+gives_then next a b c [] ys e h = subst (λ from. YieldsBits next from ys c) (sym e) h
 gives_then next a b c (x ∷ xs) ys (j, step, rest) h = (j, step, gives_then next j b c xs ys rest h)
 
 pub zeros_push : (k : ℕ) → replicate (k + 1) false ≡ replicate k false ++ false ∷ []
@@ -40,15 +40,15 @@ room_after_bit n left b bit some room =
     at_most true = omega arith
     at_most false = omega arith
 
-ends_then : {I E : Type 0} (next : I → Option (Result Bool E) → I → Type 0) (a b c : I) (xs ys : List Bool) → GivesBits next a xs b → EndsAfter next b ys c → EndsAfter next a (xs ++ ys) c
+ends_then : {I E : Type 0} (next : I → Option (Result Bool E) → I → Type 0) (a b c : I) (xs ys : List Bool) → YieldsBits next a xs b → EndsAfter next b ys c → EndsAfter next a (xs ++ ys) c
 ends_then next a b c xs ys e (last, gives, none) = (last, gives_then next a b last xs ys e gives, none)
 
-fails_then : {I E : Type 0} (next : I → Option (Result Bool E) → I → Type 0) (a b c : I) (xs ys : List Bool) (d : E) → GivesBits next a xs b → FailsAfter next b ys d c → FailsAfter next a (xs ++ ys) d c
+fails_then : {I E : Type 0} (next : I → Option (Result Bool E) → I → Type 0) (a b c : I) (xs ys : List Bool) (d : E) → YieldsBits next a xs b → FailsAfter next b ys d c → FailsAfter next a (xs ++ ys) d c
 fails_then next a b c xs ys d e (last, gives, refused) = (last, gives_then next a b last xs ys e gives, refused)
 
 -- bits were given, and then reading stopped
 pub stops_then : {I V E : Type 0} (next : I → Option (Result Bool E) → I → Type 0) (first all : List Bool → Type 0) (a b c : I) (xs : List Bool) (d : CoderError (SymbolCodeError V) E)
-    → GivesBits next a xs b → ((ys : List Bool) → first ys → all (xs ++ ys)) → StopsWithin next first b d c → StopsWithin next all a d c
+    → YieldsBits next a xs b → ((ys : List Bool) → first ys → all (xs ++ ys)) → StopsWithin next first b d c → StopsWithin next all a d c
 stops_then next first all a b c xs (Frontend OutOfCompressedData) given on (ys, is, ends) = (xs ++ ys, on ys is, ends_then next a b c xs ys given ends)
 stops_then next first all a b c xs (Frontend (InvalidCodeword v)) given on never = never
 stops_then next first all a b c xs (Backend e) given on (ys, is, fails) = (xs ++ ys, on ys is, fails_then next a b c xs ys e given fails)

@@ -10,17 +10,17 @@ use native.Mathlib.Nat.{pow-zero}
 use mir.Val.{bool_byte}
 use Rattle.constriction_symbol.specs.Bits.{bits_of}
 use Rattle.constriction_symbol.specs.Codewords.{BeginsTopBits}
-use Rattle.constriction_symbol.specs.DecoderTree.{HasPlaces, HoldsTree, IsPlace, LeadsTo, tree_of_pairs}
+use Rattle.constriction_symbol.specs.DecoderTree.{LeadToNodes, HoldsTree, LeadsToNode, LeadsTo, tree_of_pairs}
 use Rattle.constriction_symbol.specs.EncoderTree.{HasBelowOne}
 use Rattle.constriction_symbol.specs.Huffman.{IsTreeAt, path, subtree}
 use Rattle.constriction_symbol.specs.Merging.{as_pair}
-use Rattle.constriction_symbol.specs.declared.huffman.first_bits.Place.{Place}
+use Rattle.constriction_symbol.specs.declared.huffman.first_bits.ReachedNode.{ReachedNode}
 use Rattle.constriction_symbol.proofs.Coding.{length_bits}
 use Rattle.constriction_symbol.proofs.Marked.{none_below_one, one_more_below}
 use Rattle.constriction_symbol.proofs.Walking.{arrived, child_at, last_bits}
 
 -- a bit more behind a symbol: its place stays
-pub place_stays : (nodes : List (List ℕ)) (bits : List Bool) (bit : Bool) (place : Place) → place.index < length nodes + 1 → IsPlace nodes bits place → IsPlace nodes (bits ++ bit ∷ []) place
+pub place_stays : (nodes : List (List ℕ)) (bits : List Bool) (bit : Bool) (place : ReachedNode) → place.index < length nodes + 1 → LeadsToNode nodes bits place → LeadsToNode nodes (bits ++ bit ∷ []) place
 place_stays nodes bits bit place low is = record {
   within = omega (arith, is.within, length_push bits bit);
   leads = subst (λ bs. LeadsTo nodes bs place.index) (sym (take-append-le place.taken bits (bit ∷ []) is.within)) is.leads;
@@ -32,7 +32,7 @@ byte_of zero some = refl
 byte_of (suc zero) some = refl
 byte_of (suc (suc n)) some = absurd (omega (arith, some))
 
-all_taken : (nodes : List (List ℕ)) (bits : List Bool) (place : Place) → (place.index < length nodes + 1 → ⊥) → IsPlace nodes bits place → place.taken ≡ length bits
+all_taken : (nodes : List (List ℕ)) (bits : List Bool) (place : ReachedNode) → (place.index < length nodes + 1 → ⊥) → LeadsToNode nodes bits place → place.taken ≡ length bits
 all_taken nodes bits place high is =
     elim is.whole [
       | inl low ↦ absurd (high low)
@@ -40,8 +40,8 @@ all_taken nodes bits place high is =
     ]
 
 -- a bit more behind a node: its child's
-pub place_moves : (nodes : List (List ℕ)) (bits : List Bool) (bit : ℕ) (place : Place) → bit < 2 → (place.index < length nodes + 1 → ⊥) → IsPlace nodes bits place
-    → IsPlace nodes (bits ++ (bit == 1) ∷ []) (record { index = slice_index_or (slice_index_or nodes (place.index - (length nodes + 1)) []) bit 0; taken = place.taken + 1 })
+pub place_moves : (nodes : List (List ℕ)) (bits : List Bool) (bit : ℕ) (place : ReachedNode) → bit < 2 → (place.index < length nodes + 1 → ⊥) → LeadsToNode nodes bits place
+    → LeadsToNode nodes (bits ++ (bit == 1) ∷ []) (record { index = slice_index_or (slice_index_or nodes (place.index - (length nodes + 1)) []) bit 0; taken = place.taken + 1 })
 place_moves nodes bits bit place some high is =
     let all : place.taken ≡ length bits = all_taken nodes bits place high is in
     let here : take place.taken bits ≡ bits = take_all place.taken bits (omega (arith, all)) in
@@ -81,21 +81,21 @@ less_of (suc c) low number bits small is reads some =
     (reverse (bits_of c (low / 2)), half, reads ∙ (reverse-append ((low % 2 == 1) ∷ []) (bits_of c (low / 2)) ∙ ap (λ b. reverse (bits_of c (low / 2)) ++ (b == 1) ∷ []) last))
 
 -- one number more, by the place of its half
-pub place_more : (nodes : List (List ℕ)) (places : List Place) (place : Place) (number : ℕ) → number ≡ length places → 2 ≤ number → HasPlaces nodes places
-    → ((bits : List Bool) → IsPlace nodes bits (get_or places (number / 2) (record { index = 0; taken = 0 })) → IsPlace nodes (bits ++ (number % 2 == 1) ∷ []) place)
-    → HasPlaces nodes (places ++ place ∷ [])
+pub place_more : (nodes : List (List ℕ)) (places : List ReachedNode) (place : ReachedNode) (number : ℕ) → number ≡ length places → 2 ≤ number → LeadToNodes nodes places
+    → ((bits : List Bool) → LeadsToNode nodes bits (get_or places (number / 2) (record { index = 0; taken = 0 })) → LeadsToNode nodes (bits ++ (number % 2 == 1) ∷ []) place)
+    → LeadToNodes nodes (places ++ place ∷ [])
 place_more nodes places place number next some before below i bits within is =
-    let none : Place = record { index = 0; taken = 0 } in
+    let none : ReachedNode = record { index = 0; taken = 0 } in
     elim (cases_eq i number) [
       | inl same ↦
           let less = less_of is.count is.low i bits is.small is.is is.reads (omega (arith, same, some)) in
           let half : HasBelowOne less.0 (number / 2) = subst (λ n. HasBelowOne less.0 (n / 2)) same less.1 in
           let whole : bits ≡ less.0 ++ (number % 2 == 1) ∷ [] = less.2 ∙ ap (λ n. less.0 ++ (n % 2 == 1) ∷ []) same in
-          subst (λ bs. IsPlace nodes bs (get_or (places ++ place ∷ []) i none)) (sym whole)
-          (subst (λ p. IsPlace nodes (less.0 ++ (number % 2 == 1) ∷ []) p) (sym (get_or_push places place none i (omega (arith, same, next)))) (below less.0 (before (number / 2) less.0 (omega (arith, next, some)) half)))
+          subst (λ bs. LeadsToNode nodes bs (get_or (places ++ place ∷ []) i none)) (sym whole)
+          (subst (λ p. LeadsToNode nodes (less.0 ++ (number % 2 == 1) ∷ []) p) (sym (get_or_push places place none i (omega (arith, same, next)))) (below less.0 (before (number / 2) less.0 (omega (arith, next, some)) half)))
       | inr other ↦
           let low : i < length places = omega (arith, within, other, next, length_push places place) in
-          subst (λ p. IsPlace nodes bits p) (sym (get_or_append_left places (place ∷ []) none i low)) (before i bits low is)
+          subst (λ p. LeadsToNode nodes bits p) (sym (get_or_append_left places (place ∷ []) none i low)) (before i bits low is)
     ]
 
 -- only no bits are below the highest one of 1, and 0 has none
@@ -107,7 +107,7 @@ below_first number (suc c) low bits small is reads few = absurd (omega (arith, i
     pow_some c = let up : 2 ^ 0 ≤ 2 ^ c = pow_mono {i = 0} {j = c} (omega arith) in omega (arith, up, pow-zero 2)
 
 -- no bits lead to the root
-pub root_place : (nodes : List (List ℕ)) → HoldsTree nodes (tree_of_pairs nodes) → IsPlace nodes [] (record { index = 2 * length nodes; taken = 0 })
+pub root_place : (nodes : List (List ℕ)) → HoldsTree nodes (tree_of_pairs nodes) → LeadsToNode nodes [] (record { index = 2 * length nodes; taken = 0 })
 root_place nodes held =
     let root : length nodes + length nodes ≡ 2 * length nodes = omega arith in
     record {
@@ -121,7 +121,7 @@ root_place nodes held =
     }
 
 -- the first two numbers
-pub first_places : (nodes : List (List ℕ)) → HoldsTree nodes (tree_of_pairs nodes) → HasPlaces nodes (record { index = 2 * length nodes; taken = 0 } ∷ record { index = 2 * length nodes; taken = 0 } ∷ [])
+pub first_places : (nodes : List (List ℕ)) → HoldsTree nodes (tree_of_pairs nodes) → LeadToNodes nodes (record { index = 2 * length nodes; taken = 0 } ∷ record { index = 2 * length nodes; taken = 0 } ∷ [])
 first_places nodes held zero bits within is = rw (below_first 0 is.count is.low bits is.small is.is is.reads (omega arith)) (root_place nodes held)
 first_places nodes held (suc zero) bits within is = rw (below_first 1 is.count is.low bits is.small is.is is.reads (omega arith)) (root_place nodes held)
 first_places nodes held (suc (suc n)) bits within is = absurd (omega (arith, within))
@@ -163,14 +163,14 @@ pub table_size : (most : ℕ) → 0 < most → most ≤ 9 → (2 ≤ 2 ^ (most +
 table_size most some few = (pow_mono {i = 1} {j = most + 1} (omega (arith, some)), pow_mono {i = most + 1} {j = 10} (omega (arith, few)))
 
 -- the place of a word's highest bits, by the number that has one bit more above them
-pub top_place : (nodes : List (List ℕ)) (places : List Place) (w count most n first number : ℕ) → HasPlaces nodes places → length places ≡ 2 ^ (most + 1) → count ≤ w → count ≤ most → n < 2 ^ w → first ≡ n / 2 ^ (w - count) → number ≡ first + 2 ^ count
-    → (place : Place) → place ≡ get_or places number (record { index = 0; taken = 0 })
+pub top_place : (nodes : List (List ℕ)) (places : List ReachedNode) (w count most n first number : ℕ) → LeadToNodes nodes places → length places ≡ 2 ^ (most + 1) → count ≤ w → count ≤ most → n < 2 ^ w → first ≡ n / 2 ^ (w - count) → number ≡ first + 2 ^ count
+    → (place : ReachedNode) → place ≡ get_or places number (record { index = 0; taken = 0 })
     → (place.taken ≤ w) × LeadsTo nodes (reverse (bits_of place.taken (n / 2 ^ (w - place.taken)))) place.index
 top_place nodes places w count most n first number has len within few fits is_first is_number place is_place =
     let small : first < 2 ^ count = rw is_first (top_small w count n within fits) in
     let low : number < length places = omega (arith, is_number, number_low (length places) most count first len few small) in
     let found = has number (reverse (bits_of count first)) low (record { count = count; low = first; small = small; is = is_number; reads = refl }) in
-    let is : IsPlace nodes (reverse (bits_of count first)) place = subst (λ p. IsPlace nodes (reverse (bits_of count first)) p) (sym is_place) found in
+    let is : LeadsToNode nodes (reverse (bits_of count first)) place = subst (λ p. LeadsToNode nodes (reverse (bits_of count first)) p) (sym is_place) found in
     let fewer : place.taken ≤ count = omega (arith, is.within, length-reverse (bits_of count first), length_bits count first) in
     let top : take place.taken (reverse (bits_of count first)) ≡ reverse (bits_of place.taken (n / 2 ^ (w - place.taken))) = ap (λ f. take place.taken (reverse (bits_of count f))) is_first ∙ first_of_top w count place.taken n within fewer in
     (omega (arith, fewer, within), subst (λ bs. LeadsTo nodes bs place.index) top is.leads)

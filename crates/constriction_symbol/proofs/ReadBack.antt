@@ -4,15 +4,15 @@ use Rattle.std.proofs.lemmas.Option.{same_Some}
 use Rattle.std.proofs.lemmas.List.{append_cancel_left}
 use Rattle.constriction_base.specs.declared.errors.CoderError.{CoderError}
 use Rattle.constriction_base.specs.declared.errors.CoderError.TheVariants.{Frontend, Backend}
-use Rattle.constriction_symbol.specs.Bits.{GivesBit}
-use Rattle.constriction_symbol.specs.Codewords.{GivesBits, NoneBegins, NoneFits, ReadsSymbol, ComesBack}
+use Rattle.constriction_symbol.specs.Bits.{YieldsBit}
+use Rattle.constriction_symbol.specs.Codewords.{YieldsBits, NoCodewordBegins, NoCodewordFits, ReadsSymbol, ComesBack}
 use Rattle.constriction_symbol.specs.declared.codebooks.SymbolCodeError.{SymbolCodeError}
 use Rattle.constriction_symbol.specs.declared.codebooks.SymbolCodeError.TheVariants.{OutOfCompressedData, InvalidCodeword}
 
 -- bits that were given begin those that were there
 pub gives_front : {I E : Type 0} (next : I → Option (Result Bool E) → I → Type 0) (unread : I → List Bool)
-    → ((old : I) (item : Option (Result Bool E)) (new : I) → next old item new → GivesBit (unread old) item (unread new))
-    → (old : I) (bits : List Bool) (new : I) → GivesBits next old bits new → unread old ≡ bits ++ unread new
+    → ((old : I) (item : Option (Result Bool E)) (new : I) → next old item new → YieldsBit (unread old) item (unread new))
+    → (old : I) (bits : List Bool) (new : I) → YieldsBits next old bits new → unread old ≡ bits ++ unread new
 gives_front next unread law old [] new given = ap unread given
 gives_front next unread law old (b ∷ bs) new (mid, first, rest) =
     law old (Some (Ok b)) mid first ∙ ap (λ xs. b ∷ xs) (gives_front next unread law mid bs new rest)
@@ -32,11 +32,11 @@ comparable (x ∷ xs) (y ∷ ys) ms ns is =
     longer (inr (tail, e)) head = inr (tail, cc)
 
 module _ {I S V E : Type 0} (next : I → Option (Result Bool E) → I → Type 0) (unread : I → List Bool) (codeword : S → Option (List Bool)) (same : S → S → Type 0) (reads_on : List Bool → Type 0) (is_invalid : List Bool → V → Type 0)
-    (law : (old : I) (item : Option (Result Bool E)) (new : I) → next old item new → GivesBit (unread old) item (unread new))
+    (law : (old : I) (item : Option (Result Bool E)) (new : I) → next old item new → YieldsBit (unread old) item (unread new))
     (prefix_law : (s t : S) (bits tail : List Bool) → codeword s ≡ Some bits → codeword t ≡ Some (bits ++ tail) → same s t)
     (same_law : (s t : S) → same s t → codeword s ≡ codeword t)
-    (on_law : (bits : List Bool) → reads_on bits → NoneBegins codeword bits)
-    (invalid_law : (bits : List Bool) (e : V) → is_invalid bits e → NoneFits codeword bits) where
+    (on_law : (bits : List Bool) → reads_on bits → NoCodewordBegins codeword bits)
+    (invalid_law : (bits : List Bool) (e : V) → is_invalid bits e → NoCodewordFits codeword bits) where
   -- two codewords that begin the same bits are one
   one_codeword : (s t : S) (xs ys ms ns : List Bool) → codeword s ≡ Some xs → codeword t ≡ Some ys → xs ++ ms ≡ ys ++ ns → xs ≡ ys
   one_codeword s t xs ys ms ns first second is = told (comparable xs ys ms ns is)

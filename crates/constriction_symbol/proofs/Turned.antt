@@ -7,7 +7,7 @@ use Rattle.constriction_base.specs.declared.errors.CoderError.TheVariants.{Front
 use Rattle.constriction_base.specs.Backends.{IsWrite}
 use Rattle.constriction_base.specs.Iterators.{item_of_answer}
 use Rattle.constriction_base.proofs.Ends.{reverse_empty}
-use Rattle.constriction_symbol.specs.Bits.{GivesBit, PutsLast, bits_above}
+use Rattle.constriction_symbol.specs.Bits.{YieldsBit, PutsLast, bits_above}
 use Rattle.constriction_symbol.specs.Codewords.{Answer, Emits, EmitsCodeword, WritesCodeword, formed}
 use Rattle.constriction_symbol.specs.Reversed.{IsLongerThan, StacksCodeword}
 use Rattle.constriction_symbol.proofs.Emitted.{PutsBits, put_all}
@@ -33,7 +33,7 @@ two_words items count capacity (Ok _) held is = tt
 two_words items count capacity (Err e) held is = omega (arith, held.1, is, length-reverse items)
 
 -- the last bit comes off a stack
-pub taken_off : (E : Type 0) (old new : List Bool) (answer : Option Bool) → GivesBit {E = E} (reverse old) (item_of_answer (Ok answer)) (reverse new)
+pub taken_off : (E : Type 0) (old new : List Bool) (answer : Option Bool) → YieldsBit {E = E} (reverse old) (item_of_answer (Ok answer)) (reverse new)
     → MatchOption answer (old ≡ []) (λ bit. old ≡ new ++ bit ∷ [])
 taken_off E old new None gives = reverse_empty old gives.0
 taken_off E old new (Some bit) gives =

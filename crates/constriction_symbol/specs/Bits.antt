@@ -76,26 +76,26 @@ PutsBit old bit (Err _) new = new ≡ old
 
 -- The last bit of the last word is removed. If the last word is empty, a word is read, and its last bit is removed. If
 -- no word is left, or the read is refused, the last word stays empty.
-abbrev pub TakesLast : {W B E : Type 0} → ℕ → (W → ℕ) → (B → Result (Option W) E → B → Type 0) → List Bool → B
+abbrev pub LastBitRead : {W B E : Type 0} → ℕ → (W → ℕ) → (B → Result (Option W) E → B → Type 0) → List Bool → B
     → Option (Result Bool E) → List Bool → B → Type 0
-TakesLast {W} w number reads last backend (Some (Ok bit)) last' backend' =
+LastBitRead {W} w number reads last backend (Some (Ok bit)) last' backend' =
     ((last ≡ last' ++ bit ∷ []) × (backend' ≡ backend))
     ⊎ ((word : W) × (last ≡ []) × reads backend (Ok (Some word)) backend' × (bits_of w (number word) ≡ last' ++ bit ∷ []))
-TakesLast w number reads last backend None last' backend' =
+LastBitRead w number reads last backend None last' backend' =
     (last ≡ []) × (last' ≡ []) × reads backend (Ok None) backend'
-TakesLast w number reads last backend (Some (Err e)) last' backend' =
+LastBitRead w number reads last backend (Some (Err e)) last' backend' =
     (last ≡ []) × (last' ≡ []) × reads backend (Err e) backend'
 
 -- The first bit of the current word is removed. If the current word is empty, the next word is read first. If no word
 -- is left, or the read is refused, the current word stays empty.
-abbrev pub TakesFirst : {W B E : Type 0} → ℕ → (W → ℕ) → (B → Result (Option W) E → B → Type 0) → List Bool → B
+abbrev pub FirstBitRead : {W B E : Type 0} → ℕ → (W → ℕ) → (B → Result (Option W) E → B → Type 0) → List Bool → B
     → Option (Result Bool E) → List Bool → B → Type 0
-TakesFirst {W} w number reads last backend (Some (Ok bit)) last' backend' =
+FirstBitRead {W} w number reads last backend (Some (Ok bit)) last' backend' =
     ((last ≡ bit ∷ last') × (backend' ≡ backend))
     ⊎ ((word : W) × (last ≡ []) × reads backend (Ok (Some word)) backend' × (bits_of w (number word) ≡ bit ∷ last'))
-TakesFirst w number reads last backend None last' backend' =
+FirstBitRead w number reads last backend None last' backend' =
     (last ≡ []) × (last' ≡ []) × reads backend (Ok None) backend'
-TakesFirst w number reads last backend (Some (Err e)) last' backend' =
+FirstBitRead w number reads last backend (Some (Err e)) last' backend' =
     (last ≡ []) × (last' ≡ []) × reads backend (Err e) backend'
 
 -- Bits are appended to the last word. If not all of them fit, the first bits fill the last word, and it is written. The
@@ -118,37 +118,37 @@ PutsLowest w number write last backend count word r last' backend' =
     PutsBits w number write last backend (bits_of count (number word)) r last' backend'
 
 -- A read gives the next bit, or finds no bit left. An error leaves the bits unchanged.
-abbrev pub GivesBit : {E : Type 0} → List Bool → Option (Result Bool E) → List Bool → Type 0
-GivesBit old (Some (Ok bit)) new = old ≡ bit ∷ new
-GivesBit old None new = (old ≡ []) × (new ≡ [])
-GivesBit old (Some (Err _)) new = new ≡ old
+abbrev pub YieldsBit : {E : Type 0} → List Bool → Option (Result Bool E) → List Bool → Type 0
+YieldsBit old (Some (Ok bit)) new = old ≡ bit ∷ new
+YieldsBit old None new = (old ≡ []) × (new ≡ [])
+YieldsBit old (Some (Err _)) new = new ≡ old
 
 -- A read gives the last bit of a stack, which has the bits of a backend's words and then those of `last`.
-abbrev pub GivesLast : {W B E : Type 0} → ℕ → (W → ℕ) → (B → List W) → List Bool → B
+abbrev pub YieldsLastBit : {W B E : Type 0} → ℕ → (W → ℕ) → (B → List W) → List Bool → B
     → Option (Result Bool E) → List Bool → B → Type 0
-GivesLast w number words last backend item last' backend' =
-    GivesBit (reverse (bits_above w number (words backend) last)) item
+YieldsLastBit w number words last backend item last' backend' =
+    YieldsBit (reverse (bits_above w number (words backend) last)) item
     (reverse (bits_above w number (words backend') last'))
 
 -- A read gives the first bit of a queue, which has the bits of `last` and then those of a backend's words.
-abbrev pub GivesFirst : {W B E : Type 0} → ℕ → (W → ℕ) → (B → List W) → List Bool → B
+abbrev pub YieldsFirstBit : {W B E : Type 0} → ℕ → (W → ℕ) → (B → List W) → List Bool → B
     → Option (Result Bool E) → List Bool → B → Type 0
-GivesFirst w number words last backend item last' backend' =
-    GivesBit (bits_behind w number last (words backend)) item (bits_behind w number last' (words backend'))
+YieldsFirstBit w number words last backend item last' backend' =
+    YieldsBit (bits_behind w number last (words backend)) item (bits_behind w number last' (words backend'))
 
--- A read takes the last bit off a stack. If `is_list` holds, the coder's bits change as in `GivesBit`.
+-- A read takes the last bit off a stack. If `is_list` holds, the coder's bits change as in `YieldsBit`.
 abbrev pub PopsBit : {W B E : Type 0} → ℕ → (W → ℕ) → Type 0 → (B → Result (Option W) E → B → Type 0) → BitsValue B
     → Option (Result Bool E) → BitsValue B → Type 0
 PopsBit w number is_list reads old item new =
-    TakesLast w number reads old.last old.backend item new.last new.backend
-    × (is_list → GivesBit (reverse old.bits) item (reverse new.bits))
+    LastBitRead w number reads old.last old.backend item new.last new.backend
+    × (is_list → YieldsBit (reverse old.bits) item (reverse new.bits))
 
--- A read takes the first bit from a queue. If `is_list` holds, the coder's bits change as in `GivesBit`.
-abbrev pub TakesBit : {W B E : Type 0} → ℕ → (W → ℕ) → Type 0 → (B → Result (Option W) E → B → Type 0) → BitsValue B
+-- A read takes the first bit from a queue. If `is_list` holds, the coder's bits change as in `YieldsBit`.
+abbrev pub BitRead : {W B E : Type 0} → ℕ → (W → ℕ) → Type 0 → (B → Result (Option W) E → B → Type 0) → BitsValue B
     → Option (Result Bool E) → BitsValue B → Type 0
-TakesBit w number is_list reads old item new =
-    TakesFirst w number reads old.last old.backend item new.last new.backend
-    × (is_list → GivesBit old.bits item new.bits)
+BitRead w number is_list reads old item new =
+    FirstBitRead w number reads old.last old.backend item new.last new.backend
+    × (is_list → YieldsBit old.bits item new.bits)
 
 -- All bits of the list are 0.
 abbrev pub AreZeros : List Bool → Type 0

@@ -114,28 +114,28 @@ pub record BeginsTopBits (w all number : ℕ) (codeword : Option (List Bool)) (c
   pub is : codeword ≡ Some (top_bits w count number)
 
 -- The bits begin with no codeword.
-abbrev pub NoneBegins : {S : Type 0} → (S → Option (List Bool)) → List Bool → Type 0
-NoneBegins {S} codeword bits =
+abbrev pub NoCodewordBegins : {S : Type 0} → (S → Option (List Bool)) → List Bool → Type 0
+NoCodewordBegins {S} codeword bits =
     (symbol : S) (code tail : List Bool) → codeword symbol ≡ Some code → bits ≡ code ++ tail → ⊥
 
 -- The bits begin with no codeword, whatever bits follow them.
-abbrev pub NoneFits : {S : Type 0} → (S → Option (List Bool)) → List Bool → Type 0
-NoneFits codeword bits = (rest : List Bool) → NoneBegins codeword (bits ++ rest)
+abbrev pub NoCodewordFits : {S : Type 0} → (S → Option (List Bool)) → List Bool → Type 0
+NoCodewordFits codeword bits = (rest : List Bool) → NoCodewordBegins codeword (bits ++ rest)
 
 abbrev pub as_item : {E : Type 0} → Bool → Result Bool E
 as_item b = Ok b
 
 -- An iterator of `Result`s of bits gives these bits, in order.
-abbrev pub GivesBits : {I E : Type 0} → (I → Option (Result Bool E) → I → Type 0) → I → List Bool → I → Type 0
-GivesBits {E = E} next old bits new = Yields next old (map (as_item {E = E}) bits) new
+abbrev pub YieldsBits : {I E : Type 0} → (I → Option (Result Bool E) → I → Type 0) → I → List Bool → I → Type 0
+YieldsBits {E = E} next old bits new = Yields next old (map (as_item {E = E}) bits) new
 
 -- The iterator gives these bits, and then ends.
 abbrev pub EndsAfter : {I E : Type 0} → (I → Option (Result Bool E) → I → Type 0) → I → List Bool → I → Type 0
-EndsAfter {I} next old bits new = (last : I) × GivesBits next old bits last × next last None new
+EndsAfter {I} next old bits new = (last : I) × YieldsBits next old bits last × next last None new
 
 -- The iterator gives these bits, and then an error.
 abbrev pub FailsAfter : {I E : Type 0} → (I → Option (Result Bool E) → I → Type 0) → I → List Bool → E → I → Type 0
-FailsAfter {I} next old bits e new = (last : I) × GivesBits next old bits last × next last (Some (Err e)) new
+FailsAfter {I} next old bits e new = (last : I) × YieldsBits next old bits last × next last (Some (Err e)) new
 
 -- After bits for which `reads_on` holds, the source ends or returns an error.
 abbrev pub StopsWithin : {I V E : Type 0} → (I → Option (Result Bool E) → I → Type 0) → (List Bool → Type 0) → I
@@ -151,11 +151,11 @@ abbrev pub ReadsSymbol : {I S V E : Type 0} → (I → Option (Result Bool E) �
     → (List Bool → Type 0) → (List Bool → V → Type 0)
     → I → Result S (CoderError (SymbolCodeError V) E) → I → Type 0
 ReadsSymbol next codeword reads_on is_invalid old (Ok symbol) new =
-    (bits : List Bool) × (codeword symbol ≡ Some bits) × GivesBits next old bits new
+    (bits : List Bool) × (codeword symbol ≡ Some bits) × YieldsBits next old bits new
 ReadsSymbol next codeword reads_on is_invalid old (Err (Frontend OutOfCompressedData)) new =
     (bits : List Bool) × reads_on bits × EndsAfter next old bits new
 ReadsSymbol next codeword reads_on is_invalid old (Err (Frontend (InvalidCodeword e))) new =
-    (bits : List Bool) × is_invalid bits e × GivesBits next old bits new
+    (bits : List Bool) × is_invalid bits e × YieldsBits next old bits new
 ReadsSymbol next codeword reads_on is_invalid old (Err (Backend e)) new =
     (bits : List Bool) × reads_on bits × FailsAfter next old bits e new
 

@@ -4,7 +4,7 @@ use Rattle.constriction_symbol.specs.Bits.{top_bits}
 use Rattle.constriction_symbol.specs.EncoderTree.{HasBelowOne}
 use Rattle.constriction_symbol.specs.Huffman.{IsTreeAt, IsWithoutRepeats, Tree, leaves, subtree, tree_at}
 use Rattle.constriction_symbol.specs.Merging.{as_pair}
-use Rattle.constriction_symbol.specs.declared.huffman.first_bits.Place.{Place}
+use Rattle.constriction_symbol.specs.declared.huffman.first_bits.ReachedNode.{ReachedNode}
 
 -- The tree whose inner nodes have these children, the root last.
 abbrev pub tree_of_pairs : List (List ℕ) → Tree
@@ -25,16 +25,16 @@ pub record LeadsTo (nodes : List (List ℕ)) (bits : List Bool) (index : ℕ) : 
   pub at : IsTreeAt (length nodes + 1) (map as_pair nodes) index tree
 
 -- The `taken` highest of the w bits of a number lead to the place.
-abbrev pub IsTopPlace : List (List ℕ) → ℕ → ℕ → Place → Type 0
-IsTopPlace nodes w number place = (place.taken ≤ w) × LeadsTo nodes (top_bits w place.taken number) place.index
+abbrev pub TopLeadsToNode : List (List ℕ) → ℕ → ℕ → ReachedNode → Type 0
+TopLeadsToNode nodes w number place = (place.taken ≤ w) × LeadsTo nodes (top_bits w place.taken number) place.index
 
 -- The first `taken` bits lead to a symbol, or all bits lead to a node.
-pub record IsPlace (nodes : List (List ℕ)) (bits : List Bool) (place : Place) : Type 0 where
+pub record LeadsToNode (nodes : List (List ℕ)) (bits : List Bool) (place : ReachedNode) : Type 0 where
   pub within : place.taken ≤ length bits
   pub leads : LeadsTo nodes (take place.taken bits) place.index
   pub whole : (place.index < length nodes + 1) ⊎ (place.taken ≡ length bits)
 
 -- The entry at each number is the place of the number's bits below its highest 1, highest first.
-abbrev pub HasPlaces : List (List ℕ) → List Place → Type 0
-HasPlaces nodes places = (number : ℕ) (bits : List Bool) → number < length places → HasBelowOne bits number
-    → IsPlace nodes bits (get_or places number (record { index = 0; taken = 0 }))
+abbrev pub LeadToNodes : List (List ℕ) → List ReachedNode → Type 0
+LeadToNodes nodes places = (number : ℕ) (bits : List Bool) → number < length places → HasBelowOne bits number
+    → LeadsToNode nodes bits (get_or places number (record { index = 0; taken = 0 }))

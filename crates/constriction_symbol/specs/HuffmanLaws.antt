@@ -4,7 +4,7 @@ use Rattle.std.proofs.lemmas.Bool.{eqb-true}
 use Rattle.std.proofs.lemmas.Option.{cond_some, same_Some}
 use Rattle.constriction_symbol.specs.Huffman.{Tree, path, prefixed, or_else, subtree, ReadsOnIn}
 use Rattle.constriction_symbol.specs.Huffman.Tree.{Leaf, Node}
-use Rattle.constriction_symbol.specs.Codewords.{NoneBegins}
+use Rattle.constriction_symbol.specs.Codewords.{NoCodewordBegins}
 
 -- The codeword of a leaf is empty.
 pub leaf_path : (u s : ℕ) (bits : List Bool) → path (Leaf u) s ≡ Some bits → (u ≡ s) × (bits ≡ [])
@@ -49,7 +49,7 @@ path_prefix_free t s u bits tail first second =
     cc
 
 -- No codeword begins bits that lead to an inner node.
-pub inner_begins_none : (t : Tree) (bits : List Bool) → ReadsOnIn t bits → NoneBegins (path t) bits
+pub inner_begins_none : (t : Tree) (bits : List Bool) → ReadsOnIn t bits → NoCodewordBegins (path t) bits
 inner_begins_none t bits (lesser, other, at) s code tail known is =
     let same = (begun_by t (Node lesser other) s code tail known (ap (subtree t) (sym is) ∙ at)).1 in
     cc

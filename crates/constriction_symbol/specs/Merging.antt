@@ -10,21 +10,21 @@ abbrev pub as_weight : {P E : Type 0} → P → Result P E
 as_weight weight = Ok weight
 
 -- The iterator of `Result`s gives these weights, and ends.
-abbrev pub GivesWeights : {I P E : Type 0} → (I → Type 0) → (I → Option (Result P E) → I → Type 0) → List P → Type 0
-GivesWeights {I} {E = E} gives next weights =
+abbrev pub YieldsWeights : {I P E : Type 0} → (I → Type 0) → (I → Option (Result P E) → I → Type 0) → List P → Type 0
+YieldsWeights {I} {E = E} gives next weights =
     (iterator : I) × gives iterator × Drains next iterator (map (as_weight {E = E}) weights)
 
 -- The iterator gives some weights, and then this item.
-abbrev pub GivesThen : {I P E : Type 0} → (I → Type 0) → (I → Option (Result P E) → I → Type 0) → Result P E → Type 0
-GivesThen {I} {P} {E} gives next item =
+abbrev pub YieldsBefore : {I P E : Type 0} → (I → Type 0) → (I → Option (Result P E) → I → Type 0) → Result P E → Type 0
+YieldsBefore {I} {P} {E} gives next item =
     (iterator : I) × gives iterator × (weights : List P) × (rest : I)
     × YieldsThen next iterator (map (as_weight {E = E}) weights) (Some item) rest
 
 -- The weights aren't all collected: an item is an error, or there is no memory for one more weight.
 abbrev pub StopsGiving : {I P E : Type 0} → (I → Type 0) → (I → Option (Result P E) → I → Type 0)
     → HuffmanError E → Type 0
-StopsGiving gives next (Iterator e) = GivesThen gives next (Err e)
-StopsGiving {P = P} gives next Memory = (weight : P) × GivesThen gives next (Ok weight)
+StopsGiving gives next (Iterator e) = YieldsBefore gives next (Err e)
+StopsGiving {P = P} gives next Memory = (weight : P) × YieldsBefore gives next (Ok weight)
 StopsGiving gives next Empty = ⊥
 StopsGiving gives next TooManySymbols = ⊥
 StopsGiving gives next WeightOverflow = ⊥
@@ -60,7 +60,7 @@ abbrev pub RefusesGiven : {I P E : Type 0} → (I → Type 0) → (I → Option 
     → HuffmanError E → Type 0
 RefusesGiven {P = P} gives next number bits most e =
     StopsGiving gives next e
-    ⊎ ((weights : List P) × GivesWeights gives next weights × MakeNoTree number bits most weights e)
+    ⊎ ((weights : List P) × YieldsWeights gives next weights × MakeNoTree number bits most weights e)
 
 -- The weights make this tree: the Huffman tree of their numbers.
 abbrev pub MakesTree : {P : Type 0} → (P → ℕ) → ℕ → ℕ → List P → Tree → Type 0
@@ -71,7 +71,7 @@ MakesTree number bits most weights tree =
 abbrev pub MakesGiven : {I P E : Type 0} → (I → Type 0) → (I → Option (Result P E) → I → Type 0)
     → (P → ℕ) → ℕ → ℕ → Tree → Type 0
 MakesGiven {P = P} gives next number bits most tree =
-    (weights : List P) × GivesWeights gives next weights × MakesTree number bits most weights tree
+    (weights : List P) × YieldsWeights gives next weights × MakesTree number bits most weights tree
 
 -- The weights that an iterator lends make this tree.
 abbrev pub MakesLent : {I P L : Type 0} → (I → Type 0) → (I → Option L → I → Type 0) → (L → P)

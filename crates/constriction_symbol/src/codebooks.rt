@@ -5,8 +5,8 @@
 
 ghost use Rattle.constriction_base.specs.declared.errors.CoderError.TheVariants as coder;
 ghost use Rattle.constriction_symbol.specs.Bits.{bits_of};
-ghost use Rattle.constriction_symbol.specs.Codewords.{BeginsTopBits, EmitsCodeword, EmitsSymbol, IsLowBits, NoneBegins};
-ghost use Rattle.constriction_symbol.specs.Codewords.{LacksMemory, NoneFits, ReadsSymbol, UnlessBitsEnd, WantsMemory};
+ghost use Rattle.constriction_symbol.specs.Codewords.{BeginsTopBits, EmitsCodeword, EmitsSymbol, IsLowBits, NoCodewordBegins};
+ghost use Rattle.constriction_symbol.specs.Codewords.{LacksMemory, NoCodewordFits, ReadsSymbol, UnlessBitsEnd, WantsMemory};
 ghost use Rattle.std.specs.Iterator.{IsFinite};
 ghost use Rattle.std.specs.Prelude.{Bool, IfSome, List, Option, Some, reverse, ◌++◌, ◌<◌, ◌^◌, ◌≡◌, ◌≤◌};
 
@@ -254,11 +254,11 @@ pub trait DecoderCodebook: Codebook {
     }
 
     // Bits after which the codebook reads on begin with no codeword.
-    ghost on_law: { (c : Self) (bits : List Bool) → reads_on c bits → NoneBegins (Self.codeword c) bits };
+    ghost on_law: { (c : Self) (bits : List Bool) → reads_on c bits → NoCodewordBegins (Self.codeword c) bits };
 
     // Invalid bits begin with no codeword, whatever bits follow them.
     ghost invalid_law: { (c : Self) (bits : List Bool) (e : Self.InvalidCodeword) →
-        is_invalid c bits e → NoneFits (Self.codeword c) bits };
+        is_invalid c bits e → NoCodewordFits (Self.codeword c) bits };
 }
 
 impl<C: Codebook> Codebook for &C {

@@ -1,7 +1,7 @@
 //! `QueueDecoder`: a decoder of bit queues, which reads the bits of a backend's words from the first to the last.
 
 ghost use Rattle.constriction_base.specs.Iterators.{item_of_answer};
-ghost use Rattle.constriction_symbol.specs.Bits.{AreZeros, BitsValue, TakesBit, bits_behind, bits_of_words};
+ghost use Rattle.constriction_symbol.specs.Bits.{AreZeros, BitsValue, BitRead, bits_behind, bits_of_words};
 ghost use Rattle.std.specs.Prelude.{IsTrue, [], map, ◌↔◌, ◌≡◌};
 
 use crate::steps::take_first;
@@ -80,7 +80,7 @@ impl<Word: BitArray, B: ReadWords<Word, Queue>> QueueDecoder<Word, B> {
     /// the unread bits are then unchanged.
     #[inline]
     pub fn read_bit(&mut self) -> Result<Option<bool>, B::ReadError>
-        ensures { TakesBit Word.BITS Word.number B.is_list B.reads self.old (item_of_answer result) self.new }
+        ensures { BitRead Word.BITS Word.number B.is_list B.reads self.old (item_of_answer result) self.new }
     {
         take_first(&mut self.backend, &mut self.last)
     }
@@ -102,9 +102,9 @@ impl<Word: BitArray, B: ReadWords<Word, Queue>> QueueDecoder<Word, B> {
 impl<Word: BitArray, B: ReadWords<Word, Queue> + Drop> Iterator for QueueDecoder<Word, B> {
     type Item = Result<bool, B::ReadError>;
 
-    ghost use Rattle.constriction_symbol.specs.Bits.{TakesBit};
+    ghost use Rattle.constriction_symbol.specs.Bits.{BitRead};
 
-    ghost next_gives = { TakesBit Word.BITS Word.number B.is_list B.reads };
+    ghost next_gives = { BitRead Word.BITS Word.number B.is_list B.reads };
 
     #[inline]
     fn next(&mut self) -> Option<Result<bool, B::ReadError>> {

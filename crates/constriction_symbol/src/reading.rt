@@ -3,7 +3,7 @@
 //! [`StackCoder`] and [`QueueDecoder`] implement the trait. Its calls read a bit, decode a symbol, or return an
 //! iterator over decoded symbols.
 
-ghost use Rattle.constriction_symbol.specs.Bits.{GivesBit, PopsBit, TakesBit};
+ghost use Rattle.constriction_symbol.specs.Bits.{YieldsBit, PopsBit, BitRead};
 ghost use Rattle.constriction_symbol.specs.Codewords.{ReadsSymbol};
 ghost use Rattle.constriction_base.specs.Iterators.{item_of_answer};
 ghost use Rattle.std.specs.Prelude.{Bool, List, Option, Result, reverse, ◌≡◌};
@@ -106,7 +106,7 @@ pub trait ReadBitStream<S: Semantics> {
 
     // If `is_list` holds, a read returns the first unread bit, `None` if no bit is unread, or an error.
     ghost list_law: { is_list → (old : Self) (item : Option (Result Bool Self.ReadError)) (new : Self) →
-        gives old item new → GivesBit (unread old) item (unread new) };
+        gives old item new → YieldsBit (unread old) item (unread new) };
 }
 
 impl<Word: BitArray, B: ReadWords<Word, Stack> + Drop> ReadBitStream<Stack>
@@ -151,7 +151,7 @@ impl<Word: BitArray, B: ReadWords<Word, Queue> + Drop> ReadBitStream<Queue>
 
     ghost is_list = { B.is_list };
 
-    ghost gives = { TakesBit Word.BITS Word.number B.is_list B.reads };
+    ghost gives = { BitRead Word.BITS Word.number B.is_list B.reads };
 
     /// Removes the first unread bit and returns it, or returns `None` if no bit is left.
     ///

@@ -4,7 +4,7 @@
 
 ghost use Rattle.constriction_base.specs.Backends.{IsWrite};
 ghost use Rattle.constriction_base.specs.Iterators.{item_of_answer};
-ghost use Rattle.constriction_symbol.specs.Bits.{GivesFirst, GivesLast, PutsLast, PutsLowest, TakesFirst, TakesLast};
+ghost use Rattle.constriction_symbol.specs.Bits.{YieldsFirstBit, YieldsLastBit, PutsLast, PutsLowest, FirstBitRead, LastBitRead};
 ghost use Rattle.std.specs.Prelude.{length, ◌+◌, ◌<◌, ◌^◌};
 
 use crate::top_bits::TopBits;
@@ -103,9 +103,9 @@ pub fn take_last<Word: BitArray, B: ReadWords<Word, Stack>>(
     backend: &mut B,
     last: &mut TopBits<Word>,
 ) -> Result<Option<bool>, B::ReadError>
-    ensures takes { TakesLast Word.BITS Word.number B.reads
+    ensures takes { LastBitRead Word.BITS Word.number B.reads
         last.old backend.old (item_of_answer result) last.new backend.new }
-    ensures bits { B.is_list → GivesLast Word.BITS Word.number B.words
+    ensures bits { B.is_list → YieldsLastBit Word.BITS Word.number B.words
         last.old backend.old (item_of_answer result) last.new backend.new }
 {
     if last.is_empty() {
@@ -130,9 +130,9 @@ pub fn take_first<Word: BitArray, B: ReadWords<Word, Queue>>(
     backend: &mut B,
     last: &mut WordBits<Word>,
 ) -> Result<Option<bool>, B::ReadError>
-    ensures takes { TakesFirst Word.BITS Word.number B.reads
+    ensures takes { FirstBitRead Word.BITS Word.number B.reads
         last.old backend.old (item_of_answer result) last.new backend.new }
-    ensures bits { B.is_list → GivesFirst Word.BITS Word.number B.words
+    ensures bits { B.is_list → YieldsFirstBit Word.BITS Word.number B.words
         last.old backend.old (item_of_answer result) last.new backend.new }
 {
     if last.is_empty() {

@@ -1,7 +1,7 @@
 //! Functions that read bits from an iterator of `Result`s of bits, for the decodes of codebooks.
 
-ghost use Rattle.constriction_symbol.specs.Codewords.{GivesBits, StopsWithin, UnlessBitsEnd};
-ghost use Rattle.constriction_symbol.specs.Taking.{CountsZeros, GivesNumber};
+ghost use Rattle.constriction_symbol.specs.Codewords.{YieldsBits, StopsWithin, UnlessBitsEnd};
+ghost use Rattle.constriction_symbol.specs.Taking.{CountsZeros, YieldsNumber};
 ghost use Rattle.std.specs.Iterator.{IsFinite};
 ghost use Rattle.std.specs.Prelude.{IfErr, IfOk, [], false, length, replicate};
 ghost use Rattle.std.specs.Prelude.{ℕ, ◌*◌, ◌+◌, ◌<◌, ◌^◌, ◌∷◌, ◌≡◌, ◌≤◌};
@@ -27,7 +27,7 @@ pub fn next_bit<V, E, I: Iterator<Item = Result<bool, E>>>(
     requires { I.can_next source.old }
     ensures can { UnlessBitsEnd result (I.can_next source.new) }
     ensures finite { IsFinite (I.remaining source.old) → UnlessBitsEnd result (IsFinite (I.remaining source.new)) }
-    ensures bit { IfOk result (λ bit. GivesBits I.next_gives source.old (bit ∷ []) source.new) }
+    ensures bit { IfOk result (λ bit. YieldsBits I.next_gives source.old (bit ∷ []) source.new) }
     ensures stops { IfErr result (λ e. StopsWithin I.next_gives (λ bits. bits ≡ []) source.old e source.new) }
 {
     match source.next() {
@@ -87,7 +87,7 @@ pub fn read_bits<V, N: BitArray, E, I: Iterator<Item = Result<bool, E>>>(
     ensures can { UnlessBitsEnd result (I.can_next source.new) }
     ensures finite { IsFinite (I.remaining source.old) → UnlessBitsEnd result (IsFinite (I.remaining source.new)) }
     ensures bits { IfOk result (λ n.
-        GivesNumber I.next_gives (N.number start) count source.old (N.number n) source.new) }
+        YieldsNumber I.next_gives (N.number start) count source.old (N.number n) source.new) }
     ensures stops { IfErr result (λ e. StopsWithin I.next_gives (λ bits. length bits < count) source.old e source.new) }
 {
     let mut number = start;

@@ -4,7 +4,7 @@ use Rattle.std.proofs.lemmas.Bool.{cases_lt}
 use Rattle.std.proofs.lemmas.Nat.{div-add-mod', div-mul-add, leading_top, mod_below, one_shl, pow_below, pow_pos, pow-add, shr-shr}
 use Rattle.std.proofs.Math.Nat.{div-le_self, mod-eq_of_lt}
 use lib.Count.{count_leading_zeros}
-use Rattle.constriction_words.specs.Reciprocals.{GivesQuotients}
+use Rattle.constriction_words.specs.Reciprocals.{ComputesQuotients}
 
 -- a quotient, from the two multiples between which the number lies
 pub quotient_is : (n d q : ℕ) → q * d ≤ n → n < q * d + d → n / d ≡ q
@@ -56,7 +56,7 @@ from_above u d p m e x some is small within =
 -- ---- how the two numbers are made, from what d - 1 leaves
 -- where little is left, the quotient, which is too small, serves as both
 pub made_below : (n k p : ℕ) → 0 < p → (2 ^ (n + k) - 1) % p < 2 ^ k
-    → GivesQuotients n p ((2 ^ (n + k) - 1) / p) ((2 ^ (n + k) - 1) / p) k
+    → ComputesQuotients n p ((2 ^ (n + k) - 1) / p) ((2 ^ (n + k) - 1) / p) k
 made_below n k p some little x within =
     let d = 2 ^ (n + k) in
     let split : (d - 1) / p * p + (d - 1) % p ≡ d - 1 = div-add-mod' (d - 1) p in
@@ -68,7 +68,7 @@ made_below n k p some little x within =
 
 -- else one more than it, which is too large, and nothing is added
 pub made_above : (n k p : ℕ) → 0 < p → p < 2 ^ k * 2 → 2 ^ k ≤ (2 ^ (n + k) - 1) % p
-    → GivesQuotients n p ((2 ^ (n + k) - 1) / p + 1) 0 k
+    → ComputesQuotients n p ((2 ^ (n + k) - 1) / p + 1) 0 k
 made_above n k p some below much x within =
     let d = 2 ^ (n + k) in
     let rest : (d - 1) % p < p = mod_below (d - 1) p some in
@@ -135,7 +135,7 @@ top n d some within =
     }
 
 -- a product moved down by n bits and then by k
-pub moved_twice : (n m b k p x : ℕ) → GivesQuotients n p m b k → x < 2 ^ n → (x * m + b) / 2 ^ n / 2 ^ k ≡ x / p
+pub moved_twice : (n m b k p x : ℕ) → ComputesQuotients n p m b k → x < 2 ^ n → (x * m + b) / 2 ^ n / 2 ^ k ≡ x / p
 moved_twice n m b k p x divides within = shr-shr (x * m + b) n k ∙ divides x within
 
 -- a quotient of a number of so many bits has no more

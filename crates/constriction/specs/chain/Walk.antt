@@ -1,2 +1,2 @@
 -- The quantiles of a chain coder, as a walk over bits.
-pub use Rattle.constriction_chain.specs.Walk.{number_of_bits, Source, IsTakenFromWord, IsTakenFromBits, IsTaken, IsQuantile, NeedsWord, OwesWord, TakenBy}
+pub use Rattle.constriction_chain.specs.Walk.{number_of_bits, Source, QuantileFromWord, QuantileFromBits, QuantileFromSource, IsQuantile, NeedsWord, OwesWord, QuantileReadBy}

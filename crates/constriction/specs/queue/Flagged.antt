@@ -1,2 +1,2 @@
 -- Symbols under two models in one stream.
-pub use Rattle.constriction_queue.specs.Flagged.{flagged, has_flag, next_model, Switch, HoldsNone, DecodesUnder, EncodesItem, StepsToFault}
+pub use Rattle.constriction_queue.specs.Flagged.{flagged, has_flag, next_model, Switch, NoSymbolFrom, DecodesUnder, EncodesItem, StepsToFault}

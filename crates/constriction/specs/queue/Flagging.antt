@@ -1,2 +1,2 @@
 -- Symbols that a `FlagSwitch` decodes before and after its flag, and the reasons why it stops.
-pub use Rattle.constriction_laws.specs.queue.Flagging.{GivesFlagged, StopsFlagged, flagged_behind}
+pub use Rattle.constriction_laws.specs.queue.Flagging.{ReturnsFlagged, StopsFlagged, flagged_behind}

@@ -1,7 +1,7 @@
 //! Removing words that were written to a backend.
 
 ghost use Rattle.std.specs.Prelude.{◌≡◌, drop};
-ghost use Rattle.constriction_base.specs.Readings.{NeverRefused, TakesUpTo};
+ghost use Rattle.constriction_base.specs.Readings.{NeverRefused, ReadsUpTo};
 
 use crate::backends::reading::ReadWords;
 use crate::backends::semantics::Stack;
@@ -17,7 +17,7 @@ where
     Word: Drop,
     Backend: WriteWords<Word> + ReadWords<Word, Stack>,
     Backend::ReadError: Drop,
-    ensures reads { TakesUpTo Backend.reads count bulk.old bulk.new }
+    ensures reads { ReadsUpTo Backend.reads count bulk.old bulk.new }
     ensures words { NeverRefused Backend.reads → Backend.words bulk.new ≡ drop count (Backend.words bulk.old) }
 {
     for _i in 0..count {

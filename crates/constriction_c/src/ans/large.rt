@@ -2,7 +2,7 @@
 
 ghost use Rattle.std.specs.Prelude.{map};
 ghost use Rattle.constriction_base.specs.Readings.{BeginsHigh};
-ghost use Rattle.constriction_c.specs.Large.{AnsExportsU32, AnsImportsU32, AnsPutsU32, AnsTakesU32};
+ghost use Rattle.constriction_c.specs.Large.{AnsExportsU32, AnsImportsU32, AnsEncodesU32, AnsDecodesU32};
 ghost use Rattle.constriction_c.specs.Words.{lowest};
 ghost use Rattle.constriction_calls.specs.AnsCalls.{AreCompressed};
 ghost use Rattle.constriction_inputs.specs.Weights.{by_weights};
@@ -30,7 +30,7 @@ pub extern "C" fn constriction_ans_encode_reverse_u32(
     symbols: &[usize],
     needed: &mut usize,
 ) -> u32
-    ensures { AnsPutsU32 result needed.old needed.new (by_weights (map (lowest 32) weights.now) symbols.now) head.old
+    ensures { AnsEncodesU32 result needed.old needed.new (by_weights (map (lowest 32) weights.now) symbols.now) head.old
         words.old len.old head.new words.new len.new }
 {
     let models = Weights { weights };
@@ -51,7 +51,8 @@ pub extern "C" fn constriction_ans_decode_u32(
     weights: &[u32],
     symbols: &mut [usize],
 ) -> u32
-    ensures { AnsTakesU32 result (by_weights (map (lowest 32) weights.now)) words.now head.old len.old head.new len.new
+    ensures { AnsDecodesU32 result (by_weights (map (lowest 32) weights.now)) words.now head.old len.old head.new
+        len.new
         symbols.old symbols.new }
 {
     let answer = decode_by_weights::<_, _, u32, 24>(alloc, head, words, len, weights, symbols);

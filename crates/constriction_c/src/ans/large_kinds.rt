@@ -1,7 +1,7 @@
 // Written by tools/sizes from large.rt.
 //! More C functions of the stack coder: other models, symbols of 8 and 16 bits, and words in binary form.
 
-ghost use Rattle.constriction_c.specs.Large.{AnsExportsU32, AnsPutsU32, AnsTakesU32, intervals_from_u32, narrow_from_u32};
+ghost use Rattle.constriction_c.specs.Large.{AnsDecodesU32, AnsEncodesU32, AnsExportsU32, intervals_from_u32, narrow_from_u32};
 ghost use Rattle.constriction_c.specs.Words.{lowest};
 ghost use Rattle.constriction_calls.specs.AnsCalls.{AreBinary, HasBinary};
 ghost use Rattle.constriction_inputs.specs.Counts.{by_counts};
@@ -34,8 +34,8 @@ pub extern "C" fn constriction_ans_encode_each_reverse_u32(
     symbols: &[usize],
     needed: &mut usize,
 ) -> u32
-    ensures { AnsPutsU32 result needed.old needed.new (by_rows width (map (lowest 32) weights.now) symbols.now) head.old
-        words.old len.old head.new words.new len.new }
+    ensures { AnsEncodesU32 result needed.old needed.new (by_rows width (map (lowest 32) weights.now) symbols.now)
+        head.old words.old len.old head.new words.new len.new }
 {
     let models = Rows { weights, width };
     let items = Symbols { models, symbols };
@@ -56,7 +56,7 @@ pub extern "C" fn constriction_ans_decode_each_u32(
     width: usize,
     symbols: &mut [usize],
 ) -> u32
-    ensures { AnsTakesU32 result (by_rows width (map (lowest 32) weights.now)) words.now head.old len.old head.new
+    ensures { AnsDecodesU32 result (by_rows width (map (lowest 32) weights.now)) words.now head.old len.old head.new
         len.new symbols.old symbols.new }
 {
     let models = Rows { weights, width };
@@ -78,7 +78,7 @@ pub extern "C" fn constriction_ans_encode_counts_reverse_u32(
     symbols: &[usize],
     needed: &mut usize,
 ) -> u32
-    ensures { AnsPutsU32 result needed.old needed.new (by_counts 32 width counts.now symbols.now) head.old words.old
+    ensures { AnsEncodesU32 result needed.old needed.new (by_counts 32 width counts.now symbols.now) head.old words.old
         len.old head.new words.new len.new }
 {
     let models = Counts { counts, width };
@@ -100,8 +100,8 @@ pub extern "C" fn constriction_ans_decode_counts_u32(
     width: usize,
     symbols: &mut [usize],
 ) -> u32
-    ensures { AnsTakesU32 result (by_counts 32 width counts.now) words.now head.old len.old head.new len.new symbols.old
-        symbols.new }
+    ensures { AnsDecodesU32 result (by_counts 32 width counts.now) words.now head.old len.old head.new len.new
+        symbols.old symbols.new }
 {
     let models = Counts { counts, width };
     let answer = decode::<_, _, u32, _, 24>(alloc, head, words, len, &models, symbols);
@@ -121,8 +121,8 @@ pub extern "C" fn constriction_ans_encode_intervals_reverse_u32(
     ps: &[u32],
     needed: &mut usize,
 ) -> u32
-    ensures { AnsPutsU32 result needed.old needed.new (intervals_from_u32 lefts.now (map (lowest 32) ps.now)) head.old
-        words.old len.old head.new words.new len.new }
+    ensures { AnsEncodesU32 result needed.old needed.new (intervals_from_u32 lefts.now (map (lowest 32) ps.now))
+        head.old words.old len.old head.new words.new len.new }
 {
     let items = Intervals { lefts, ps };
     let answer = encode_reverse::<_, _, u32, _, 24>(alloc, head, words, len, &items);
@@ -146,7 +146,7 @@ pub extern "C" fn constriction_ans_encode_quantized_reverse_u32(
     symbols: &[usize],
     needed: &mut usize,
 ) -> u32
-    ensures { AnsPutsU32 result needed.old needed.new (in_family family min max locations.now scales.now symbols.now)
+    ensures { AnsEncodesU32 result needed.old needed.new (in_family family min max locations.now scales.now symbols.now)
         head.old words.old len.old head.new words.new len.new }
 {
     let models = Families::new(family, min, max, locations, scales);
@@ -171,8 +171,8 @@ pub extern "C" fn constriction_ans_decode_quantized_u32(
     scales: &[u32],
     symbols: &mut [usize],
 ) -> u32
-    ensures { AnsTakesU32 result (in_family family min max locations.now scales.now) words.now head.old len.old head.new
-        len.new symbols.old symbols.new }
+    ensures { AnsDecodesU32 result (in_family family min max locations.now scales.now) words.now head.old len.old
+        head.new len.new symbols.old symbols.new }
 {
     let models = Families::new(family, min, max, locations, scales);
     let answer = decode::<_, _, u32, _, 24>(alloc, head, words, len, &models, symbols);
@@ -198,7 +198,7 @@ pub extern "C" fn constriction_ans_encode_mixture_reverse_u32(
     symbols: &[usize],
     needed: &mut usize,
 ) -> u32
-    ensures { AnsPutsU32 result needed.old needed.new
+    ensures { AnsEncodesU32 result needed.old needed.new
         (in_mixture family min max width component_weights.now locations.now scales.now symbols.now) head.old words.old
         len.old head.new words.new len.new }
 {
@@ -227,7 +227,7 @@ pub extern "C" fn constriction_ans_decode_mixture_u32(
     scales: &[u32],
     symbols: &mut [usize],
 ) -> u32
-    ensures { AnsTakesU32 result (in_mixture family min max width component_weights.now locations.now scales.now)
+    ensures { AnsDecodesU32 result (in_mixture family min max width component_weights.now locations.now scales.now)
         words.now head.old len.old head.new len.new symbols.old symbols.new }
 {
     let components = Families::new(family, min, max, locations, scales);
@@ -249,7 +249,7 @@ pub extern "C" fn constriction_ans_encode_bytes_reverse_u32(
     symbols: &[u8],
     needed: &mut usize,
 ) -> u32
-    ensures { AnsPutsU32 result needed.old needed.new (by_weights (map (lowest 32) weights.now) symbols.now) head.old
+    ensures { AnsEncodesU32 result needed.old needed.new (by_weights (map (lowest 32) weights.now) symbols.now) head.old
         words.old len.old head.new words.new len.new }
 {
     let models = Weights { weights };
@@ -270,7 +270,7 @@ pub extern "C" fn constriction_ans_decode_bytes_u32(
     weights: &[u32],
     symbols: &mut [u8],
 ) -> u32
-    ensures { AnsTakesU32 result (narrow_from_u32 8 weights.now) words.now head.old len.old head.new len.new
+    ensures { AnsDecodesU32 result (narrow_from_u32 8 weights.now) words.now head.old len.old head.new len.new
         (map (lowest 8) symbols.old) (map (lowest 8) symbols.new) }
 {
     let answer = decode_narrow::<_, _, u32, u8, 24>(alloc, head, words, len, weights, symbols);
@@ -290,7 +290,7 @@ pub extern "C" fn constriction_ans_encode_shorts_reverse_u32(
     symbols: &[u16],
     needed: &mut usize,
 ) -> u32
-    ensures { AnsPutsU32 result needed.old needed.new (by_weights (map (lowest 32) weights.now) symbols.now) head.old
+    ensures { AnsEncodesU32 result needed.old needed.new (by_weights (map (lowest 32) weights.now) symbols.now) head.old
         words.old len.old head.new words.new len.new }
 {
     let models = Weights { weights };
@@ -311,7 +311,7 @@ pub extern "C" fn constriction_ans_decode_shorts_u32(
     weights: &[u32],
     symbols: &mut [u16],
 ) -> u32
-    ensures { AnsTakesU32 result (narrow_from_u32 16 weights.now) words.now head.old len.old head.new len.new
+    ensures { AnsDecodesU32 result (narrow_from_u32 16 weights.now) words.now head.old len.old head.new len.new
         (map (lowest 16) symbols.old) (map (lowest 16) symbols.new) }
 {
     let answer = decode_narrow::<_, _, u32, u16, 24>(alloc, head, words, len, weights, symbols);

@@ -3,7 +3,7 @@
 
 ghost use Rattle.std.specs.Prelude.{map};
 ghost use Rattle.constriction_base.specs.Readings.{BeginsHigh};
-ghost use Rattle.constriction_c.specs.Small.{AnsExportsU16, AnsImportsU16, AnsPutsU16, AnsTakesU16};
+ghost use Rattle.constriction_c.specs.Small.{AnsExportsU16, AnsImportsU16, AnsEncodesU16, AnsDecodesU16};
 ghost use Rattle.constriction_c.specs.Words.{lowest};
 ghost use Rattle.constriction_calls.specs.AnsCalls.{AreCompressed};
 ghost use Rattle.constriction_inputs.specs.Weights.{by_weights};
@@ -31,7 +31,7 @@ pub extern "C" fn constriction_ans_encode_reverse_u16(
     symbols: &[usize],
     needed: &mut usize,
 ) -> u32
-    ensures { AnsPutsU16 result needed.old needed.new (by_weights (map (lowest 16) weights.now) symbols.now) head.old
+    ensures { AnsEncodesU16 result needed.old needed.new (by_weights (map (lowest 16) weights.now) symbols.now) head.old
         words.old len.old head.new words.new len.new }
 {
     let models = Weights { weights };
@@ -52,7 +52,8 @@ pub extern "C" fn constriction_ans_decode_u16(
     weights: &[u16],
     symbols: &mut [usize],
 ) -> u32
-    ensures { AnsTakesU16 result (by_weights (map (lowest 16) weights.now)) words.now head.old len.old head.new len.new
+    ensures { AnsDecodesU16 result (by_weights (map (lowest 16) weights.now)) words.now head.old len.old head.new
+        len.new
         symbols.old symbols.new }
 {
     let answer = decode_by_weights::<_, _, u16, 12>(alloc, head, words, len, weights, symbols);

@@ -1,7 +1,7 @@
 // Written by tools/sizes from large_kinds.rt.
 //! More C functions of the stack coder: other models, symbols of 8 and 16 bits, and words in binary form.
 
-ghost use Rattle.constriction_c.specs.Small.{AnsExportsU16, AnsPutsU16, AnsTakesU16, intervals_from_u16, narrow_from_u16};
+ghost use Rattle.constriction_c.specs.Small.{AnsDecodesU16, AnsEncodesU16, AnsExportsU16, intervals_from_u16, narrow_from_u16};
 ghost use Rattle.constriction_c.specs.Words.{lowest};
 ghost use Rattle.constriction_calls.specs.AnsCalls.{AreBinary, HasBinary};
 ghost use Rattle.constriction_inputs.specs.Counts.{by_counts};
@@ -34,8 +34,8 @@ pub extern "C" fn constriction_ans_encode_each_reverse_u16(
     symbols: &[usize],
     needed: &mut usize,
 ) -> u32
-    ensures { AnsPutsU16 result needed.old needed.new (by_rows width (map (lowest 16) weights.now) symbols.now) head.old
-        words.old len.old head.new words.new len.new }
+    ensures { AnsEncodesU16 result needed.old needed.new (by_rows width (map (lowest 16) weights.now) symbols.now)
+        head.old words.old len.old head.new words.new len.new }
 {
     let models = Rows { weights, width };
     let items = Symbols { models, symbols };
@@ -56,7 +56,7 @@ pub extern "C" fn constriction_ans_decode_each_u16(
     width: usize,
     symbols: &mut [usize],
 ) -> u32
-    ensures { AnsTakesU16 result (by_rows width (map (lowest 16) weights.now)) words.now head.old len.old head.new
+    ensures { AnsDecodesU16 result (by_rows width (map (lowest 16) weights.now)) words.now head.old len.old head.new
         len.new symbols.old symbols.new }
 {
     let models = Rows { weights, width };
@@ -78,7 +78,7 @@ pub extern "C" fn constriction_ans_encode_counts_reverse_u16(
     symbols: &[usize],
     needed: &mut usize,
 ) -> u32
-    ensures { AnsPutsU16 result needed.old needed.new (by_counts 16 width counts.now symbols.now) head.old words.old
+    ensures { AnsEncodesU16 result needed.old needed.new (by_counts 16 width counts.now symbols.now) head.old words.old
         len.old head.new words.new len.new }
 {
     let models = Counts { counts, width };
@@ -100,8 +100,8 @@ pub extern "C" fn constriction_ans_decode_counts_u16(
     width: usize,
     symbols: &mut [usize],
 ) -> u32
-    ensures { AnsTakesU16 result (by_counts 16 width counts.now) words.now head.old len.old head.new len.new symbols.old
-        symbols.new }
+    ensures { AnsDecodesU16 result (by_counts 16 width counts.now) words.now head.old len.old head.new len.new
+        symbols.old symbols.new }
 {
     let models = Counts { counts, width };
     let answer = decode::<_, _, u16, _, 12>(alloc, head, words, len, &models, symbols);
@@ -121,8 +121,8 @@ pub extern "C" fn constriction_ans_encode_intervals_reverse_u16(
     ps: &[u16],
     needed: &mut usize,
 ) -> u32
-    ensures { AnsPutsU16 result needed.old needed.new (intervals_from_u16 lefts.now (map (lowest 16) ps.now)) head.old
-        words.old len.old head.new words.new len.new }
+    ensures { AnsEncodesU16 result needed.old needed.new (intervals_from_u16 lefts.now (map (lowest 16) ps.now))
+        head.old words.old len.old head.new words.new len.new }
 {
     let items = Intervals { lefts, ps };
     let answer = encode_reverse::<_, _, u16, _, 12>(alloc, head, words, len, &items);
@@ -146,7 +146,7 @@ pub extern "C" fn constriction_ans_encode_quantized_reverse_u16(
     symbols: &[usize],
     needed: &mut usize,
 ) -> u32
-    ensures { AnsPutsU16 result needed.old needed.new (in_family family min max locations.now scales.now symbols.now)
+    ensures { AnsEncodesU16 result needed.old needed.new (in_family family min max locations.now scales.now symbols.now)
         head.old words.old len.old head.new words.new len.new }
 {
     let models = Families::new(family, min, max, locations, scales);
@@ -171,8 +171,8 @@ pub extern "C" fn constriction_ans_decode_quantized_u16(
     scales: &[u32],
     symbols: &mut [usize],
 ) -> u32
-    ensures { AnsTakesU16 result (in_family family min max locations.now scales.now) words.now head.old len.old head.new
-        len.new symbols.old symbols.new }
+    ensures { AnsDecodesU16 result (in_family family min max locations.now scales.now) words.now head.old len.old
+        head.new len.new symbols.old symbols.new }
 {
     let models = Families::new(family, min, max, locations, scales);
     let answer = decode::<_, _, u16, _, 12>(alloc, head, words, len, &models, symbols);
@@ -198,7 +198,7 @@ pub extern "C" fn constriction_ans_encode_mixture_reverse_u16(
     symbols: &[usize],
     needed: &mut usize,
 ) -> u32
-    ensures { AnsPutsU16 result needed.old needed.new
+    ensures { AnsEncodesU16 result needed.old needed.new
         (in_mixture family min max width component_weights.now locations.now scales.now symbols.now) head.old words.old
         len.old head.new words.new len.new }
 {
@@ -227,7 +227,7 @@ pub extern "C" fn constriction_ans_decode_mixture_u16(
     scales: &[u32],
     symbols: &mut [usize],
 ) -> u32
-    ensures { AnsTakesU16 result (in_mixture family min max width component_weights.now locations.now scales.now)
+    ensures { AnsDecodesU16 result (in_mixture family min max width component_weights.now locations.now scales.now)
         words.now head.old len.old head.new len.new symbols.old symbols.new }
 {
     let components = Families::new(family, min, max, locations, scales);
@@ -249,7 +249,7 @@ pub extern "C" fn constriction_ans_encode_bytes_reverse_u16(
     symbols: &[u8],
     needed: &mut usize,
 ) -> u32
-    ensures { AnsPutsU16 result needed.old needed.new (by_weights (map (lowest 16) weights.now) symbols.now) head.old
+    ensures { AnsEncodesU16 result needed.old needed.new (by_weights (map (lowest 16) weights.now) symbols.now) head.old
         words.old len.old head.new words.new len.new }
 {
     let models = Weights { weights };
@@ -270,7 +270,7 @@ pub extern "C" fn constriction_ans_decode_bytes_u16(
     weights: &[u16],
     symbols: &mut [u8],
 ) -> u32
-    ensures { AnsTakesU16 result (narrow_from_u16 8 weights.now) words.now head.old len.old head.new len.new
+    ensures { AnsDecodesU16 result (narrow_from_u16 8 weights.now) words.now head.old len.old head.new len.new
         (map (lowest 8) symbols.old) (map (lowest 8) symbols.new) }
 {
     let answer = decode_narrow::<_, _, u16, u8, 12>(alloc, head, words, len, weights, symbols);
@@ -290,7 +290,7 @@ pub extern "C" fn constriction_ans_encode_shorts_reverse_u16(
     symbols: &[u16],
     needed: &mut usize,
 ) -> u32
-    ensures { AnsPutsU16 result needed.old needed.new (by_weights (map (lowest 16) weights.now) symbols.now) head.old
+    ensures { AnsEncodesU16 result needed.old needed.new (by_weights (map (lowest 16) weights.now) symbols.now) head.old
         words.old len.old head.new words.new len.new }
 {
     let models = Weights { weights };
@@ -311,7 +311,7 @@ pub extern "C" fn constriction_ans_decode_shorts_u16(
     weights: &[u16],
     symbols: &mut [u16],
 ) -> u32
-    ensures { AnsTakesU16 result (narrow_from_u16 16 weights.now) words.now head.old len.old head.new len.new
+    ensures { AnsDecodesU16 result (narrow_from_u16 16 weights.now) words.now head.old len.old head.new len.new
         (map (lowest 16) symbols.old) (map (lowest 16) symbols.new) }
 {
     let answer = decode_narrow::<_, _, u16, u16, 12>(alloc, head, words, len, weights, symbols);

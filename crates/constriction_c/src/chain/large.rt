@@ -1,7 +1,7 @@
 //! The chain coder with 32-bit words, a 64-bit remainders head, a 32-bit compressed head and a precision of 24 bits.
 
 ghost use Rattle.std.specs.Prelude.{map};
-ghost use Rattle.constriction_c.specs.Large.{ChainBeginsU32, ChainEndsU32, ChainPutsU32, ChainTakesU32, large_chain};
+ghost use Rattle.constriction_c.specs.Large.{ChainBeginsU32, ChainEndsU32, ChainEncodesU32, ChainDecodesU32, large_chain};
 ghost use Rattle.constriction_c.specs.Words.{lowest};
 ghost use Rattle.constriction_calls.specs.ChainWords.{InCompressed};
 ghost use Rattle.constriction_inputs.specs.Weights.{by_weights};
@@ -37,7 +37,7 @@ pub extern "C" fn constriction_chain_decode_u32(
     symbols: &mut [usize],
     needed: &mut usize,
 ) -> u32
-    ensures { ChainTakesU32 result needed.old needed.new (by_weights (map (lowest 32) weights.now))
+    ensures { ChainDecodesU32 result needed.old needed.new (by_weights (map (lowest 32) weights.now))
         (large_chain heads.old compressed.now count.old remainders.old rest.old)
         (large_chain heads.new compressed.now count.new remainders.new rest.new) symbols.old symbols.new }
 {
@@ -64,7 +64,7 @@ pub extern "C" fn constriction_chain_encode_reverse_u32(
     symbols: &[usize],
     needed: &mut usize,
 ) -> u32
-    ensures { ChainPutsU32 result needed.old needed.new (by_weights (map (lowest 32) weights.now) symbols.now)
+    ensures { ChainEncodesU32 result needed.old needed.new (by_weights (map (lowest 32) weights.now) symbols.now)
         (large_chain heads.old compressed.old count.old remainders.now rest.old)
         (large_chain heads.new compressed.new count.new remainders.now rest.new) }
 {

@@ -1,7 +1,7 @@
 // Written by tools/sizes from large.rt.
 //! More C functions of the chain coder: other models, symbols of 8 and 16 bits, binary form, and words of remainders.
 
-ghost use Rattle.constriction_c.specs.Large.{ChainBeginsU32, ChainEndsU32, ChainPutsU32, ChainTakesU32, intervals_from_u32, large_chain, narrow_from_u32};
+ghost use Rattle.constriction_c.specs.Large.{ChainBeginsU32, ChainDecodesU32, ChainEncodesU32, ChainEndsU32, intervals_from_u32, large_chain, narrow_from_u32};
 ghost use Rattle.constriction_c.specs.Words.{lowest};
 ghost use Rattle.constriction_calls.specs.ChainWords.{InBinary, InRemainders};
 ghost use Rattle.constriction_inputs.specs.Counts.{by_counts};
@@ -38,7 +38,7 @@ pub extern "C" fn constriction_chain_decode_each_u32(
     symbols: &mut [usize],
     needed: &mut usize,
 ) -> u32
-    ensures { ChainTakesU32 result needed.old needed.new (by_rows width (map (lowest 32) weights.now))
+    ensures { ChainDecodesU32 result needed.old needed.new (by_rows width (map (lowest 32) weights.now))
         (large_chain heads.old compressed.now count.old remainders.old rest.old)
         (large_chain heads.new compressed.now count.new remainders.new rest.new) symbols.old symbols.new }
 {
@@ -67,7 +67,7 @@ pub extern "C" fn constriction_chain_encode_each_reverse_u32(
     symbols: &[usize],
     needed: &mut usize,
 ) -> u32
-    ensures { ChainPutsU32 result needed.old needed.new (by_rows width (map (lowest 32) weights.now) symbols.now)
+    ensures { ChainEncodesU32 result needed.old needed.new (by_rows width (map (lowest 32) weights.now) symbols.now)
         (large_chain heads.old compressed.old count.old remainders.now rest.old)
         (large_chain heads.new compressed.new count.new remainders.now rest.new) }
 {
@@ -97,7 +97,7 @@ pub extern "C" fn constriction_chain_decode_counts_u32(
     symbols: &mut [usize],
     needed: &mut usize,
 ) -> u32
-    ensures { ChainTakesU32 result needed.old needed.new (by_counts 32 width counts.now)
+    ensures { ChainDecodesU32 result needed.old needed.new (by_counts 32 width counts.now)
         (large_chain heads.old compressed.now count.old remainders.old rest.old)
         (large_chain heads.new compressed.now count.new remainders.new rest.new) symbols.old symbols.new }
 {
@@ -126,7 +126,7 @@ pub extern "C" fn constriction_chain_encode_counts_reverse_u32(
     symbols: &[usize],
     needed: &mut usize,
 ) -> u32
-    ensures { ChainPutsU32 result needed.old needed.new (by_counts 32 width counts.now symbols.now)
+    ensures { ChainEncodesU32 result needed.old needed.new (by_counts 32 width counts.now symbols.now)
         (large_chain heads.old compressed.old count.old remainders.now rest.old)
         (large_chain heads.new compressed.new count.new remainders.now rest.new) }
 {
@@ -155,7 +155,7 @@ pub extern "C" fn constriction_chain_encode_intervals_reverse_u32(
     ps: &[u32],
     needed: &mut usize,
 ) -> u32
-    ensures { ChainPutsU32 result needed.old needed.new (intervals_from_u32 lefts.now (map (lowest 32) ps.now))
+    ensures { ChainEncodesU32 result needed.old needed.new (intervals_from_u32 lefts.now (map (lowest 32) ps.now))
         (large_chain heads.old compressed.old count.old remainders.now rest.old)
         (large_chain heads.new compressed.new count.new remainders.now rest.new) }
 {
@@ -187,7 +187,7 @@ pub extern "C" fn constriction_chain_decode_quantized_u32(
     symbols: &mut [usize],
     needed: &mut usize,
 ) -> u32
-    ensures { ChainTakesU32 result needed.old needed.new (in_family family min max locations.now scales.now)
+    ensures { ChainDecodesU32 result needed.old needed.new (in_family family min max locations.now scales.now)
         (large_chain heads.old compressed.now count.old remainders.old rest.old)
         (large_chain heads.new compressed.now count.new remainders.new rest.new) symbols.old symbols.new }
 {
@@ -219,7 +219,8 @@ pub extern "C" fn constriction_chain_encode_quantized_reverse_u32(
     symbols: &[usize],
     needed: &mut usize,
 ) -> u32
-    ensures { ChainPutsU32 result needed.old needed.new (in_family family min max locations.now scales.now symbols.now)
+    ensures { ChainEncodesU32 result needed.old needed.new
+        (in_family family min max locations.now scales.now symbols.now)
         (large_chain heads.old compressed.old count.old remainders.now rest.old)
         (large_chain heads.new compressed.new count.new remainders.now rest.new) }
 {
@@ -254,7 +255,7 @@ pub extern "C" fn constriction_chain_decode_mixture_u32(
     symbols: &mut [usize],
     needed: &mut usize,
 ) -> u32
-    ensures { ChainTakesU32 result needed.old needed.new
+    ensures { ChainDecodesU32 result needed.old needed.new
         (in_mixture family min max width component_weights.now locations.now scales.now)
         (large_chain heads.old compressed.now count.old remainders.old rest.old)
         (large_chain heads.new compressed.now count.new remainders.new rest.new) symbols.old symbols.new }
@@ -290,7 +291,7 @@ pub extern "C" fn constriction_chain_encode_mixture_reverse_u32(
     symbols: &[usize],
     needed: &mut usize,
 ) -> u32
-    ensures { ChainPutsU32 result needed.old needed.new
+    ensures { ChainEncodesU32 result needed.old needed.new
         (in_mixture family min max width component_weights.now locations.now scales.now symbols.now)
         (large_chain heads.old compressed.old count.old remainders.now rest.old)
         (large_chain heads.new compressed.new count.new remainders.now rest.new) }
@@ -321,7 +322,7 @@ pub extern "C" fn constriction_chain_decode_bytes_u32(
     symbols: &mut [u8],
     needed: &mut usize,
 ) -> u32
-    ensures { ChainTakesU32 result needed.old needed.new (narrow_from_u32 8 weights.now)
+    ensures { ChainDecodesU32 result needed.old needed.new (narrow_from_u32 8 weights.now)
         (large_chain heads.old compressed.now count.old remainders.old rest.old)
         (large_chain heads.new compressed.now count.new remainders.new rest.new) (map (lowest 8) symbols.old)
         (map (lowest 8) symbols.new) }
@@ -349,7 +350,7 @@ pub extern "C" fn constriction_chain_encode_bytes_reverse_u32(
     symbols: &[u8],
     needed: &mut usize,
 ) -> u32
-    ensures { ChainPutsU32 result needed.old needed.new (by_weights (map (lowest 32) weights.now) symbols.now)
+    ensures { ChainEncodesU32 result needed.old needed.new (by_weights (map (lowest 32) weights.now) symbols.now)
         (large_chain heads.old compressed.old count.old remainders.now rest.old)
         (large_chain heads.new compressed.new count.new remainders.now rest.new) }
 {
@@ -378,7 +379,7 @@ pub extern "C" fn constriction_chain_decode_shorts_u32(
     symbols: &mut [u16],
     needed: &mut usize,
 ) -> u32
-    ensures { ChainTakesU32 result needed.old needed.new (narrow_from_u32 16 weights.now)
+    ensures { ChainDecodesU32 result needed.old needed.new (narrow_from_u32 16 weights.now)
         (large_chain heads.old compressed.now count.old remainders.old rest.old)
         (large_chain heads.new compressed.now count.new remainders.new rest.new) (map (lowest 16) symbols.old)
         (map (lowest 16) symbols.new) }
@@ -406,7 +407,7 @@ pub extern "C" fn constriction_chain_encode_shorts_reverse_u32(
     symbols: &[u16],
     needed: &mut usize,
 ) -> u32
-    ensures { ChainPutsU32 result needed.old needed.new (by_weights (map (lowest 32) weights.now) symbols.now)
+    ensures { ChainEncodesU32 result needed.old needed.new (by_weights (map (lowest 32) weights.now) symbols.now)
         (large_chain heads.old compressed.old count.old remainders.now rest.old)
         (large_chain heads.new compressed.new count.new remainders.now rest.new) }
 {

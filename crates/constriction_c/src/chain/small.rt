@@ -2,7 +2,7 @@
 //! The chain coder with 16-bit words, a 32-bit remainders head, a 16-bit compressed head and a precision of 12 bits.
 
 ghost use Rattle.std.specs.Prelude.{map};
-ghost use Rattle.constriction_c.specs.Small.{ChainBeginsU16, ChainEndsU16, ChainPutsU16, ChainTakesU16, small_chain};
+ghost use Rattle.constriction_c.specs.Small.{ChainBeginsU16, ChainEndsU16, ChainEncodesU16, ChainDecodesU16, small_chain};
 ghost use Rattle.constriction_c.specs.Words.{lowest};
 ghost use Rattle.constriction_calls.specs.ChainWords.{InCompressed};
 ghost use Rattle.constriction_inputs.specs.Weights.{by_weights};
@@ -38,7 +38,7 @@ pub extern "C" fn constriction_chain_decode_u16(
     symbols: &mut [usize],
     needed: &mut usize,
 ) -> u32
-    ensures { ChainTakesU16 result needed.old needed.new (by_weights (map (lowest 16) weights.now))
+    ensures { ChainDecodesU16 result needed.old needed.new (by_weights (map (lowest 16) weights.now))
         (small_chain heads.old compressed.now count.old remainders.old rest.old)
         (small_chain heads.new compressed.now count.new remainders.new rest.new) symbols.old symbols.new }
 {
@@ -65,7 +65,7 @@ pub extern "C" fn constriction_chain_encode_reverse_u16(
     symbols: &[usize],
     needed: &mut usize,
 ) -> u32
-    ensures { ChainPutsU16 result needed.old needed.new (by_weights (map (lowest 16) weights.now) symbols.now)
+    ensures { ChainEncodesU16 result needed.old needed.new (by_weights (map (lowest 16) weights.now) symbols.now)
         (small_chain heads.old compressed.old count.old remainders.now rest.old)
         (small_chain heads.new compressed.new count.new remainders.now rest.new) }
 {

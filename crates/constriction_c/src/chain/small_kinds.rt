@@ -1,7 +1,7 @@
 // Written by tools/sizes from large_kinds.rt.
 //! More C functions of the chain coder: other models, symbols of 8 and 16 bits, binary form, and words of remainders.
 
-ghost use Rattle.constriction_c.specs.Small.{ChainBeginsU16, ChainEndsU16, ChainPutsU16, ChainTakesU16, intervals_from_u16, small_chain, narrow_from_u16};
+ghost use Rattle.constriction_c.specs.Small.{ChainBeginsU16, ChainDecodesU16, ChainEncodesU16, ChainEndsU16, intervals_from_u16, small_chain, narrow_from_u16};
 ghost use Rattle.constriction_c.specs.Words.{lowest};
 ghost use Rattle.constriction_calls.specs.ChainWords.{InBinary, InRemainders};
 ghost use Rattle.constriction_inputs.specs.Counts.{by_counts};
@@ -38,7 +38,7 @@ pub extern "C" fn constriction_chain_decode_each_u16(
     symbols: &mut [usize],
     needed: &mut usize,
 ) -> u32
-    ensures { ChainTakesU16 result needed.old needed.new (by_rows width (map (lowest 16) weights.now))
+    ensures { ChainDecodesU16 result needed.old needed.new (by_rows width (map (lowest 16) weights.now))
         (small_chain heads.old compressed.now count.old remainders.old rest.old)
         (small_chain heads.new compressed.now count.new remainders.new rest.new) symbols.old symbols.new }
 {
@@ -67,7 +67,7 @@ pub extern "C" fn constriction_chain_encode_each_reverse_u16(
     symbols: &[usize],
     needed: &mut usize,
 ) -> u32
-    ensures { ChainPutsU16 result needed.old needed.new (by_rows width (map (lowest 16) weights.now) symbols.now)
+    ensures { ChainEncodesU16 result needed.old needed.new (by_rows width (map (lowest 16) weights.now) symbols.now)
         (small_chain heads.old compressed.old count.old remainders.now rest.old)
         (small_chain heads.new compressed.new count.new remainders.now rest.new) }
 {
@@ -97,7 +97,7 @@ pub extern "C" fn constriction_chain_decode_counts_u16(
     symbols: &mut [usize],
     needed: &mut usize,
 ) -> u32
-    ensures { ChainTakesU16 result needed.old needed.new (by_counts 16 width counts.now)
+    ensures { ChainDecodesU16 result needed.old needed.new (by_counts 16 width counts.now)
         (small_chain heads.old compressed.now count.old remainders.old rest.old)
         (small_chain heads.new compressed.now count.new remainders.new rest.new) symbols.old symbols.new }
 {
@@ -126,7 +126,7 @@ pub extern "C" fn constriction_chain_encode_counts_reverse_u16(
     symbols: &[usize],
     needed: &mut usize,
 ) -> u32
-    ensures { ChainPutsU16 result needed.old needed.new (by_counts 16 width counts.now symbols.now)
+    ensures { ChainEncodesU16 result needed.old needed.new (by_counts 16 width counts.now symbols.now)
         (small_chain heads.old compressed.old count.old remainders.now rest.old)
         (small_chain heads.new compressed.new count.new remainders.now rest.new) }
 {
@@ -155,7 +155,7 @@ pub extern "C" fn constriction_chain_encode_intervals_reverse_u16(
     ps: &[u16],
     needed: &mut usize,
 ) -> u32
-    ensures { ChainPutsU16 result needed.old needed.new (intervals_from_u16 lefts.now (map (lowest 16) ps.now))
+    ensures { ChainEncodesU16 result needed.old needed.new (intervals_from_u16 lefts.now (map (lowest 16) ps.now))
         (small_chain heads.old compressed.old count.old remainders.now rest.old)
         (small_chain heads.new compressed.new count.new remainders.now rest.new) }
 {
@@ -187,7 +187,7 @@ pub extern "C" fn constriction_chain_decode_quantized_u16(
     symbols: &mut [usize],
     needed: &mut usize,
 ) -> u32
-    ensures { ChainTakesU16 result needed.old needed.new (in_family family min max locations.now scales.now)
+    ensures { ChainDecodesU16 result needed.old needed.new (in_family family min max locations.now scales.now)
         (small_chain heads.old compressed.now count.old remainders.old rest.old)
         (small_chain heads.new compressed.now count.new remainders.new rest.new) symbols.old symbols.new }
 {
@@ -219,7 +219,8 @@ pub extern "C" fn constriction_chain_encode_quantized_reverse_u16(
     symbols: &[usize],
     needed: &mut usize,
 ) -> u32
-    ensures { ChainPutsU16 result needed.old needed.new (in_family family min max locations.now scales.now symbols.now)
+    ensures { ChainEncodesU16 result needed.old needed.new
+        (in_family family min max locations.now scales.now symbols.now)
         (small_chain heads.old compressed.old count.old remainders.now rest.old)
         (small_chain heads.new compressed.new count.new remainders.now rest.new) }
 {
@@ -254,7 +255,7 @@ pub extern "C" fn constriction_chain_decode_mixture_u16(
     symbols: &mut [usize],
     needed: &mut usize,
 ) -> u32
-    ensures { ChainTakesU16 result needed.old needed.new
+    ensures { ChainDecodesU16 result needed.old needed.new
         (in_mixture family min max width component_weights.now locations.now scales.now)
         (small_chain heads.old compressed.now count.old remainders.old rest.old)
         (small_chain heads.new compressed.now count.new remainders.new rest.new) symbols.old symbols.new }
@@ -290,7 +291,7 @@ pub extern "C" fn constriction_chain_encode_mixture_reverse_u16(
     symbols: &[usize],
     needed: &mut usize,
 ) -> u32
-    ensures { ChainPutsU16 result needed.old needed.new
+    ensures { ChainEncodesU16 result needed.old needed.new
         (in_mixture family min max width component_weights.now locations.now scales.now symbols.now)
         (small_chain heads.old compressed.old count.old remainders.now rest.old)
         (small_chain heads.new compressed.new count.new remainders.now rest.new) }
@@ -321,7 +322,7 @@ pub extern "C" fn constriction_chain_decode_bytes_u16(
     symbols: &mut [u8],
     needed: &mut usize,
 ) -> u32
-    ensures { ChainTakesU16 result needed.old needed.new (narrow_from_u16 8 weights.now)
+    ensures { ChainDecodesU16 result needed.old needed.new (narrow_from_u16 8 weights.now)
         (small_chain heads.old compressed.now count.old remainders.old rest.old)
         (small_chain heads.new compressed.now count.new remainders.new rest.new) (map (lowest 8) symbols.old)
         (map (lowest 8) symbols.new) }
@@ -349,7 +350,7 @@ pub extern "C" fn constriction_chain_encode_bytes_reverse_u16(
     symbols: &[u8],
     needed: &mut usize,
 ) -> u32
-    ensures { ChainPutsU16 result needed.old needed.new (by_weights (map (lowest 16) weights.now) symbols.now)
+    ensures { ChainEncodesU16 result needed.old needed.new (by_weights (map (lowest 16) weights.now) symbols.now)
         (small_chain heads.old compressed.old count.old remainders.now rest.old)
         (small_chain heads.new compressed.new count.new remainders.now rest.new) }
 {
@@ -378,7 +379,7 @@ pub extern "C" fn constriction_chain_decode_shorts_u16(
     symbols: &mut [u16],
     needed: &mut usize,
 ) -> u32
-    ensures { ChainTakesU16 result needed.old needed.new (narrow_from_u16 16 weights.now)
+    ensures { ChainDecodesU16 result needed.old needed.new (narrow_from_u16 16 weights.now)
         (small_chain heads.old compressed.now count.old remainders.old rest.old)
         (small_chain heads.new compressed.now count.new remainders.new rest.new) (map (lowest 16) symbols.old)
         (map (lowest 16) symbols.new) }
@@ -406,7 +407,7 @@ pub extern "C" fn constriction_chain_encode_shorts_reverse_u16(
     symbols: &[u16],
     needed: &mut usize,
 ) -> u32
-    ensures { ChainPutsU16 result needed.old needed.new (by_weights (map (lowest 16) weights.now) symbols.now)
+    ensures { ChainEncodesU16 result needed.old needed.new (by_weights (map (lowest 16) weights.now) symbols.now)
         (small_chain heads.old compressed.old count.old remainders.now rest.old)
         (small_chain heads.new compressed.new count.new remainders.now rest.new) }
 {

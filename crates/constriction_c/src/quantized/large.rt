@@ -4,9 +4,9 @@
 
 ghost use Rattle.std.specs.Prelude.{map};
 ghost use Rattle.constriction_c.specs.Codes.{answer_by_code};
-ghost use Rattle.constriction_c.specs.Large.{GivesIntervalsU32};
+ghost use Rattle.constriction_c.specs.Large.{WritesIntervalsU32};
 ghost use Rattle.constriction_c.specs.Words.{lowest};
-ghost use Rattle.constriction_inputs.specs.QuantizedCalls.{GivesWeightsOfCounts};
+ghost use Rattle.constriction_inputs.specs.QuantizedCalls.{WritesWeightsOfCounts};
 
 use crate::codes::code_without_space;
 use constriction_inputs::models::Families;
@@ -30,7 +30,7 @@ pub extern "C" fn constriction_quantized_intervals_u32(
     lefts: &mut [u32],
     ps: &mut [u32],
 ) -> u32
-    ensures { GivesIntervalsU32 result family min max locations.now scales.now symbols.now lefts.old ps.old lefts.new
+    ensures { WritesIntervalsU32 result family min max locations.now scales.now symbols.now lefts.old ps.old lefts.new
         ps.new }
 {
     let models = Families::new(family, min, max, locations, scales);
@@ -49,7 +49,7 @@ pub extern "C" fn constriction_weights_of_counts_u32(
     counts: &[u64],
     weights: &mut [u32],
 ) -> u32
-    ensures { GivesWeightsOfCounts 24 counts.now (map (lowest 32) weights.old) (map (lowest 32) weights.new)
+    ensures { WritesWeightsOfCounts 24 counts.now (map (lowest 32) weights.old) (map (lowest 32) weights.new)
         (answer_by_code result 0) }
 {
     code_without_space(put_weights_of_counts::<u32, 24>(alloc, counts, weights))

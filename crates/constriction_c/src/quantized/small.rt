@@ -5,9 +5,9 @@
 
 ghost use Rattle.std.specs.Prelude.{map};
 ghost use Rattle.constriction_c.specs.Codes.{answer_by_code};
-ghost use Rattle.constriction_c.specs.Small.{GivesIntervalsU16};
+ghost use Rattle.constriction_c.specs.Small.{WritesIntervalsU16};
 ghost use Rattle.constriction_c.specs.Words.{lowest};
-ghost use Rattle.constriction_inputs.specs.QuantizedCalls.{GivesWeightsOfCounts};
+ghost use Rattle.constriction_inputs.specs.QuantizedCalls.{WritesWeightsOfCounts};
 
 use crate::codes::code_without_space;
 use constriction_inputs::models::Families;
@@ -31,7 +31,7 @@ pub extern "C" fn constriction_quantized_intervals_u16(
     lefts: &mut [u16],
     ps: &mut [u16],
 ) -> u32
-    ensures { GivesIntervalsU16 result family min max locations.now scales.now symbols.now lefts.old ps.old lefts.new
+    ensures { WritesIntervalsU16 result family min max locations.now scales.now symbols.now lefts.old ps.old lefts.new
         ps.new }
 {
     let models = Families::new(family, min, max, locations, scales);
@@ -50,7 +50,7 @@ pub extern "C" fn constriction_weights_of_counts_u16(
     counts: &[u64],
     weights: &mut [u16],
 ) -> u32
-    ensures { GivesWeightsOfCounts 12 counts.now (map (lowest 16) weights.old) (map (lowest 16) weights.new)
+    ensures { WritesWeightsOfCounts 12 counts.now (map (lowest 16) weights.old) (map (lowest 16) weights.new)
         (answer_by_code result 0) }
 {
     code_without_space(put_weights_of_counts::<u16, 12>(alloc, counts, weights))

@@ -2,7 +2,7 @@
 
 ghost use Rattle.std.specs.Prelude.{◌≡◌, length, map};
 ghost use Rattle.constriction_c.specs.Codes.{answer_by_code};
-ghost use Rattle.constriction_c.specs.Large.{RangeEndsU32, RangePutsU32, RangeTakesU32, large_decoder, large_encoder};
+ghost use Rattle.constriction_c.specs.Large.{RangeEndsU32, RangeEncodesU32, RangeDecodesU32, large_decoder, large_encoder};
 ghost use Rattle.constriction_c.specs.Words.{lowest};
 ghost use Rattle.constriction_calls.specs.RangeCalls.{IsNew, IsSealed, RangeBegins, RangeMayEnd, RangeSeals, RangeSeeks};
 ghost use Rattle.constriction_inputs.specs.Weights.{by_weights};
@@ -66,7 +66,7 @@ pub extern "C" fn constriction_range_encode_u32(
     symbols: &[usize],
     needed: &mut usize,
 ) -> u32
-    ensures { RangePutsU32 result needed.old needed.new (by_weights (map (lowest 32) weights.now) symbols.now)
+    ensures { RangeEncodesU32 result needed.old needed.new (by_weights (map (lowest 32) weights.now) symbols.now)
         (length symbols.now) encoder.old words.old len.old encoder.new words.new len.new }
 {
     let models = Weights { weights };
@@ -121,7 +121,7 @@ pub extern "C" fn constriction_range_decode_u32(
     weights: &[u32],
     symbols: &mut [usize],
 ) -> u32
-    ensures { RangeTakesU32 result (by_weights (map (lowest 32) weights.now)) words.now decoder.old decoder.new
+    ensures { RangeDecodesU32 result (by_weights (map (lowest 32) weights.now)) words.now decoder.old decoder.new
         symbols.old symbols.new }
 {
     let mut parts = decoder.parts();

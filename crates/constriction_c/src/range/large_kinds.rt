@@ -1,7 +1,7 @@
 // Written by tools/sizes from large.rt.
 //! More C functions of the range coder: other models, symbols of 8 and 16 bits, and self-delimiting words.
 
-ghost use Rattle.constriction_c.specs.Large.{RangeEndsU32, RangePutsU32, RangeTakesU32, intervals_from_u32, narrow_from_u32};
+ghost use Rattle.constriction_c.specs.Large.{RangeDecodesU32, RangeEncodesU32, RangeEndsU32, intervals_from_u32, narrow_from_u32};
 ghost use Rattle.constriction_c.specs.Words.{lowest};
 ghost use Rattle.constriction_calls.specs.RangeCalls.{IsSelfSealed, RangeSeals};
 ghost use Rattle.constriction_inputs.specs.Counts.{by_counts};
@@ -35,7 +35,7 @@ pub extern "C" fn constriction_range_encode_each_u32(
     symbols: &[usize],
     needed: &mut usize,
 ) -> u32
-    ensures { RangePutsU32 result needed.old needed.new (by_rows width (map (lowest 32) weights.now) symbols.now)
+    ensures { RangeEncodesU32 result needed.old needed.new (by_rows width (map (lowest 32) weights.now) symbols.now)
         (length symbols.now) encoder.old words.old len.old encoder.new words.new len.new }
 {
     let models = Rows { weights, width };
@@ -58,7 +58,7 @@ pub extern "C" fn constriction_range_decode_each_u32(
     width: usize,
     symbols: &mut [usize],
 ) -> u32
-    ensures { RangeTakesU32 result (by_rows width (map (lowest 32) weights.now)) words.now decoder.old decoder.new
+    ensures { RangeDecodesU32 result (by_rows width (map (lowest 32) weights.now)) words.now decoder.old decoder.new
         symbols.old symbols.new }
 {
     let models = Rows { weights, width };
@@ -82,8 +82,8 @@ pub extern "C" fn constriction_range_encode_counts_u32(
     symbols: &[usize],
     needed: &mut usize,
 ) -> u32
-    ensures { RangePutsU32 result needed.old needed.new (by_counts 32 width counts.now symbols.now) (length symbols.now)
-        encoder.old words.old len.old encoder.new words.new len.new }
+    ensures { RangeEncodesU32 result needed.old needed.new (by_counts 32 width counts.now symbols.now)
+        (length symbols.now) encoder.old words.old len.old encoder.new words.new len.new }
 {
     let models = Counts { counts, width };
     let items = Symbols { models, symbols };
@@ -105,7 +105,7 @@ pub extern "C" fn constriction_range_decode_counts_u32(
     width: usize,
     symbols: &mut [usize],
 ) -> u32
-    ensures { RangeTakesU32 result (by_counts 32 width counts.now) words.now decoder.old decoder.new symbols.old
+    ensures { RangeDecodesU32 result (by_counts 32 width counts.now) words.now decoder.old decoder.new symbols.old
         symbols.new }
 {
     let models = Counts { counts, width };
@@ -128,7 +128,7 @@ pub extern "C" fn constriction_range_encode_intervals_u32(
     ps: &[u32],
     needed: &mut usize,
 ) -> u32
-    ensures { RangePutsU32 result needed.old needed.new (intervals_from_u32 lefts.now (map (lowest 32) ps.now))
+    ensures { RangeEncodesU32 result needed.old needed.new (intervals_from_u32 lefts.now (map (lowest 32) ps.now))
         (length ps.now) encoder.old words.old len.old encoder.new words.new len.new }
 {
     let items = Intervals { lefts, ps };
@@ -155,8 +155,9 @@ pub extern "C" fn constriction_range_encode_quantized_u32(
     symbols: &[usize],
     needed: &mut usize,
 ) -> u32
-    ensures { RangePutsU32 result needed.old needed.new (in_family family min max locations.now scales.now symbols.now)
-        (length symbols.now) encoder.old words.old len.old encoder.new words.new len.new }
+    ensures { RangeEncodesU32 result needed.old needed.new
+        (in_family family min max locations.now scales.now symbols.now) (length symbols.now) encoder.old words.old
+        len.old encoder.new words.new len.new }
 {
     let models = Families::new(family, min, max, locations, scales);
     let items = Symbols { models, symbols };
@@ -181,8 +182,8 @@ pub extern "C" fn constriction_range_decode_quantized_u32(
     scales: &[u32],
     symbols: &mut [usize],
 ) -> u32
-    ensures { RangeTakesU32 result (in_family family min max locations.now scales.now) words.now decoder.old decoder.new
-        symbols.old symbols.new }
+    ensures { RangeDecodesU32 result (in_family family min max locations.now scales.now) words.now decoder.old
+        decoder.new symbols.old symbols.new }
 {
     let models = Families::new(family, min, max, locations, scales);
     let mut parts = decoder.parts();
@@ -210,7 +211,7 @@ pub extern "C" fn constriction_range_encode_mixture_u32(
     symbols: &[usize],
     needed: &mut usize,
 ) -> u32
-    ensures { RangePutsU32 result needed.old needed.new
+    ensures { RangeEncodesU32 result needed.old needed.new
         (in_mixture family min max width component_weights.now locations.now scales.now symbols.now)
         (length symbols.now) encoder.old words.old len.old encoder.new words.new len.new }
 {
@@ -240,7 +241,7 @@ pub extern "C" fn constriction_range_decode_mixture_u32(
     scales: &[u32],
     symbols: &mut [usize],
 ) -> u32
-    ensures { RangeTakesU32 result (in_mixture family min max width component_weights.now locations.now scales.now)
+    ensures { RangeDecodesU32 result (in_mixture family min max width component_weights.now locations.now scales.now)
         words.now decoder.old decoder.new symbols.old symbols.new }
 {
     let components = Families::new(family, min, max, locations, scales);
@@ -264,7 +265,7 @@ pub extern "C" fn constriction_range_encode_bytes_u32(
     symbols: &[u8],
     needed: &mut usize,
 ) -> u32
-    ensures { RangePutsU32 result needed.old needed.new (by_weights (map (lowest 32) weights.now) symbols.now)
+    ensures { RangeEncodesU32 result needed.old needed.new (by_weights (map (lowest 32) weights.now) symbols.now)
         (length symbols.now) encoder.old words.old len.old encoder.new words.new len.new }
 {
     let models = Weights { weights };
@@ -286,7 +287,7 @@ pub extern "C" fn constriction_range_decode_bytes_u32(
     weights: &[u32],
     symbols: &mut [u8],
 ) -> u32
-    ensures { RangeTakesU32 result (narrow_from_u32 8 weights.now) words.now decoder.old decoder.new
+    ensures { RangeDecodesU32 result (narrow_from_u32 8 weights.now) words.now decoder.old decoder.new
         (map (lowest 8) symbols.old) (map (lowest 8) symbols.new) }
 {
     let mut parts = decoder.parts();
@@ -308,7 +309,7 @@ pub extern "C" fn constriction_range_encode_shorts_u32(
     symbols: &[u16],
     needed: &mut usize,
 ) -> u32
-    ensures { RangePutsU32 result needed.old needed.new (by_weights (map (lowest 32) weights.now) symbols.now)
+    ensures { RangeEncodesU32 result needed.old needed.new (by_weights (map (lowest 32) weights.now) symbols.now)
         (length symbols.now) encoder.old words.old len.old encoder.new words.new len.new }
 {
     let models = Weights { weights };
@@ -330,7 +331,7 @@ pub extern "C" fn constriction_range_decode_shorts_u32(
     weights: &[u32],
     symbols: &mut [u16],
 ) -> u32
-    ensures { RangeTakesU32 result (narrow_from_u32 16 weights.now) words.now decoder.old decoder.new
+    ensures { RangeDecodesU32 result (narrow_from_u32 16 weights.now) words.now decoder.old decoder.new
         (map (lowest 16) symbols.old) (map (lowest 16) symbols.new) }
 {
     let mut parts = decoder.parts();

@@ -3,7 +3,7 @@
 
 ghost use Rattle.std.specs.Prelude.{◌≡◌, length, map};
 ghost use Rattle.constriction_c.specs.Codes.{answer_by_code};
-ghost use Rattle.constriction_c.specs.Small.{RangeEndsU16, RangePutsU16, RangeTakesU16, small_decoder, small_encoder};
+ghost use Rattle.constriction_c.specs.Small.{RangeEndsU16, RangeEncodesU16, RangeDecodesU16, small_decoder, small_encoder};
 ghost use Rattle.constriction_c.specs.Words.{lowest};
 ghost use Rattle.constriction_calls.specs.RangeCalls.{IsNew, IsSealed, RangeBegins, RangeMayEnd, RangeSeals, RangeSeeks};
 ghost use Rattle.constriction_inputs.specs.Weights.{by_weights};
@@ -67,7 +67,7 @@ pub extern "C" fn constriction_range_encode_u16(
     symbols: &[usize],
     needed: &mut usize,
 ) -> u32
-    ensures { RangePutsU16 result needed.old needed.new (by_weights (map (lowest 16) weights.now) symbols.now)
+    ensures { RangeEncodesU16 result needed.old needed.new (by_weights (map (lowest 16) weights.now) symbols.now)
         (length symbols.now) encoder.old words.old len.old encoder.new words.new len.new }
 {
     let models = Weights { weights };
@@ -122,7 +122,7 @@ pub extern "C" fn constriction_range_decode_u16(
     weights: &[u16],
     symbols: &mut [usize],
 ) -> u32
-    ensures { RangeTakesU16 result (by_weights (map (lowest 16) weights.now)) words.now decoder.old decoder.new
+    ensures { RangeDecodesU16 result (by_weights (map (lowest 16) weights.now)) words.now decoder.old decoder.new
         symbols.old symbols.new }
 {
     let mut parts = decoder.parts();

@@ -1,6 +1,6 @@
 //! Stores with 32-bit words, 64-bit states and a precision of 24 bits.
 
-ghost use Rattle.constriction_c.specs.Large.{StoreBuildsU32, StoreGivesU32};
+ghost use Rattle.constriction_c.specs.Large.{StoreBuildsU32, StoreDecodesU32};
 
 use crate::codes::{code_of, code_without_space};
 use constriction_calls::store::{build, chunk};
@@ -49,7 +49,7 @@ pub extern "C" fn constriction_store_chunk_u32(
     weights: &[u32],
     symbols: &mut [usize],
 ) -> u32
-    ensures { StoreGivesU32 result weights.now words.now pos lower range symbols.old symbols.new }
+    ensures { StoreDecodesU32 result weights.now words.now pos lower range symbols.old symbols.new }
 {
     code_without_space(chunk::<u32, _, _, 24>(alloc, words, pos, lower, range, weights, symbols))
 }

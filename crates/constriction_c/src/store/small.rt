@@ -1,7 +1,7 @@
 // Written by tools/sizes from large.rt.
 //! Stores with 16-bit words, 32-bit states and a precision of 12 bits.
 
-ghost use Rattle.constriction_c.specs.Small.{StoreBuildsU16, StoreGivesU16};
+ghost use Rattle.constriction_c.specs.Small.{StoreBuildsU16, StoreDecodesU16};
 
 use crate::codes::{code_of, code_without_space};
 use constriction_calls::store::{build, chunk};
@@ -50,7 +50,7 @@ pub extern "C" fn constriction_store_chunk_u16(
     weights: &[u16],
     symbols: &mut [usize],
 ) -> u32
-    ensures { StoreGivesU16 result weights.now words.now pos lower range symbols.old symbols.new }
+    ensures { StoreDecodesU16 result weights.now words.now pos lower range symbols.old symbols.new }
 {
     code_without_space(chunk::<u16, _, _, 12>(alloc, words, pos, lower, range, weights, symbols))
 }

@@ -2,7 +2,7 @@
 //!
 //! A function sets `needed` only if it returns the code of the error `NoSpace`.
 
-ghost use Rattle.constriction_c.specs.Large.{PutsAtBitU32, PutsCodewordsU32, TakesAtBitU32, TakesCodewordsU32};
+ghost use Rattle.constriction_c.specs.Large.{EncodesAtBitU32, EncodesCodewordsU32, DecodesAtBitU32, DecodesCodewordsU32};
 ghost use Rattle.constriction_c.specs.Words.{lowest};
 ghost use Rattle.constriction_calls.specs.SymbolCalls.{AsQueue, OfNumbers};
 
@@ -22,7 +22,7 @@ pub extern "C" fn constriction_exp_golomb_encode_queue_u32(
     len: &mut usize,
     needed: &mut usize,
 ) -> u32
-    ensures { PutsCodewordsU32 result needed.old needed.new (lowest 32) AsQueue (OfNumbers 32) symbols.now words.old
+    ensures { EncodesCodewordsU32 result needed.old needed.new (lowest 32) AsQueue (OfNumbers 32) symbols.now words.old
         len.old words.new len.new }
 {
     let answer = encode_queue(alloc, &ExpGolomb::<u32>::new(), symbols, words, len);
@@ -38,7 +38,7 @@ pub extern "C" fn constriction_exp_golomb_decode_queue_u32(
     words: &[u32],
     symbols: &mut [u32],
 ) -> u32
-    ensures { TakesCodewordsU32 result (lowest 32) AsQueue (OfNumbers 32) words.now symbols.old symbols.new }
+    ensures { DecodesCodewordsU32 result (lowest 32) AsQueue (OfNumbers 32) words.now symbols.old symbols.new }
 {
     code_without_space(decode_queue(alloc, &ExpGolomb::<u32>::new(), words, symbols))
 }
@@ -54,7 +54,7 @@ pub extern "C" fn constriction_exp_golomb_encode_at_u32(
     bit: &mut usize,
     needed: &mut usize,
 ) -> u32
-    ensures { PutsAtBitU32 result needed.old needed.new (lowest 32) (OfNumbers 32) symbols.now words.old bit.old
+    ensures { EncodesAtBitU32 result needed.old needed.new (lowest 32) (OfNumbers 32) symbols.now words.old bit.old
         words.new bit.new }
 {
     let answer = encode_at(alloc, &ExpGolomb::<u32>::new(), symbols, words, bit);
@@ -71,7 +71,7 @@ pub extern "C" fn constriction_exp_golomb_decode_at_u32(
     bit: &mut usize,
     symbols: &mut [u32],
 ) -> u32
-    ensures { TakesAtBitU32 result (lowest 32) (OfNumbers 32) words.now bit.old symbols.old bit.new symbols.new }
+    ensures { DecodesAtBitU32 result (lowest 32) (OfNumbers 32) words.now bit.old symbols.old bit.new symbols.new }
 {
     code_without_space(decode_at(alloc, &ExpGolomb::<u32>::new(), words, bit, symbols))
 }

@@ -1,7 +1,7 @@
 // Written by tools/sizes from large.rt.
 //! More C functions for codewords: Exp-Golomb on a stack, and Huffman on a queue, on a stack and at a given bit.
 
-ghost use Rattle.constriction_c.specs.Large.{PutsAtBitU32, PutsCodewordsU32, TakesAtBitU32, TakesCodewordsU32};
+ghost use Rattle.constriction_c.specs.Large.{DecodesAtBitU32, DecodesCodewordsU32, EncodesAtBitU32, EncodesCodewordsU32};
 ghost use Rattle.constriction_c.specs.Words.{lowest};
 ghost use Rattle.constriction_calls.specs.SymbolCalls.{AsQueue, AsStack, OfNumbers, OfWeights};
 ghost use Rattle.std.specs.Prelude.{map};
@@ -24,7 +24,7 @@ pub extern "C" fn constriction_exp_golomb_encode_stack_u32(
     len: &mut usize,
     needed: &mut usize,
 ) -> u32
-    ensures { PutsCodewordsU32 result needed.old needed.new (lowest 32) AsStack (OfNumbers 32) symbols.now words.old
+    ensures { EncodesCodewordsU32 result needed.old needed.new (lowest 32) AsStack (OfNumbers 32) symbols.now words.old
         len.old words.new len.new }
 {
     let answer = encode_stack(alloc, &ExpGolomb::<u32>::new(), symbols, words, len);
@@ -40,7 +40,7 @@ pub extern "C" fn constriction_exp_golomb_decode_stack_u32(
     words: &[u32],
     symbols: &mut [u32],
 ) -> u32
-    ensures { TakesCodewordsU32 result (lowest 32) AsStack (OfNumbers 32) words.now symbols.old symbols.new }
+    ensures { DecodesCodewordsU32 result (lowest 32) AsStack (OfNumbers 32) words.now symbols.old symbols.new }
 {
     code_without_space(decode_stack(alloc, &ExpGolomb::<u32>::new(), words, symbols))
 }
@@ -57,7 +57,7 @@ pub extern "C" fn constriction_huffman_encode_queue_u32(
     len: &mut usize,
     needed: &mut usize,
 ) -> u32
-    ensures { PutsCodewordsU32 result needed.old needed.new (λ s. s) AsQueue
+    ensures { EncodesCodewordsU32 result needed.old needed.new (λ s. s) AsQueue
         (OfWeights 32 (map (lowest 32) weights.now)) symbols.now words.old len.old words.new len.new }
 {
     let answer = encode_queue(alloc, &Tree { weights }, symbols, words, len);
@@ -74,7 +74,7 @@ pub extern "C" fn constriction_huffman_decode_queue_u32(
     words: &[u32],
     symbols: &mut [usize],
 ) -> u32
-    ensures { TakesCodewordsU32 result (λ s. s) AsQueue (OfWeights 32 (map (lowest 32) weights.now)) words.now
+    ensures { DecodesCodewordsU32 result (λ s. s) AsQueue (OfWeights 32 (map (lowest 32) weights.now)) words.now
         symbols.old symbols.new }
 {
     code_without_space(decode_queue(alloc, &Tree { weights }, words, symbols))
@@ -92,7 +92,7 @@ pub extern "C" fn constriction_huffman_encode_at_u32(
     bit: &mut usize,
     needed: &mut usize,
 ) -> u32
-    ensures { PutsAtBitU32 result needed.old needed.new (λ s. s) (OfWeights 32 (map (lowest 32) weights.now))
+    ensures { EncodesAtBitU32 result needed.old needed.new (λ s. s) (OfWeights 32 (map (lowest 32) weights.now))
         symbols.now words.old bit.old words.new bit.new }
 {
     let answer = encode_at(alloc, &Tree { weights }, symbols, words, bit);
@@ -110,7 +110,7 @@ pub extern "C" fn constriction_huffman_decode_at_u32(
     bit: &mut usize,
     symbols: &mut [usize],
 ) -> u32
-    ensures { TakesAtBitU32 result (λ s. s) (OfWeights 32 (map (lowest 32) weights.now)) words.now bit.old symbols.old
+    ensures { DecodesAtBitU32 result (λ s. s) (OfWeights 32 (map (lowest 32) weights.now)) words.now bit.old symbols.old
         bit.new symbols.new }
 {
     code_without_space(decode_at(alloc, &Tree { weights }, words, bit, symbols))
@@ -128,7 +128,7 @@ pub extern "C" fn constriction_huffman_encode_stack_u32(
     len: &mut usize,
     needed: &mut usize,
 ) -> u32
-    ensures { PutsCodewordsU32 result needed.old needed.new (λ s. s) AsStack
+    ensures { EncodesCodewordsU32 result needed.old needed.new (λ s. s) AsStack
         (OfWeights 32 (map (lowest 32) weights.now)) symbols.now words.old len.old words.new len.new }
 {
     let answer = encode_stack(alloc, &Tree { weights }, symbols, words, len);
@@ -145,7 +145,7 @@ pub extern "C" fn constriction_huffman_decode_stack_u32(
     words: &[u32],
     symbols: &mut [usize],
 ) -> u32
-    ensures { TakesCodewordsU32 result (λ s. s) AsStack (OfWeights 32 (map (lowest 32) weights.now)) words.now
+    ensures { DecodesCodewordsU32 result (λ s. s) AsStack (OfWeights 32 (map (lowest 32) weights.now)) words.now
         symbols.old symbols.new }
 {
     code_without_space(decode_stack(alloc, &Tree { weights }, words, symbols))

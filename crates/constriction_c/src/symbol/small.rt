@@ -3,7 +3,7 @@
 //!
 //! A function sets `needed` only if it returns the code of the error `NoSpace`.
 
-ghost use Rattle.constriction_c.specs.Small.{PutsAtBitU16, PutsCodewordsU16, TakesAtBitU16, TakesCodewordsU16};
+ghost use Rattle.constriction_c.specs.Small.{EncodesAtBitU16, EncodesCodewordsU16, DecodesAtBitU16, DecodesCodewordsU16};
 ghost use Rattle.constriction_c.specs.Words.{lowest};
 ghost use Rattle.constriction_calls.specs.SymbolCalls.{AsQueue, OfNumbers};
 
@@ -23,7 +23,7 @@ pub extern "C" fn constriction_exp_golomb_encode_queue_u16(
     len: &mut usize,
     needed: &mut usize,
 ) -> u32
-    ensures { PutsCodewordsU16 result needed.old needed.new (lowest 16) AsQueue (OfNumbers 16) symbols.now words.old
+    ensures { EncodesCodewordsU16 result needed.old needed.new (lowest 16) AsQueue (OfNumbers 16) symbols.now words.old
         len.old words.new len.new }
 {
     let answer = encode_queue(alloc, &ExpGolomb::<u16>::new(), symbols, words, len);
@@ -39,7 +39,7 @@ pub extern "C" fn constriction_exp_golomb_decode_queue_u16(
     words: &[u16],
     symbols: &mut [u16],
 ) -> u32
-    ensures { TakesCodewordsU16 result (lowest 16) AsQueue (OfNumbers 16) words.now symbols.old symbols.new }
+    ensures { DecodesCodewordsU16 result (lowest 16) AsQueue (OfNumbers 16) words.now symbols.old symbols.new }
 {
     code_without_space(decode_queue(alloc, &ExpGolomb::<u16>::new(), words, symbols))
 }
@@ -55,7 +55,7 @@ pub extern "C" fn constriction_exp_golomb_encode_at_u16(
     bit: &mut usize,
     needed: &mut usize,
 ) -> u32
-    ensures { PutsAtBitU16 result needed.old needed.new (lowest 16) (OfNumbers 16) symbols.now words.old bit.old
+    ensures { EncodesAtBitU16 result needed.old needed.new (lowest 16) (OfNumbers 16) symbols.now words.old bit.old
         words.new bit.new }
 {
     let answer = encode_at(alloc, &ExpGolomb::<u16>::new(), symbols, words, bit);
@@ -72,7 +72,7 @@ pub extern "C" fn constriction_exp_golomb_decode_at_u16(
     bit: &mut usize,
     symbols: &mut [u16],
 ) -> u32
-    ensures { TakesAtBitU16 result (lowest 16) (OfNumbers 16) words.now bit.old symbols.old bit.new symbols.new }
+    ensures { DecodesAtBitU16 result (lowest 16) (OfNumbers 16) words.now bit.old symbols.old bit.new symbols.new }
 {
     code_without_space(decode_at(alloc, &ExpGolomb::<u16>::new(), words, bit, symbols))
 }

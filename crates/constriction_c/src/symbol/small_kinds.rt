@@ -1,7 +1,7 @@
 // Written by tools/sizes from large_kinds.rt.
 //! More C functions for codewords: Exp-Golomb on a stack, and Huffman on a queue, on a stack and at a given bit.
 
-ghost use Rattle.constriction_c.specs.Small.{PutsAtBitU16, PutsCodewordsU16, TakesAtBitU16, TakesCodewordsU16};
+ghost use Rattle.constriction_c.specs.Small.{DecodesAtBitU16, DecodesCodewordsU16, EncodesAtBitU16, EncodesCodewordsU16};
 ghost use Rattle.constriction_c.specs.Words.{lowest};
 ghost use Rattle.constriction_calls.specs.SymbolCalls.{AsQueue, AsStack, OfNumbers, OfWeights};
 ghost use Rattle.std.specs.Prelude.{map};
@@ -24,7 +24,7 @@ pub extern "C" fn constriction_exp_golomb_encode_stack_u16(
     len: &mut usize,
     needed: &mut usize,
 ) -> u32
-    ensures { PutsCodewordsU16 result needed.old needed.new (lowest 16) AsStack (OfNumbers 16) symbols.now words.old
+    ensures { EncodesCodewordsU16 result needed.old needed.new (lowest 16) AsStack (OfNumbers 16) symbols.now words.old
         len.old words.new len.new }
 {
     let answer = encode_stack(alloc, &ExpGolomb::<u16>::new(), symbols, words, len);
@@ -40,7 +40,7 @@ pub extern "C" fn constriction_exp_golomb_decode_stack_u16(
     words: &[u16],
     symbols: &mut [u16],
 ) -> u32
-    ensures { TakesCodewordsU16 result (lowest 16) AsStack (OfNumbers 16) words.now symbols.old symbols.new }
+    ensures { DecodesCodewordsU16 result (lowest 16) AsStack (OfNumbers 16) words.now symbols.old symbols.new }
 {
     code_without_space(decode_stack(alloc, &ExpGolomb::<u16>::new(), words, symbols))
 }
@@ -57,7 +57,7 @@ pub extern "C" fn constriction_huffman_encode_queue_u16(
     len: &mut usize,
     needed: &mut usize,
 ) -> u32
-    ensures { PutsCodewordsU16 result needed.old needed.new (λ s. s) AsQueue
+    ensures { EncodesCodewordsU16 result needed.old needed.new (λ s. s) AsQueue
         (OfWeights 32 (map (lowest 32) weights.now)) symbols.now words.old len.old words.new len.new }
 {
     let answer = encode_queue(alloc, &Tree { weights }, symbols, words, len);
@@ -74,7 +74,7 @@ pub extern "C" fn constriction_huffman_decode_queue_u16(
     words: &[u16],
     symbols: &mut [usize],
 ) -> u32
-    ensures { TakesCodewordsU16 result (λ s. s) AsQueue (OfWeights 32 (map (lowest 32) weights.now)) words.now
+    ensures { DecodesCodewordsU16 result (λ s. s) AsQueue (OfWeights 32 (map (lowest 32) weights.now)) words.now
         symbols.old symbols.new }
 {
     code_without_space(decode_queue(alloc, &Tree { weights }, words, symbols))
@@ -92,7 +92,7 @@ pub extern "C" fn constriction_huffman_encode_at_u16(
     bit: &mut usize,
     needed: &mut usize,
 ) -> u32
-    ensures { PutsAtBitU16 result needed.old needed.new (λ s. s) (OfWeights 32 (map (lowest 32) weights.now))
+    ensures { EncodesAtBitU16 result needed.old needed.new (λ s. s) (OfWeights 32 (map (lowest 32) weights.now))
         symbols.now words.old bit.old words.new bit.new }
 {
     let answer = encode_at(alloc, &Tree { weights }, symbols, words, bit);
@@ -110,7 +110,7 @@ pub extern "C" fn constriction_huffman_decode_at_u16(
     bit: &mut usize,
     symbols: &mut [usize],
 ) -> u32
-    ensures { TakesAtBitU16 result (λ s. s) (OfWeights 32 (map (lowest 32) weights.now)) words.now bit.old symbols.old
+    ensures { DecodesAtBitU16 result (λ s. s) (OfWeights 32 (map (lowest 32) weights.now)) words.now bit.old symbols.old
         bit.new symbols.new }
 {
     code_without_space(decode_at(alloc, &Tree { weights }, words, bit, symbols))
@@ -128,7 +128,7 @@ pub extern "C" fn constriction_huffman_encode_stack_u16(
     len: &mut usize,
     needed: &mut usize,
 ) -> u32
-    ensures { PutsCodewordsU16 result needed.old needed.new (λ s. s) AsStack
+    ensures { EncodesCodewordsU16 result needed.old needed.new (λ s. s) AsStack
         (OfWeights 32 (map (lowest 32) weights.now)) symbols.now words.old len.old words.new len.new }
 {
     let answer = encode_stack(alloc, &Tree { weights }, symbols, words, len);
@@ -145,7 +145,7 @@ pub extern "C" fn constriction_huffman_decode_stack_u16(
     words: &[u16],
     symbols: &mut [usize],
 ) -> u32
-    ensures { TakesCodewordsU16 result (λ s. s) AsStack (OfWeights 32 (map (lowest 32) weights.now)) words.now
+    ensures { DecodesCodewordsU16 result (λ s. s) AsStack (OfWeights 32 (map (lowest 32) weights.now)) words.now
         symbols.old symbols.new }
 {
     code_without_space(decode_stack(alloc, &Tree { weights }, words, symbols))

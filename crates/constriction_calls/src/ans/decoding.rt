@@ -3,7 +3,7 @@
 ghost use Rattle.std.specs.Prelude.{◌≡◌, ◌≤◌, ◌^◌, length, map};
 ghost use Rattle.constriction_base.specs.Models.{pairs_of};
 ghost use Rattle.constriction_base.specs.Steps.{IsSizes};
-ghost use Rattle.constriction_calls.specs.AnsCalls.{AnsTakesBy, AnsTakesByWeights, coder_of, state_kept};
+ghost use Rattle.constriction_calls.specs.AnsCalls.{AnsDecodesListBy, AnsDecodesListByWeights, coder_of, ans_state_of};
 ghost use Rattle.constriction_calls.specs.NarrowSymbols.{narrow_by_weights};
 ghost use Rattle.constriction_stack.specs.Symbols.{Decodes, DecodesAll};
 
@@ -45,7 +45,7 @@ pub fn decode<
 ) -> Result<(), Refusal>
     requires sizes { IsSizes Word.BITS State.BITS }
     requires precision { (1 ≤ PRECISION) × (PRECISION ≤ P.BITS) }
-    ensures call { AnsTakesBy Word.BitArray State.BitArray PRECISION (G.coded models.now)
+    ensures call { AnsDecodesListBy Word.BitArray State.BitArray PRECISION (G.coded models.now)
         words.now head.old len.old head.new len.new symbols.old symbols.new result }
 {
     if *len > words.len() {
@@ -84,7 +84,7 @@ pub fn decode_by_weights<
 ) -> Result<(), Refusal>
     requires sizes { IsSizes Word.BITS State.BITS }
     requires precision { (1 ≤ PRECISION) × (PRECISION ≤ P.BITS) }
-    ensures call { AnsTakesByWeights Word.BitArray State.BitArray PRECISION P.number weights.now
+    ensures call { AnsDecodesListByWeights Word.BitArray State.BitArray PRECISION P.number weights.now
         words.now head.old len.old head.new len.new symbols.old symbols.new result }
 {
     if symbols.len() <= 1
@@ -119,7 +119,7 @@ pub fn decode_narrow<
 ) -> Result<(), Refusal>
     requires sizes { IsSizes Word.BITS State.BITS }
     requires precision { (1 ≤ PRECISION) × (PRECISION ≤ P.BITS) }
-    ensures call { AnsTakesBy Word.BitArray State.BitArray PRECISION
+    ensures call { AnsDecodesListBy Word.BitArray State.BitArray PRECISION
         (narrow_by_weights (2 ^ S.BITS) (map P.number weights.now)) words.now head.old len.old head.new len.new
         (map S.number symbols.old) (map S.number symbols.new) result }
 {
@@ -159,8 +159,8 @@ fn decode_by<
     requires count { length symbols.now ≡ length (L.tables models.now) }
     ensures decoded { DecodesAll Word.BITS State.BITS
         (pairs_of PRECISION (λ table. table) symbols.new (L.tables models.old))
-        (state_kept Word.number State.number (coder_of head words.now len))
-        (state_kept Word.number State.number (coder_of result.0 words.now result.1)) }
+        (ans_state_of Word.number State.number (coder_of head words.now len))
+        (ans_state_of Word.number State.number (coder_of result.0 words.now result.1)) }
     ensures left { result.1 ≤ len }
     ensures count { length symbols.new ≡ length symbols.old }
 {

@@ -4,7 +4,7 @@
 
 ghost use Rattle.std.specs.Prelude.{◌≡◌, ◌≤◌, length, IfSome};
 ghost use Rattle.constriction_base.specs.Steps.{IsSizes};
-ghost use Rattle.constriction_calls.specs.AnsCalls.{AnsPutsBy, CodesAlone};
+ghost use Rattle.constriction_calls.specs.AnsCalls.{AnsEncodesListBy, CodesAlone};
 
 use constriction_inputs::buffers::append;
 use constriction_inputs::items::{ItemList, Items};
@@ -36,7 +36,7 @@ pub fn encode_reverse<
 ) -> Result<(), Refusal>
     requires sizes { IsSizes Word.BITS State.BITS }
     requires precision { (1 ≤ PRECISION) × (PRECISION ≤ P.BITS) }
-    ensures call { AnsPutsBy Word.BitArray State.BitArray PRECISION (I.coded items.now)
+    ensures call { AnsEncodesListBy Word.BitArray State.BitArray PRECISION (I.coded items.now)
         head.old words.old len.old head.new words.new len.new result }
 {
     if *len > words.len() {

@@ -3,10 +3,10 @@
 ghost use Rattle.std.specs.Prelude.{◌≡◌, ◌⊎◌, ◌+◌, ◌<◌, ◌≤◌, ◌^◌, ℕ, List, length, map, reverse, IfErr, IfOk, OnErr, OnOk};
 ghost use Rattle.constriction_base.specs.Models.{pairs_of};
 ghost use Rattle.constriction_chain.specs.Chain.{IsSized};
-ghost use Rattle.constriction_chain.specs.Symbols.{TakesOffAll};
+ghost use Rattle.constriction_chain.specs.Symbols.{ChainDecodesAll};
 ghost use Rattle.constriction_inputs.specs.Buffers.{Appended};
-ghost use Rattle.constriction_calls.specs.ChainCalls.{AreHeadsOf, ChainTakesBy, ChainTakesByWeights};
-ghost use Rattle.constriction_calls.specs.ChainCalls.{ChainTakesNarrow, LacksCompressed, keeps};
+ghost use Rattle.constriction_calls.specs.ChainCalls.{AreHeadsOf, ChainDecodesListBy, ChainDecodesListByWeights};
+ghost use Rattle.constriction_calls.specs.ChainCalls.{ChainDecodesListNarrow, LacksCompressed, chain_buffers};
 ghost use Rattle.constriction_chain.specs.Fits.{CoderFits};
 ghost use Rattle.constriction_inputs.specs.Coded.{AreFit, items};
 ghost use Rattle.constriction_inputs.specs.declared.refusal.Refusal.TheVariants as refusals;
@@ -64,9 +64,9 @@ pub fn decode<
     requires sized { IsSized Word.BITS State.BITS PRECISION }
     requires within { PRECISION ≤ P.BITS }
     requires fits { CoderFits Word.row State.row }
-    ensures call { ChainTakesBy Word.BitArray State.BitArray PRECISION (G.coded models.now)
-        (keeps heads.old compressed.now compressed_len.old remainders.old remainders_len.old)
-        (keeps heads.new compressed.now compressed_len.new remainders.new remainders_len.new)
+    ensures call { ChainDecodesListBy Word.BitArray State.BitArray PRECISION (G.coded models.now)
+        (chain_buffers heads.old compressed.now compressed_len.old remainders.old remainders_len.old)
+        (chain_buffers heads.new compressed.now compressed_len.new remainders.new remainders_len.new)
         symbols.old symbols.new result }
 {
     if *compressed_len > compressed.len() || *remainders_len > remainders.len() {
@@ -119,9 +119,9 @@ pub fn decode_by_weights<
     requires sized { IsSized Word.BITS State.BITS PRECISION }
     requires within { PRECISION ≤ P.BITS }
     requires fits { CoderFits Word.row State.row }
-    ensures call { ChainTakesByWeights Word.BitArray State.BitArray PRECISION P.number weights.now
-        (keeps heads.old compressed.now compressed_len.old remainders.old remainders_len.old)
-        (keeps heads.new compressed.now compressed_len.new remainders.new remainders_len.new)
+    ensures call { ChainDecodesListByWeights Word.BitArray State.BitArray PRECISION P.number weights.now
+        (chain_buffers heads.old compressed.now compressed_len.old remainders.old remainders_len.old)
+        (chain_buffers heads.new compressed.now compressed_len.new remainders.new remainders_len.new)
         symbols.old symbols.new result }
 {
     if symbols.len() <= 1
@@ -177,9 +177,9 @@ pub fn decode_narrow<
     requires sized { IsSized Word.BITS State.BITS PRECISION }
     requires within { PRECISION ≤ P.BITS }
     requires fits { CoderFits Word.row State.row }
-    ensures call { ChainTakesNarrow Word.BitArray State.BitArray S.BitArray PRECISION P.number weights.now
-        (keeps heads.old compressed.now compressed_len.old remainders.old remainders_len.old)
-        (keeps heads.new compressed.now compressed_len.new remainders.new remainders_len.new)
+    ensures call { ChainDecodesListNarrow Word.BitArray State.BitArray S.BitArray PRECISION P.number weights.now
+        (chain_buffers heads.old compressed.now compressed_len.old remainders.old remainders_len.old)
+        (chain_buffers heads.new compressed.now compressed_len.new remainders.new remainders_len.new)
         symbols.old symbols.new result }
 {
     if *compressed_len > compressed.len() || *remainders_len > remainders.len() {
@@ -243,7 +243,7 @@ fn take_by<
     requires sizes { (1 ≤ PRECISION) × (PRECISION ≤ P.BITS) }
     requires fit { (symbols : List ℕ) × (length symbols ≡ count) × AreFit PRECISION (G.coded models.now symbols) }
     ensures count { IfOk result (λ symbols. length symbols.items ≡ count) }
-    ensures ok { IfOk result (λ symbols. TakesOffAll Word.BITS State.BITS
+    ensures ok { IfOk result (λ symbols. ChainDecodesAll Word.BITS State.BITS
         (items PRECISION (G.coded models.now symbols.items)) coder.old.state coder.new.state) }
     ensures err { IfErr result (λ e. (e ≡ refusals.NoMemory) ⊎ ((e ≡ refusals.OutOfData)
         × LacksCompressed Word.BITS State.BITS PRECISION
@@ -278,7 +278,7 @@ fn take_symbols<
 ) -> Result<Vec<usize>, Refusal>
     requires { length (L.tables models.now) ≡ count }
     ensures count { IfOk result (λ symbols. length symbols.items ≡ count) }
-    ensures ok { IfOk result (λ symbols. TakesOffAll Word.BITS State.BITS
+    ensures ok { IfOk result (λ symbols. ChainDecodesAll Word.BITS State.BITS
         (pairs_of PRECISION (λ table. table) symbols.items (L.tables models.old)) coder.old.state coder.new.state) }
     ensures err { IfErr result (λ e. (e ≡ refusals.NoMemory) ⊎ ((e ≡ refusals.OutOfData)
         × LacksCompressed Word.BITS State.BITS PRECISION

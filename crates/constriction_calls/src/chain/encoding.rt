@@ -4,9 +4,9 @@ ghost use Rattle.std.specs.Prelude.{◌≡◌, ◌⊎◌, ◌+◌, ◌<◌, ◌�
 ghost use Rattle.constriction_base.specs.Steps.{IsStep};
 ghost use Rattle.constriction_chain.specs.Chain.{ChainState, IsSized};
 ghost use Rattle.constriction_inputs.specs.Buffers.{Appended};
-ghost use Rattle.constriction_calls.specs.ChainCalls.{AreHeadsOf, ChainPutsBy, keeps};
+ghost use Rattle.constriction_calls.specs.ChainCalls.{AreHeadsOf, ChainEncodesListBy, chain_buffers};
 ghost use Rattle.constriction_chain.specs.Fits.{CoderFits};
-ghost use Rattle.constriction_calls.specs.ChainItems.{ChainPutsItems, PutsItem, PutsBackItems, PutsStep};
+ghost use Rattle.constriction_calls.specs.ChainItems.{ChainEncodesItems, PutsItem, PutsBackItems, PutsStep};
 ghost use Rattle.constriction_inputs.specs.declared.refusal.Refusal.TheVariants as refusals;
 ghost use Rattle.constriction_words.specs.Reciprocals.{IsReciprocalOf};
 
@@ -57,9 +57,9 @@ pub fn encode_reverse<
     requires sized { IsSized Word.BITS State.BITS PRECISION }
     requires within { PRECISION ≤ P.BITS }
     requires fits { CoderFits Word.row State.row }
-    ensures call { ChainPutsBy Word.BitArray State.BitArray PRECISION (I.coded items.now)
-        (keeps heads.old compressed.old compressed_len.old remainders.now remainders_len.old)
-        (keeps heads.new compressed.new compressed_len.new remainders.now remainders_len.new) result }
+    ensures call { ChainEncodesListBy Word.BitArray State.BitArray PRECISION (I.coded items.now)
+        (chain_buffers heads.old compressed.old compressed_len.old remainders.now remainders_len.old)
+        (chain_buffers heads.new compressed.new compressed_len.new remainders.now remainders_len.new) result }
 {
     if *compressed_len > compressed.len() || *remainders_len > remainders.len() {
         return Err(Refusal::WrongLength);
@@ -125,9 +125,9 @@ fn encode_list<
     requires heads { both ≡ (heads.now.compressed, heads.now.remainders) }
     requires compressed { compressed_len.now ≤ length compressed.now }
     requires remainders { remainders_len.now ≤ length remainders.now }
-    ensures { ChainPutsItems Word.number State.number Word.BITS State.BITS (L.list_items list.old)
-        (keeps heads.old compressed.old compressed_len.old remainders.now remainders_len.old)
-        (keeps heads.new compressed.new compressed_len.new remainders.now remainders_len.new) result }
+    ensures { ChainEncodesItems Word.number State.number Word.BITS State.BITS (L.list_items list.old)
+        (chain_buffers heads.old compressed.old compressed_len.old remainders.now remainders_len.old)
+        (chain_buffers heads.new compressed.new compressed_len.new remainders.now remainders_len.new) result }
 {
     if list.count() == 1 {
         let mut room = [Word::nothing()];
@@ -183,9 +183,9 @@ fn encode_within<
     requires heads { both ≡ (heads.now.compressed, heads.now.remainders) }
     requires compressed { compressed_len.now ≤ length compressed.now }
     requires remainders { remainders_len.now ≤ length remainders.now }
-    ensures { ChainPutsItems Word.number State.number Word.BITS State.BITS (L.list_items list.old)
-        (keeps heads.old compressed.old compressed_len.old remainders.now remainders_len.old)
-        (keeps heads.new compressed.new compressed_len.new remainders.now remainders_len.new) result }
+    ensures { ChainEncodesItems Word.number State.number Word.BITS State.BITS (L.list_items list.old)
+        (chain_buffers heads.old compressed.old compressed_len.old remainders.now remainders_len.old)
+        (chain_buffers heads.new compressed.new compressed_len.new remainders.now remainders_len.new) result }
 {
     let lent = Cursor::new_at_write_end(&remainders[..*remainders_len]);
     let mut coder = ChainCoder::from_raw_parts(Cursor::new_at_write_beginning(room), lent, both);

@@ -6,9 +6,9 @@ ghost use Rattle.constriction_base.specs.Steps.{IsSizes};
 ghost use Rattle.constriction_queue.specs.Decoder.{StandsAt};
 ghost use Rattle.constriction_queue.specs.Range.{Run};
 ghost use Rattle.constriction_queue.specs.Symbols.{FindsAll};
-ghost use Rattle.constriction_calls.specs.RangeCalls.{RangeTakes, RangeTakesByWeights};
+ghost use Rattle.constriction_calls.specs.RangeCalls.{RangeDecodesList, RangeDecodesListByWeights};
 ghost use Rattle.constriction_calls.specs.NarrowSymbols.{narrow_by_weights};
-ghost use Rattle.constriction_inputs.specs.Refusals.{Words};
+ghost use Rattle.constriction_inputs.specs.Refusals.{NoMemoryOrInvalid};
 
 use crate::narrow::{has_numbers, narrow_into};
 use crate::range::parts::{DecoderParts, Reading, decoder_of, decoder_parts};
@@ -46,7 +46,7 @@ pub(crate) fn take_list<
         (λ taken. (last : Run) × FindsAll Word.BITS State.BITS words
         (pairs_of PRECISION (λ table. table) taken.0.items (L.tables list.old)) old last
         × StandsAt Word.BITS State.BITS words last taken.1) }
-    ensures err { IfErr result (Words ((words symbols : List ℕ) (old last : Run)
+    ensures err { IfErr result (NoMemoryOrInvalid ((words symbols : List ℕ) (old last : Run)
         → StandsAt Word.BITS State.BITS words old decoder.entry → FindsAll Word.BITS State.BITS words
         (pairs_of PRECISION (λ table. table) symbols (L.tables list.old)) old last → length symbols ≡ count → ⊥)) }
 {
@@ -89,7 +89,7 @@ pub fn decode<
 ) -> Result<(), Refusal>
     requires sizes { IsSizes Word.BITS State.BITS }
     requires precision { (1 ≤ PRECISION) × (PRECISION ≤ P.BITS) }
-    ensures call { RangeTakes State.number Word.BITS State.BITS PRECISION (G.coded models.now)
+    ensures call { RangeDecodesList State.number Word.BITS State.BITS PRECISION (G.coded models.now)
         (map Word.number words.now) decoder.old decoder.new symbols.old symbols.new result }
 {
     if decoder.pos > words.len() {
@@ -139,7 +139,7 @@ pub fn decode_by_weights<
 ) -> Result<(), Refusal>
     requires sizes { IsSizes Word.BITS State.BITS }
     requires precision { (1 ≤ PRECISION) × (PRECISION ≤ P.BITS) }
-    ensures call { RangeTakesByWeights Word.BitArray State.BitArray PRECISION P.number weights.now
+    ensures call { RangeDecodesListByWeights Word.BitArray State.BitArray PRECISION P.number weights.now
         words.now decoder.old decoder.new symbols.old symbols.new result }
 {
     if symbols.len() <= 1
@@ -173,7 +173,7 @@ pub fn decode_narrow<
 ) -> Result<(), Refusal>
     requires sizes { IsSizes Word.BITS State.BITS }
     requires precision { (1 ≤ PRECISION) × (PRECISION ≤ P.BITS) }
-    ensures call { RangeTakes State.number Word.BITS State.BITS PRECISION
+    ensures call { RangeDecodesList State.number Word.BITS State.BITS PRECISION
         (narrow_by_weights (2 ^ S.BITS) (map P.number weights.now)) (map Word.number words.now) decoder.old decoder.new
         (map S.number symbols.old) (map S.number symbols.new) result }
 {

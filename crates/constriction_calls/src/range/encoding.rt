@@ -7,7 +7,7 @@ ghost use Rattle.constriction_inputs.specs.Buffers.{Appended};
 ghost use Rattle.constriction_inputs.specs.Coded as arguments;
 ghost use Rattle.constriction_inputs.specs.Coded.{AreFit};
 ghost use Rattle.constriction_inputs.specs.declared.refusal.Refusal.TheVariants as refusals;
-ghost use Rattle.constriction_calls.specs.RangeCalls.{CanEncode, Narrowed, RangePutsBy, run_kept};
+ghost use Rattle.constriction_calls.specs.RangeCalls.{CanEncode, Narrowed, RangeEncodesListBy, run_of_parts};
 
 use crate::range::parts::{EncoderParts, encoder_for, encoder_over, parts_over};
 use constriction_base::cursor::Cursor;
@@ -48,7 +48,8 @@ pub fn encode<
 ) -> Result<(), Refusal>
     requires sizes { IsSizes Word.BITS State.BITS }
     requires precision { (1 ≤ PRECISION) × (PRECISION ≤ P.BITS) }
-    ensures call { RangePutsBy Word.BitArray State.BitArray PRECISION (I.coded items.now) (I.item_count items.now)
+    ensures call { RangeEncodesListBy Word.BitArray State.BitArray PRECISION (I.coded items.now)
+        (I.item_count items.now)
         encoder.old buffer.old len.old encoder.new buffer.new len.new result }
 {
     if *len > buffer.len() {
@@ -94,7 +95,8 @@ fn encode_list<
     requires precision { (1 ≤ PRECISION) × (PRECISION ≤ P.BITS) }
     requires within { len.now ≤ length buffer.now }
     requires fit { AreFit PRECISION (I.coded items.now) }
-    ensures call { RangePutsBy Word.BitArray State.BitArray PRECISION (I.coded items.now) (I.item_count items.now)
+    ensures call { RangeEncodesListBy Word.BitArray State.BitArray PRECISION (I.coded items.now)
+        (I.item_count items.now)
         encoder.old buffer.old len.old encoder.new buffer.new len.new result }
 {
     let Some(made) = encoder_for(alloc, *encoder, items.count()) else {
@@ -177,7 +179,7 @@ fn put_one<
     ensures can { IfSome result
         (λ _. CanEncode Word.number State.number Word.BITS State.BITS parts (I.item_count items.now)) }
     ensures narrowed { IfSome result (λ made. Narrowed Word.number State.number Word.BITS State.BITS
-        (arguments.items PRECISION (I.coded items.now)) (run_kept Word.number State.number Word.BITS State.BITS parts [])
+        (arguments.items PRECISION (I.coded items.now)) (run_of_parts Word.number State.number Word.BITS State.BITS parts [])
         made.0.now made.1) }
 {
     if items.count() != 1 || parts.held > 1 {

@@ -3,8 +3,8 @@
 ghost use Rattle.std.specs.Prelude.{◌≡◌, ◌↔◌, ◌≤◌, ◌-◌, [], length, map, IfSome, IsSome};
 ghost use Rattle.constriction_base.specs.Steps.{IsSizes};
 ghost use Rattle.constriction_queue.specs.Encoder.{left_to_encode, run_by};
-ghost use Rattle.constriction_calls.specs.RangeCalls.{CanEncode, IsDecoderKept, IsEncoderKept, IsRead};
-ghost use Rattle.constriction_calls.specs.RangeCalls.{run_kept, run_over};
+ghost use Rattle.constriction_calls.specs.RangeCalls.{CanEncode, ValidDecoder, ValidEncoder, IsRead};
+ghost use Rattle.constriction_calls.specs.RangeCalls.{run_of_parts, run_over};
 
 use constriction_base::backends::{Holds, Seek, Stack};
 use constriction_base::cursor::Cursor;
@@ -68,7 +68,7 @@ pub fn encoder_for<Word: WordOf<State>, State: BitArray>(
 ) -> Option<RangeEncoder<Word, State, Vec<Word>>>
     requires { IsSizes Word.BITS State.BITS }
     ensures run { IfSome result (λ encoder. run_by Word.BITS State.BITS encoder
-        ≡ run_kept Word.number State.number Word.BITS State.BITS parts []) }
+        ≡ run_of_parts Word.number State.number Word.BITS State.BITS parts []) }
     ensures left { IfSome result (λ encoder. count ≤ left_to_encode encoder) }
     ensures variant { IsSome result ↔ CanEncode Word.number State.number Word.BITS State.BITS parts count }
 {
@@ -91,7 +91,7 @@ pub(crate) fn encoder_over<
     requires sizes { IsSizes Word.BITS State.BITS }
     requires empty { Backend.words bulk ≡ [] }
     ensures run { IfSome result (λ encoder. run_by Word.BITS State.BITS encoder
-        ≡ run_kept Word.number State.number Word.BITS State.BITS parts []) }
+        ≡ run_of_parts Word.number State.number Word.BITS State.BITS parts []) }
     ensures left { IfSome result (λ encoder. count ≤ left_to_encode encoder) }
     ensures variant { IsSome result ↔ CanEncode Word.number State.number Word.BITS State.BITS parts count }
 {
@@ -119,7 +119,7 @@ pub(crate) fn parts_over<Word: WordOf<State>, State: BitArray, Backend: Holds<Wo
 ) -> (Backend, EncoderParts<Word, State>)
     ensures run { run_by Word.BITS State.BITS encoder
         ≡ run_over Word.number State.number Word.BITS State.BITS result.1 (Backend.words result.0) }
-    ensures coder { IsEncoderKept Word.number State.number Word.BITS State.BITS result.1 }
+    ensures coder { ValidEncoder Word.number State.number Word.BITS State.BITS result.1 }
 {
     let (words, state, situation) = encoder.into_raw_parts();
     let (held, first) = match situation {
@@ -150,7 +150,7 @@ pub fn decoder_of<'a, Word: WordOf<State>, State: BitArray>(
     requires within { parts.pos ≤ length words.now }
     ensures read { IfSome result (λ decoder. IsRead State.number (map Word.number words.now) parts decoder) }
     ensures cursor { IfSome result (λ decoder. (decoder.bulk.pos ≡ parts.pos) × (decoder.bulk.buf.now ≡ words.now)) }
-    ensures variant { IsSome result ↔ IsDecoderKept State.number Word.BITS State.BITS parts }
+    ensures variant { IsSome result ↔ ValidDecoder State.number Word.BITS State.BITS parts }
 {
     let Ok(state) = RangeCoderState::<Word, State>::new(parts.lower, parts.range) else {
         return None;

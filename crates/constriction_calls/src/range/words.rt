@@ -3,8 +3,8 @@
 ghost use Rattle.std.specs.Prelude.{◌≡◌, ◌/◌, [], length};
 ghost use Rattle.constriction_base.specs.Steps.{IsSizes};
 ghost use Rattle.constriction_queue.specs.Range.{sealed};
-ghost use Rattle.constriction_calls.specs.RangeCalls.{IsEncoderKept, IsSealed, IsSelfSealed, RangeSealsBy};
-ghost use Rattle.constriction_calls.specs.RangeCalls.{run_kept};
+ghost use Rattle.constriction_calls.specs.RangeCalls.{ValidEncoder, IsSealed, IsSelfSealed, RangeSealsBy};
+ghost use Rattle.constriction_calls.specs.RangeCalls.{run_of_parts};
 
 use crate::range::parts::{EncoderParts, encoder_for};
 use constriction_inputs::buffers::append;
@@ -55,9 +55,9 @@ fn sealed_count<Word: WordOf<State>, State: BitArray>(
     parts: EncoderParts<Word, State>,
 ) -> usize
     requires sizes { IsSizes Word.BITS State.BITS }
-    requires kept { IsEncoderKept Word.number State.number Word.BITS State.BITS parts }
+    requires kept { ValidEncoder Word.number State.number Word.BITS State.BITS parts }
     ensures { result ≡ length (sealed Word.BITS State.BITS
-        (run_kept Word.number State.number Word.BITS State.BITS parts [])) }
+        (run_of_parts Word.number State.number Word.BITS State.BITS parts [])) }
 {
     let held = parts.held.min(1);
     let Some(encoder) = encoder_for(alloc, EncoderParts { held, ..parts }, 0) else {

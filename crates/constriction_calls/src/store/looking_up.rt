@@ -2,7 +2,7 @@
 
 ghost use Rattle.std.specs.Prelude.{◌≤◌, map};
 ghost use Rattle.constriction_base.specs.Steps.{IsSizes};
-ghost use Rattle.constriction_calls.specs.StoreCalls.{StoreGives};
+ghost use Rattle.constriction_calls.specs.StoreCalls.{StoreDecodesList};
 
 use crate::range::decoding::take_list;
 use constriction_inputs::models::{DecoderModels, Weights};
@@ -41,7 +41,7 @@ pub fn chunk<Word: WordOf<State>, State: BitArray, P: WordOf<Word>, const PRECIS
 ) -> Result<(), Refusal>
     requires sizes { IsSizes Word.BITS State.BITS }
     requires precision { (1 ≤ PRECISION) × (PRECISION ≤ P.BITS) }
-    ensures call { StoreGives State.number Word.BITS State.BITS PRECISION
+    ensures call { StoreDecodesList State.number Word.BITS State.BITS PRECISION
         (map P.number weights.now) (map Word.number words.now) pos lower range symbols.old symbols.new result }
 {
     if pos > words.len() {

@@ -2,7 +2,7 @@
 
 ghost use Rattle.std.specs.Prelude.{◌≡◌, ◌↔◌, IsTrue, drop, length, map};
 ghost use Rattle.constriction_base.specs.Iterators.{item_of_answer};
-ghost use Rattle.constriction_symbol.specs.Bits.{GivesBit, bits_of_words};
+ghost use Rattle.constriction_symbol.specs.Bits.{YieldsBit, bits_of_words};
 ghost use Rattle.constriction_calls.specs.SymbolBits.{IsBit};
 
 use constriction_base::backends::Queue;
@@ -81,7 +81,7 @@ impl<'a, Word: BitArray> CountedBits<'a, Word> {
     /// Removes the first bit and returns it, or returns `None` if no bit is left.
     #[inline]
     fn next_bit(&mut self) -> Result<Option<bool>, Infallible>
-        ensures { GivesBit self.old (item_of_answer result) self.new }
+        ensures { YieldsBit self.old (item_of_answer result) self.new }
     {
         match self.bits.read_bit() {
             Ok(Some(bit)) => {
@@ -97,9 +97,9 @@ impl<'a, Word: BitArray> CountedBits<'a, Word> {
 impl<'a, Word: BitArray> Iterator for CountedBits<'a, Word> {
     type Item = Result<bool, Infallible>;
 
-    ghost use Rattle.constriction_symbol.specs.Bits.{GivesBit};
+    ghost use Rattle.constriction_symbol.specs.Bits.{YieldsBit};
 
-    ghost next_gives = { λ old item new. GivesBit old item new };
+    ghost next_gives = { λ old item new. YieldsBit old item new };
 
     #[inline]
     fn next(&mut self) -> Option<Result<bool, Infallible>> {
@@ -118,7 +118,7 @@ impl<'a, Word: BitArray> ReadBitStream<Queue> for CountedBits<'a, Word> {
 
     ghost is_list = { Unit {0} };
 
-    ghost gives = { λ old item new. GivesBit old item new };
+    ghost gives = { λ old item new. YieldsBit old item new };
 
     #[inline]
     fn read_bit(&mut self) -> Result<Option<bool>, Infallible> {

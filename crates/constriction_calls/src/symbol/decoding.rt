@@ -1,9 +1,9 @@
 //! Decoding symbols from words with codebooks.
 
 ghost use Rattle.std.specs.Prelude.{◌≡◌, IfErr, OnErr, OnOk, length, map};
-ghost use Rattle.constriction_calls.specs.SymbolBits.{TakesAtBit, symbols_at};
-ghost use Rattle.constriction_calls.specs.SymbolCalls.{AreTakenOff, AsQueue, AsStack, IsToldAs, ReadsNone};
-ghost use Rattle.constriction_calls.specs.SymbolCalls.{TakesCodewords};
+ghost use Rattle.constriction_calls.specs.SymbolBits.{DecodesAtBit, symbols_at};
+ghost use Rattle.constriction_calls.specs.SymbolCalls.{BeginWithCodewords, AsQueue, AsStack, MapsError, SymbolReadFails};
+ghost use Rattle.constriction_calls.specs.SymbolCalls.{DecodesCodewords};
 
 use crate::symbol::Codes;
 use crate::symbol::counted::{CountedBits, is_bit};
@@ -29,7 +29,7 @@ pub fn decode_queue<Word: BitArray, C: Codes>(
     words: &[Word],
     symbols: &mut [C::Symbol],
 ) -> Result<(), Refusal>
-    ensures call { TakesCodewords C.number Word.BITS AsQueue (C.book codes.now)
+    ensures call { DecodesCodewords C.number Word.BITS AsQueue (C.book codes.now)
         (map Word.number words.now) symbols.old symbols.new result }
 {
     let codebook = codes.decoder(alloc)?;
@@ -56,7 +56,7 @@ pub fn decode_at<Word: BitArray, C: Codes>(
     bit: &mut usize,
     symbols: &mut [C::Symbol],
 ) -> Result<(), Refusal>
-    ensures call { TakesAtBit C.number Word.BITS (C.book codes.now) (map Word.number words.now)
+    ensures call { DecodesAtBit C.number Word.BITS (C.book codes.now) (map Word.number words.now)
         (symbols_at symbols.old bit.old) (symbols_at symbols.new bit.new) result }
 {
     if !is_bit(words, *bit) {
@@ -81,7 +81,7 @@ pub fn decode_stack<Word: BitArray, C: Codes>(
     words: &[Word],
     symbols: &mut [C::Symbol],
 ) -> Result<(), Refusal>
-    ensures call { TakesCodewords C.number Word.BITS AsStack (C.book codes.now)
+    ensures call { DecodesCodewords C.number Word.BITS AsStack (C.book codes.now)
         (map Word.number words.now) symbols.old symbols.new result }
 {
     let codebook = codes.decoder(alloc)?;
@@ -113,9 +113,9 @@ where
     C::InvalidCodeword: Drop,
     requires { R.is_list }
     ensures count { length symbols.new ≡ length symbols.old }
-    ensures ok { OnOk result (AreTakenOff (C.codeword codebook.now)
+    ensures ok { OnOk result (BeginWithCodewords (C.codeword codebook.now)
         symbols.new (R.unread stream.old) (R.unread stream.new)) }
-    ensures err { IfErr result (ReadsNone (C.codeword codebook.now) (C.reads_on codebook.now) (λ bits.
+    ensures err { IfErr result (SymbolReadFails (C.codeword codebook.now) (C.reads_on codebook.now) (λ bits.
         (e : C.InvalidCodeword) × C.is_invalid codebook.now bits e) (length symbols.old) (R.unread stream.old)) }
     ensures kept { OnErr result (symbols.new ≡ symbols.old) }
 {
@@ -137,7 +137,7 @@ where
 /// `OutOfCompressedData` becomes `OutOfData`, `InvalidCodeword` becomes `InvalidData`, and an error of the backend
 /// becomes `NoMemory`.
 fn told_as<V: Drop, E: Drop>(error: CoderError<SymbolCodeError<V>, E>) -> Refusal
-    ensures { IsToldAs error result }
+    ensures { MapsError error result }
 {
     match error {
         CoderError::Frontend(cause) => match cause {

@@ -5,8 +5,8 @@ ghost use Rattle.std.specs.Prelude.{IfErr, IfSome, OnErr, OnOk, OnSome};
 ghost use Rattle.constriction_symbol.specs.Bits.{IsQueueWords, bits_of_words};
 ghost use Rattle.constriction_symbol.specs.Lists.{AreCodewords};
 ghost use Rattle.constriction_inputs.specs.Buffers.{Appended};
-ghost use Rattle.constriction_calls.specs.SymbolBits.{AreWordsFrom, IsBit, PutsAtBit, words_at};
-ghost use Rattle.constriction_calls.specs.SymbolCalls.{AreSymbolWords, AsQueue, AsStack, MakesCode, PutsCodewords};
+ghost use Rattle.constriction_calls.specs.SymbolBits.{AreWordsFrom, IsBit, EncodesAtBit, words_at};
+ghost use Rattle.constriction_calls.specs.SymbolCalls.{AreSymbolWords, AsQueue, AsStack, MakesCode, EncodesCodewords};
 ghost use Rattle.constriction_calls.specs.SymbolCalls.{codeword_in, words_in};
 ghost use Rattle.constriction_inputs.specs.declared.refusal.Refusal.TheVariants as refusals;
 
@@ -38,7 +38,7 @@ pub fn encode_queue<Word: BitArray, C: Codes>(
     words: &mut [Word],
     len: &mut usize,
 ) -> Result<(), Refusal>
-    ensures call { PutsCodewords C.number Word.number Word.BITS AsQueue (C.book codes.now)
+    ensures call { EncodesCodewords C.number Word.number Word.BITS AsQueue (C.book codes.now)
         symbols.now (words_in words.old len.old) (words_in words.new len.new) result }
 {
     match queue_words(alloc, codes, QueueEncoder::new(alloc), symbols) {
@@ -64,7 +64,7 @@ pub fn encode_at<Word: BitArray, C: Codes>(
     words: &mut [Word],
     bit: &mut usize,
 ) -> Result<(), Refusal>
-    ensures call { PutsAtBit C.number Word.number Word.BITS (C.book codes.now) symbols.now
+    ensures call { EncodesAtBit C.number Word.number Word.BITS (C.book codes.now) symbols.now
         (words_at words.old bit.old) (words_at words.new bit.new) result }
 {
     if !is_bit(words, *bit) {
@@ -95,7 +95,7 @@ pub fn encode_stack<Word: BitArray, C: Codes>(
     words: &mut [Word],
     len: &mut usize,
 ) -> Result<(), Refusal>
-    ensures call { PutsCodewords C.number Word.number Word.BITS AsStack (C.book codes.now)
+    ensures call { EncodesCodewords C.number Word.number Word.BITS AsStack (C.book codes.now)
         symbols.now (words_in words.old len.old) (words_in words.new len.new) result }
 {
     match stack_words(alloc, codes, symbols) {

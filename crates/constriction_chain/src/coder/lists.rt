@@ -1,6 +1,6 @@
 //! Encoding lists of symbols from last to first, as methods of the coder, so that no trait has to be in scope.
 
-ghost use Rattle.constriction_stream.specs.CoderLists.{EncodesEachPair, EncodesSymbols, GivesAtMostLeft, LowersLeft, TriesPairs};
+ghost use Rattle.constriction_stream.specs.CoderLists.{EncodesEachPair, EncodesSymbols, YieldsUpToLeft, LowersLeft, TriesPairs};
 
 use crate::coder::ChainCoder;
 use crate::errors::EncoderError;
@@ -36,7 +36,7 @@ impl<
         S: Lent<M::Symbol> + Drop,
         I: IntoIterator<Item = (S, M)>,
         I::IntoIter: DoubleEndedIterator + Drop,
-        requires { GivesAtMostLeft ⟦<Self as Encode<PRECISION>>⟧ (I.into_iter_gives symbols_and_models)
+        requires { YieldsUpToLeft ⟦<Self as Encode<PRECISION>>⟧ (I.into_iter_gives symbols_and_models)
             I.IntoIter.can_next_back I.IntoIter.remaining self.old }
         ensures steps { EncodesEachPair ⟦<Self as Encode<PRECISION>>⟧ PRECISION M.table S.lent
             (I.into_iter_gives symbols_and_models) I.IntoIter.next_back_gives self.old result self.new }
@@ -65,7 +65,7 @@ impl<
         S: Lent<M::Symbol> + Drop,
         I: IntoIterator<Item = Result<(S, M), E>>,
         I::IntoIter: DoubleEndedIterator + Drop,
-        requires { GivesAtMostLeft ⟦<Self as Encode<PRECISION>>⟧ (I.into_iter_gives symbols_and_models)
+        requires { YieldsUpToLeft ⟦<Self as Encode<PRECISION>>⟧ (I.into_iter_gives symbols_and_models)
             I.IntoIter.can_next_back I.IntoIter.remaining self.old }
         ensures steps { TriesPairs ⟦<Self as Encode<PRECISION>>⟧ PRECISION M.table S.lent
             (I.into_iter_gives symbols_and_models) I.IntoIter.next_back_gives self.old result self.new }
@@ -102,7 +102,7 @@ impl<
         S: Lent<M::Symbol> + Drop,
         I: IntoIterator<Item = S>,
         I::IntoIter: DoubleEndedIterator + Drop,
-        requires { GivesAtMostLeft ⟦<Self as Encode<PRECISION>>⟧ (I.into_iter_gives symbols)
+        requires { YieldsUpToLeft ⟦<Self as Encode<PRECISION>>⟧ (I.into_iter_gives symbols)
             I.IntoIter.can_next_back I.IntoIter.remaining self.old }
         ensures steps { EncodesSymbols ⟦<Self as Encode<PRECISION>>⟧ PRECISION (M.table model) S.lent
             (I.into_iter_gives symbols) I.IntoIter.next_back_gives self.old result self.new }

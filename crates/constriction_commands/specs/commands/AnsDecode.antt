@@ -5,7 +5,7 @@ use Rattle.constriction_base.specs.Readings.{BeginsHigh}
 use Rattle.constriction_stack.specs.Ans.{AnsState, filled}
 use Rattle.constriction_stack.specs.Symbols.{DecodesAll}
 use Rattle.constriction_commands.specs.Lines.{line_of}
-use Rattle.constriction_commands.specs.Inputs.{GivesWords, NoWords}
+use Rattle.constriction_commands.specs.Inputs.{TextHasWords, NoWords}
 use Rattle.constriction_commands.specs.Coding.{of_24_bits, EndsWithZero}
 use Rattle.constriction_commands.specs.declared.fault.Fault.{Fault}
 use Rattle.constriction_commands.specs.declared.fault.Fault.TheVariants.{ZeroWord}
@@ -17,7 +17,7 @@ pub record IsAnsDecoded (text answer : List ℕ) : Type 0 where
   pub words : List ℕ
   pub symbols : List ℕ
   pub state : AnsState
-  pub given : GivesWords text table count words
+  pub given : TextHasWords text table count words
   pub high : BeginsHigh (reverse words)
   pub decoded : DecodesAll 32 64 (items_of (of_24_bits table) symbols) (filled 32 64 0 (reverse words)) state
   pub counted : length symbols ≡ count
@@ -25,5 +25,5 @@ pub record IsAnsDecoded (text answer : List ℕ) : Type 0 where
 
 -- The command fails: the text gives no table, count and words, or the last word is 0.
 abbrev pub AnsDecodeFails : List ℕ → Fault → Type 0
-AnsDecodeFails text (ZeroWord error) = (table : List (ℕ × ℕ × ℕ)) × (count : ℕ) × (words : List ℕ) × GivesWords text table count words × EndsWithZero words
+AnsDecodeFails text (ZeroWord error) = (table : List (ℕ × ℕ × ℕ)) × (count : ℕ) × (words : List ℕ) × TextHasWords text table count words × EndsWithZero words
 AnsDecodeFails text fault = NoWords text fault

@@ -7,7 +7,7 @@ use Rattle.constriction_chain.specs.Chain.{ChainState, IsChain, IsDecode}
 use Rattle.constriction_chain.specs.Walk.{NeedsWord}
 use Rattle.constriction_chain.specs.Words.{remainder_words}
 use Rattle.constriction_commands.specs.Lines.{line_of}
-use Rattle.constriction_commands.specs.Inputs.{GivesWords, NoWords}
+use Rattle.constriction_commands.specs.Inputs.{TextHasWords, NoWords}
 use Rattle.constriction_commands.specs.Coding.{EndsWithZero}
 use Rattle.constriction_commands.specs.declared.fault.Fault.{Fault}
 use Rattle.constriction_commands.specs.declared.fault.Fault.TheVariants.{NoChain, OutOfData, OutOfMemory}
@@ -38,7 +38,7 @@ pub record IsChainSplit (text answer : List ℕ) : Type 0 where
   pub last : ChainState
   pub prefix : List ℕ
   pub suffix : List ℕ
-  pub given : GivesWords text table count words
+  pub given : TextHasWords text table count words
   pub begun : IsChainOf words first
   pub decoded : ChainDecodes table symbols first last
   pub counted : length symbols ≡ count
@@ -55,8 +55,8 @@ ChainFails table count first fault = ⊥
 
 -- The command fails: the text gives no table, count and words, the words stand for no coder, or the words run out.
 abbrev pub ChainSplitFails : List ℕ → Fault → Type 0
-ChainSplitFails text NoChain = (table : List (ℕ × ℕ × ℕ)) × (count : ℕ) × (words : List ℕ) × GivesWords text table count words × IsNoChain words
+ChainSplitFails text NoChain = (table : List (ℕ × ℕ × ℕ)) × (count : ℕ) × (words : List ℕ) × TextHasWords text table count words × IsNoChain words
 ChainSplitFails text (OutOfData error) =
-    (table : List (ℕ × ℕ × ℕ)) × (count : ℕ) × (words : List ℕ) × (first : ChainState) × GivesWords text table count words × IsChainOf words first
+    (table : List (ℕ × ℕ × ℕ)) × (count : ℕ) × (words : List ℕ) × (first : ChainState) × TextHasWords text table count words × IsChainOf words first
     × ChainFails table count first (OutOfData error)
 ChainSplitFails text fault = NoWords text fault

@@ -8,7 +8,7 @@ use Rattle.constriction_queue.specs.SelfDelimiting.{SelfDelimits}
 use Rattle.constriction_queue.specs.Symbols.{NarrowsAll}
 use Rattle.constriction_store.specs.Chunks.{chunk_in, count_of}
 use Rattle.constriction_commands.specs.Coding.{of_24_bits}
-use Rattle.constriction_commands.specs.Inputs.{GivesChunks, NoChunks}
+use Rattle.constriction_commands.specs.Inputs.{TextHasChunks, NoChunks}
 use Rattle.constriction_commands.specs.Lines.{line_of}
 use Rattle.constriction_commands.specs.declared.fault.Fault.{Fault}
 use Rattle.constriction_commands.specs.declared.fault.Fault.TheVariants.{TooManySymbols, Encoder, NoSuchChunk, OutOfMemory}
@@ -42,7 +42,7 @@ pub record IsStored (text answer : List ℕ) : Type 0 where
   pub places : List ℕ
   pub chunks : List (List ℕ)
   pub words : List ℕ
-  pub given : GivesChunks text table places chunks
+  pub given : TextHasChunks text table places chunks
   pub stored : AreWordsOf table chunks words
   pub there : AreThere chunks places
   pub printed : answer ≡ line_of words ++ lines_at chunks places
@@ -61,15 +61,15 @@ LookingUpFails count places OutOfMemory = ⊤
 LookingUpFails count places fault = ⊥
 
 -- The text gives chunks, and storing them fails with this fault.
-abbrev pub GivesRefused : List ℕ → Fault → Type 0
-GivesRefused text fault =
-    (table : List (ℕ × ℕ × ℕ)) × (places : List ℕ) × (chunks : List (List ℕ)) × GivesChunks text table places chunks × StoringFails table chunks fault
+abbrev pub TextIsRefused : List ℕ → Fault → Type 0
+TextIsRefused text fault =
+    (table : List (ℕ × ℕ × ℕ)) × (places : List ℕ) × (chunks : List (List ℕ)) × TextHasChunks text table places chunks × StoringFails table chunks fault
 
 -- The command fails: the text gives no chunks, storing the chunks fails, or an index is past the last chunk.
 abbrev pub StoreFails : List ℕ → Fault → Type 0
-StoreFails text TooManySymbols = GivesRefused text TooManySymbols
-StoreFails text (Encoder error) = GivesRefused text (Encoder error)
+StoreFails text TooManySymbols = TextIsRefused text TooManySymbols
+StoreFails text (Encoder error) = TextIsRefused text (Encoder error)
 StoreFails text NoSuchChunk =
-    (table : List (ℕ × ℕ × ℕ)) × (places : List ℕ) × (chunks : List (List ℕ)) × (words : List ℕ) × GivesChunks text table places chunks × AreWordsOf table chunks words
+    (table : List (ℕ × ℕ × ℕ)) × (places : List ℕ) × (chunks : List (List ℕ)) × (words : List ℕ) × TextHasChunks text table places chunks × AreWordsOf table chunks words
     × LookingUpFails (length chunks) places NoSuchChunk
 StoreFails text fault = NoChunks text fault

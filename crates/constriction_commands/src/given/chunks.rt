@@ -2,7 +2,7 @@
 
 ghost use Rattle.std.specs.Prelude.{IfOk, IfErr};
 ghost use Rattle.constriction_store.specs.Chunks.{lists_of};
-ghost use Rattle.constriction_commands.specs.Inputs.{GivesChunks, NoChunks};
+ghost use Rattle.constriction_commands.specs.Inputs.{TextHasChunks, NoChunks};
 
 use crate::fault::Fault;
 use crate::input::{parse_lines, parse_numbers, split_line};
@@ -23,7 +23,7 @@ pub type Given = (Table, Vec<usize>, Vec<Vec<usize>>);
 /// - `NoWeights` if there is no weight.
 /// - `WrongTotal` if the weights don't add up to `2^24`.
 pub fn table_and_chunks(alloc: Global, text: &[u8]) -> Result<Given, Fault>
-    ensures ok { IfOk result (λ given. GivesChunks text.now (⟦<Table as EntropyModel<PRECISION>>⟧.table given.0)
+    ensures ok { IfOk result (λ given. TextHasChunks text.now (⟦<Table as EntropyModel<PRECISION>>⟧.table given.0)
         given.1.items (lists_of given.2.items)) }
     ensures err { IfErr result (NoChunks text.now) }
 {

@@ -1,7 +1,7 @@
 //! Parses the input of the commands that encode symbols: weights, and symbols.
 
 ghost use Rattle.std.specs.Prelude.{IfOk, IfErr};
-ghost use Rattle.constriction_commands.specs.Inputs.{GivesSymbols, NoSymbols};
+ghost use Rattle.constriction_commands.specs.Inputs.{TextHasSymbols, NoSymbols};
 
 use crate::fault::Fault;
 use crate::given::two_lines;
@@ -21,7 +21,7 @@ use std::alloc::Global;
 /// - `WrongTotal` if the weights don't add up to `2^24`.
 pub fn table_and_symbols(alloc: Global, text: &[u8]) -> Result<(Table, Vec<usize>), Fault>
     ensures ok { IfOk result
-        (λ given. GivesSymbols text.now (⟦<Table as EntropyModel<PRECISION>>⟧.table given.0) given.1.items) }
+        (λ given. TextHasSymbols text.now (⟦<Table as EntropyModel<PRECISION>>⟧.table given.0) given.1.items) }
     ensures err { IfErr result (NoSymbols text.now) }
 {
     let (first, second) = two_lines(text);

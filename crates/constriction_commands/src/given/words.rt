@@ -1,7 +1,7 @@
 //! Parses the input of the commands that decode words: weights, the number of symbols, and the words.
 
 ghost use Rattle.std.specs.Prelude.{◌≡◌, ◌⊎◌, ◌<◌, ◌≤◌, ℕ, List, ◌∷◌, [], IfOk, IfErr};
-ghost use Rattle.constriction_commands.specs.Inputs.{GivesWords, NoWords, most};
+ghost use Rattle.constriction_commands.specs.Inputs.{TextHasWords, NoWords, most};
 ghost use Rattle.constriction_commands.specs.declared.fault.Fault.TheVariants.{BadNumber, NoCount};
 
 use crate::fault::Fault;
@@ -51,7 +51,7 @@ fn take_count(numbers: &mut Vec<u32>) -> Result<u32, Fault>
 /// - `WrongTotal` if the weights don't add up to `2^24`.
 pub fn table_and_words(alloc: Global, text: &[u8]) -> Result<(Table, u32, Vec<u32>), Fault>
     ensures ok { IfOk result
-        (λ given. GivesWords text.now (⟦<Table as EntropyModel<PRECISION>>⟧.table given.0) given.1 given.2.items) }
+        (λ given. TextHasWords text.now (⟦<Table as EntropyModel<PRECISION>>⟧.table given.0) given.1 given.2.items) }
     ensures err { IfErr result (NoWords text.now) }
 {
     let (first, second) = two_lines(text);

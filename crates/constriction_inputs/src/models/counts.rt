@@ -2,7 +2,7 @@
 
 ghost use Rattle.std.specs.Prelude.{◌≡◌, ◌↔◌, ◌+◌, ◌*◌, ◌<◌, ◌≤◌, length, map, IfOk, IsTrue};
 ghost use Rattle.constriction_inputs.specs.Counts.{AreCountRows, IsCountPrecision, by_counts, count_tables};
-ghost use Rattle.constriction_inputs.specs.Mixtures.{row_of_place};
+ghost use Rattle.constriction_inputs.specs.Mixtures.{row_at_index};
 ghost use Rattle.constriction_models.specs.Categorical.{MakeCategorical, categorical};
 
 use crate::models::families::are_below;
@@ -136,9 +136,9 @@ fn model_at<'a, P: WordOf<u32>, const PRECISION: usize>(
     requires precision { 1 ≤ PRECISION }
     requires sizes { IsCountPrecision P.BITS PRECISION }
     requires within { width * place + width ≤ length counts.now }
-    requires counts { MakeCategorical PRECISION (row_of_place width place counts.now) }
+    requires counts { MakeCategorical PRECISION (row_at_index width place counts.now) }
     ensures { ⟦<CategoricalCounts<'a, P, PRECISION> as EntropyModel<PRECISION>>⟧.table result
-        ≡ categorical PRECISION (row_of_place width place counts.now) }
+        ≡ categorical PRECISION (row_at_index width place counts.now) }
 {
     let start = width * place;
     let end = start + width;

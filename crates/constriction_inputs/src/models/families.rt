@@ -5,10 +5,10 @@ ghost use Rattle.std.specs.Prelude.{IfOk, IsSome, IsTrue};
 ghost use Rattle.std.specs.List.{AllByRecursion};
 ghost use Rattle.constriction_models.specs.Quantized.{indexed};
 ghost use Rattle.constriction_models.specs.Quantizers.{symbol_count, first_symbol};
-ghost use Rattle.constriction_inputs.specs.Quantized.{ArePlacesInRange, IsRange, below_by, by_family};
+ghost use Rattle.constriction_inputs.specs.Quantized.{AreIndicesInRange, IsRange, below_by, by_family};
 ghost use Rattle.constriction_inputs.specs.Quantized.{family_arguments, family_of, symbols_in, tables_by};
 ghost use Rattle.constriction_inputs.specs.QuantizedCalls.{AsksFamily};
-ghost use Rattle.constriction_inputs.specs.Refusals.{Asks, Else, Never};
+ghost use Rattle.constriction_inputs.specs.Refusals.{Asks, Otherwise, NoRefusal};
 ghost use Rattle.constriction_inputs.specs.declared.refusal.Refusal.TheVariants as refusals;
 
 use crate::models::{DecoderModelList, DecoderModels, ModelList, Models, entry_of};
@@ -275,7 +275,7 @@ impl<'a> Families<'a> {
         ensures first { IfOk result (λ made. first_symbol made.1 ≡ self.now.min) }
         ensures count { IfOk result (λ made. symbol_count made.1 ≡ symbols_in self.now.min self.now.max) }
         ensures asks { Asks refusals.WrongInterval (IsRange PRECISION self.now.min self.now.max)
-            (Asks refusals.WrongWeights (IsSome (family_of self.now.family)) (Else Never)) result }
+            (Asks refusals.WrongWeights (IsSome (family_of self.now.family)) (Otherwise NoRefusal)) result }
     {
         let Ok(quantizer) = LeakyQuantizer::<P, PRECISION>::new(self.min, self.max) else {
             return Err(Refusal::WrongInterval);
@@ -290,7 +290,7 @@ impl<'a> Families<'a> {
 /// Returns whether the number of each symbol is an index into the range from `min` to `max`.
 pub(crate) fn are_places<'a, S: Symbol>(given: &Families<'a>, symbols: &[S]) -> bool
     requires { given.now.min <ℤ given.now.max }
-    ensures { IsTrue result ↔ ArePlacesInRange given.now.min given.now.max (S.numbers symbols.now) }
+    ensures { IsTrue result ↔ AreIndicesInRange given.now.min given.now.max (S.numbers symbols.now) }
 {
     let count = count_of(given);
     are_below::<S>(symbols, count)

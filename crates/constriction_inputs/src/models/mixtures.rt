@@ -7,7 +7,7 @@ ghost use Rattle.std.specs.Prelude.{◌≡◌, ℕ, ◌*◌, ◌<◌, ◌≤◌,
 ghost use Rattle.constriction_models.specs.Mixtures.{weighted};
 ghost use Rattle.constriction_models.specs.Quantizers.{symbol_count, first_symbol};
 ghost use Rattle.constriction_inputs.specs.Mixtures.{AreMixable, by_mixture, components_of, mixture_tables, or_lone};
-ghost use Rattle.constriction_inputs.specs.Mixtures.{row_of_place};
+ghost use Rattle.constriction_inputs.specs.Mixtures.{row_at_index};
 ghost use Rattle.constriction_inputs.specs.Quantized.{family_of, symbols_in};
 
 use crate::models::families::are_places;
@@ -170,9 +170,9 @@ pub struct MixtureList<'a, P: WordOf<u32>, const PRECISION: usize> {
     ghost room: { 0 < count → mixtures.width ≤ vec_capacity mixed.components },
     ghost filled: { place < count →
         weighted ⟦<FamilyDistribution as CumulativeDistribution>⟧.below (or_lone mixed.components.items mixed.lone)
-        ≡ components_of (Some family) (row_of_place mixtures.width place mixtures.weights.now)
-        (row_of_place mixtures.width place mixtures.components.locations.now)
-        (row_of_place mixtures.width place mixtures.components.scales.now) },
+        ≡ components_of (Some family) (row_at_index mixtures.width place mixtures.weights.now)
+        (row_at_index mixtures.width place mixtures.components.locations.now)
+        (row_at_index mixtures.width place mixtures.components.scales.now) },
 }
 
 impl<'a, P: WordOf<u32>, const PRECISION: usize> ModelList<P, PRECISION>

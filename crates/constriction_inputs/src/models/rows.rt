@@ -1,7 +1,7 @@
 //! `Rows`: a row of weights for each symbol.
 
 ghost use Rattle.std.specs.Prelude.{◌≡◌, ◌+◌, ◌*◌, ◌<◌, ◌≤◌, ℕ, length, map};
-ghost use Rattle.constriction_inputs.specs.Mixtures.{row_of_place};
+ghost use Rattle.constriction_inputs.specs.Mixtures.{row_at_index};
 ghost use Rattle.constriction_inputs.specs.Rows.{by_rows, row_tables};
 ghost use Rattle.constriction_inputs.specs.Weights.{IsTotal};
 
@@ -92,7 +92,7 @@ pub struct RowList<'a, P: BitArray, const PRECISION: usize> {
     ghost positive: { 1 ≤ PRECISION },
     ghost fits: { PRECISION ≤ P.BITS },
     ghost counted: { length weights.now ≡ width * count },
-    ghost totals: { (k : ℕ) → k < count → IsTotal PRECISION (row_of_place width k (map P.number weights.now)) },
+    ghost totals: { (k : ℕ) → k < count → IsTotal PRECISION (row_at_index width k (map P.number weights.now)) },
 }
 
 impl<'a, P: BitArray, const PRECISION: usize> ModelList<P, PRECISION>
@@ -126,8 +126,8 @@ fn row_at<'a, P: BitArray, const PRECISION: usize>(
 ) -> Row<'a, P, PRECISION>
     requires sizes { (1 ≤ PRECISION) × (PRECISION ≤ P.BITS) }
     requires within { width * place + width ≤ length weights.now }
-    requires total { IsTotal PRECISION (row_of_place width place (map P.number weights.now)) }
-    ensures { map P.number result.weights.now ≡ row_of_place width place (map P.number weights.now) }
+    requires total { IsTotal PRECISION (row_at_index width place (map P.number weights.now)) }
+    ensures { map P.number result.weights.now ≡ row_at_index width place (map P.number weights.now) }
 {
     let start = width * place;
     let end = start + width;

@@ -1,7 +1,7 @@
 //! Writes weights in proportion to counts into a caller's buffer.
 
 ghost use Rattle.std.specs.Prelude.{◌≡◌, ◌<◌, ◌≤◌, ◌^◌, ℕ, length, map, slice_index};
-ghost use Rattle.constriction_inputs.specs.QuantizedCalls.{GivesWeightsOfCounts};
+ghost use Rattle.constriction_inputs.specs.QuantizedCalls.{WritesWeightsOfCounts};
 
 use crate::refusal::Refusal;
 use constriction_models::counts::{CountsError, weights_of_counts};
@@ -26,7 +26,7 @@ pub fn put_weights_of_counts<P: WordOf<u32>, const PRECISION: usize>(
     weights: &mut [P],
 ) -> Result<(), Refusal>
     requires { (PRECISION < P.BITS) × (PRECISION ≤ 31) }
-    ensures call { GivesWeightsOfCounts PRECISION counts.now (map P.number weights.old)
+    ensures call { WritesWeightsOfCounts PRECISION counts.now (map P.number weights.old)
         (map P.number weights.new) result }
 {
     if weights.len() != counts.len() {

@@ -9,7 +9,7 @@ ghost use Rattle.std.specs.List.{AllByRecursion};
 ghost use Rattle.constriction_base.specs.Models.{pairs_of};
 ghost use Rattle.constriction_models.specs.Quantizers.{symbol_count, first_symbol};
 ghost use Rattle.constriction_inputs.specs.Quantized.{AreIntervalsOf, family_arguments, tables_by};
-ghost use Rattle.constriction_inputs.specs.QuantizedCalls.{GivesIntervals, intervals_in};
+ghost use Rattle.constriction_inputs.specs.QuantizedCalls.{WritesIntervals, intervals_in};
 
 use crate::models::{Families, Models};
 use crate::refusal::Refusal;
@@ -38,7 +38,7 @@ pub fn intervals_of_quantized<P: WordOf<u32>, const PRECISION: usize>(
     ps: &mut [P],
 ) -> Result<(), Refusal>
     requires { (1 ≤ PRECISION) × (PRECISION ≤ P.BITS) }
-    ensures call { GivesIntervals P.number PRECISION
+    ensures call { WritesIntervals P.number PRECISION
         (family_arguments families.now) symbols.now
         (intervals_in lefts.old ps.old) (intervals_in lefts.new ps.new) result }
 {

@@ -9,7 +9,7 @@ use Rattle.constriction_base.specs.Steps.{AreWords}
 use Rattle.constriction_base.proofs.Entries.{one_of}
 use Rattle.constriction_chain.specs.Chain.{ChainState, IsChain, IsDecode, IsSized, least}
 use Rattle.constriction_chain.specs.Imports.{AreBinaryWords, FromBinary, FromCompressed, FromRemainders, IsWhole, compressed_words}
-use Rattle.constriction_chain.specs.Symbols.{AreModelsAt, TakesOff, TakesOffAll, PutsBack, PutsBackAll, IsModelAt}
+use Rattle.constriction_chain.specs.Symbols.{AreModelsAt, ChainDecodesOne, ChainDecodesAll, ChainEncodesOne, ChainEncodesAll, IsModelAt}
 use Rattle.constriction_base.specs.Writing.{IsOneAbove}
 use Rattle.constriction_chain.specs.Words.{remainder_words}
 use Rattle.constriction_chain.proofs.Below.{decodes_part, one_window}
@@ -40,41 +40,41 @@ one_remainders w s P words x y some i j =
 module _ {S : Type 0} (w s P : ℕ) where
   -- ---- there is one list of encodes
   encode_unique : (model : Model S) (symbol : S) (old new other : ChainState) → IsModelAt P model
-      → PutsBack w s model symbol old new → PutsBack w s model symbol old other → new ≡ other
+      → ChainEncodesOne w s model symbol old new → ChainEncodesOne w s model symbol old other → new ≡ other
   encode_unique model symbol old new other at (l, p, has, i) (m, r, has', j) =
       let one = one_of model.table symbol l m p r at.lawful.distinct has has' in
       let back : IsDecode w s (record { precision = model.precision; left = l; p = p }) other old = rw (one.0, one.1) j.back in
       sym (i.only other j.chain back)
 
   pub encodes_unique : (items : List (Item S)) (old new other : ChainState) → AreModelsAt P items
-      → PutsBackAll w s items old new → PutsBackAll w s items old other → new ≡ other
+      → ChainEncodesAll w s items old new → ChainEncodesAll w s items old other → new ≡ other
   encodes_unique [] old new other at i j = i ∙ sym j
   encodes_unique (item ∷ items) old new other at i j =
       let same = encode_unique item.model item.symbol old i.0 j.0 at.0 i.1 j.1 in
-      encodes_unique items j.0 new other at.1 (subst (λ (x : ChainState). PutsBackAll w s items x new) same i.2) j.2
+      encodes_unique items j.0 new other at.1 (subst (λ (x : ChainState). ChainEncodesAll w s items x new) same i.2) j.2
 
   pub turned_at : (items : List (Item S)) → AreModelsAt P items → AreModelsAt P (reverse items)
   turned_at items at = all-reverse (λ item. IsModelAt P item.model) items at
 
   module _ (sized : IsSized w s P) where
     -- ---- encodes undo decodes
-    pub undone : (items : List (Item S)) (old new : ChainState) → AreModelsAt P items → IsChain w s P old → TakesOffAll w s items old new
-        → PutsBackAll w s (reverse items) new old × IsChain w s P new
+    pub undone : (items : List (Item S)) (old new : ChainState) → AreModelsAt P items → IsChain w s P old → ChainDecodesAll w s items old new
+        → ChainEncodesAll w s (reverse items) new old × IsChain w s P new
     undone items old new at chain decoded =
-        all_undone (λ item. IsModelAt P item.model) (λ x. IsChain w s P x) (λ item. TakesOff w s item.model item.symbol) (λ item. PutsBack w s item.model item.symbol)
+        all_undone (λ item. IsModelAt P item.model) (λ x. IsChain w s P x) (λ item. ChainDecodesOne w s item.model item.symbol) (λ item. ChainEncodesOne w s item.model item.symbol)
         (λ item x y a v d. (encode_back w s P item.model item.symbol x y sized a v d, decoded_at w s P item.model item.symbol x y sized a v d)) items old new at chain decoded
 
     -- the same over the words that were taken alone, and with other words below the remainders
-    pub other_way : (below : List ℕ) (items : List (Item S)) (x y : ChainState) → AreModelsAt P items → AreWords w below → IsWhole w s P x → TakesOffAll w s items x y
+    pub other_way : (below : List ℕ) (items : List (Item S)) (x y : ChainState) → AreModelsAt P items → AreWords w below → IsWhole w s P x → ChainDecodesAll w s items x y
         → (t : List ℕ) × (x.compressed ≡ t ++ y.compressed) × IsChain w s P (state y.h y.r [] (y.remainders ++ below))
-        × PutsBackAll w s (reverse items) (state y.h y.r [] (y.remainders ++ below)) (state x.h x.r t below)
+        × ChainEncodesAll w s (reverse items) (state y.h y.r [] (y.remainders ++ below)) (state x.h x.r t below)
     other_way below items x y at fit whole decoded =
         let part = decodes_part w s items x y decoded in
         let t = part.0 in
         let end : ChainState = state y.h y.r [] (y.remainders ++ below) in
-        let over : TakesOffAll w s items (state x.h x.r t below) end =
-        subst (λ (rs : List ℕ). TakesOffAll w s items (state x.h x.r t (rs ++ below)) end) whole.remainders
-        (subst (λ (ts : List ℕ). TakesOffAll w s items (state x.h x.r ts (x.remainders ++ below)) end) (append-nil t) (part.2 [] below)) in
+        let over : ChainDecodesAll w s items (state x.h x.r t below) end =
+        subst (λ (rs : List ℕ). ChainDecodesAll w s items (state x.h x.r t (rs ++ below)) end) whole.remainders
+        (subst (λ (ts : List ℕ). ChainDecodesAll w s items (state x.h x.r ts (x.remainders ++ below)) end) (append-nil t) (part.2 [] below)) in
         let chain : IsChain w s P (state x.h x.r t below) = record {
           some = whole.chain.some;
           within_word = whole.chain.within_word;
@@ -86,8 +86,8 @@ module _ {S : Type 0} (w s P : ℕ) where
         (t, part.1, back.1, back.0)
 
     -- ---- words
-    pub can_encode : (below : List ℕ) (items : List (Item S)) (x y : ChainState) → AreModelsAt P items → AreWords w below → IsWhole w s P x → TakesOffAll w s items x y
-        → (z last : ChainState) × FromRemainders w s P (remainder_words w y ++ below) z × PutsBackAll w s (reverse items) z last
+    pub can_encode : (below : List ℕ) (items : List (Item S)) (x y : ChainState) → AreModelsAt P items → AreWords w below → IsWhole w s P x → ChainDecodesAll w s items x y
+        → (z last : ChainState) × FromRemainders w s P (remainder_words w y ++ below) z × ChainEncodesAll w s (reverse items) z last
     can_encode below items x y at fit whole decoded =
         let way = other_way below items x y at fit whole decoded in (
           state y.h y.r [] (y.remainders ++ below),
@@ -96,8 +96,8 @@ module _ {S : Type 0} (w s P : ℕ) where
           way.3,
         )
 
-    pub come_back : (below : List ℕ) (items : List (Item S)) (x y z last : ChainState) → AreModelsAt P items → IsWhole w s P x → TakesOffAll w s items x y
-        → FromRemainders w s P (remainder_words w y ++ below) z → PutsBackAll w s (reverse items) z last
+    pub come_back : (below : List ℕ) (items : List (Item S)) (x y z last : ChainState) → AreModelsAt P items → IsWhole w s P x → ChainDecodesAll w s items x y
+        → FromRemainders w s P (remainder_words w y ++ below) z → ChainEncodesAll w s (reverse items) z last
         → (last.h ≡ 1) × (last.r ≡ x.r) × (last.remainders ≡ below) × (x.compressed ≡ last.compressed ++ y.compressed)
     come_back below items x y z last at whole decoded from encoded =
         let chain = (undone items x y at whole.chain decoded).1 in
@@ -107,7 +107,7 @@ module _ {S : Type 0} (w s P : ℕ) where
         let fit = words_behind w y.remainders below (subst (λ (ws : List ℕ). AreWords w ws) (sym rest.1) from.chain.remainders_fit) in
         let way = other_way below items x y at fit whole decoded in
         let same : z ≡ state y.h y.r [] (y.remainders ++ below) = state_same z (state y.h y.r [] (y.remainders ++ below)) (sym first.0) (sym rest.0) from.compressed (sym rest.1) in
-        let put = subst (λ (o : ChainState). PutsBackAll w s (reverse items) o last) same encoded in
+        let put = subst (λ (o : ChainState). ChainEncodesAll w s (reverse items) o last) same encoded in
         let end : last ≡ state x.h x.r way.0 below =
         encodes_unique (reverse items) (state y.h y.r [] (y.remainders ++ below)) last (state x.h x.r way.0 below) (turned_at items at) put way.3 in (
           ap (λ (o : ChainState). o.h) end ∙ whole.h,
@@ -116,8 +116,8 @@ module _ {S : Type 0} (w s P : ℕ) where
           way.1 ∙ ap (λ (ws : List ℕ). ws ++ y.compressed) (sym (ap (λ (o : ChainState). o.compressed) end)),
         )
 
-    pub compressed_back : (words below : List ℕ) (items : List (Item S)) (x y z last : ChainState) → AreModelsAt P items → FromCompressed w s P words x → TakesOffAll w s items x y
-        → FromRemainders w s P (remainder_words w y ++ below) z → PutsBackAll w s (reverse items) z last
+    pub compressed_back : (words below : List ℕ) (items : List (Item S)) (x y z last : ChainState) → AreModelsAt P items → FromCompressed w s P words x → ChainDecodesAll w s items x y
+        → FromRemainders w s P (remainder_words w y ++ below) z → ChainEncodesAll w s (reverse items) z last
         → (last.h ≡ 1) × (last.remainders ≡ below) × (words ≡ compressed_words w last ++ y.compressed)
     compressed_back words below items x y z last at (whole, are) decoded from encoded =
         let back = come_back below items x y z last at whole decoded from encoded in (
@@ -127,8 +127,8 @@ module _ {S : Type 0} (w s P : ℕ) where
               ∙ sym (append_assoc (digits_of (2 ^ w) last.r) last.compressed y.compressed))),
         )
 
-    pub binary_back : (words below : List ℕ) (items : List (Item S)) (x y z last : ChainState) → AreModelsAt P items → FromBinary w s P words x → TakesOffAll w s items x y
-        → FromRemainders w s P (remainder_words w y ++ below) z → PutsBackAll w s (reverse items) z last
+    pub binary_back : (words below : List ℕ) (items : List (Item S)) (x y z last : ChainState) → AreModelsAt P items → FromBinary w s P words x → ChainDecodesAll w s items x y
+        → FromRemainders w s P (remainder_words w y ++ below) z → ChainEncodesAll w s (reverse items) z last
         → (last.h ≡ 1) × (last.remainders ≡ below) × ((written : List ℕ) × AreBinaryWords w written last × (words ≡ written ++ y.compressed))
     binary_back words below items x y z last at (whole, (m, one, are)) decoded from encoded =
         let back = come_back below items x y z last at whole decoded from encoded in

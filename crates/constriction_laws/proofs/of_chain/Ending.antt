@@ -11,7 +11,7 @@ use Rattle.constriction_stream.specs.Lists.{StepsAll}
 use Rattle.constriction_stream.specs.Symbols.{EncodesSymbol}
 use Rattle.constriction_chain.specs.Chain.{ChainState, ChainValue}
 use Rattle.constriction_chain.specs.Steps.{DecodeCall, EncodeCall, Halted}
-use Rattle.constriction_chain.specs.Symbols.{PutsBackAll, TakesOffAll}
+use Rattle.constriction_chain.specs.Symbols.{ChainEncodesAll, ChainDecodesAll}
 use Rattle.constriction_chain.specs.Walk.{NeedsWord}
 use Rattle.constriction_chain.specs.declared.errors.BackendError.{BackendError}
 use Rattle.constriction_chain.specs.declared.errors.DecoderFrontendError.{DecoderFrontendError}
@@ -27,12 +27,12 @@ module _ {S W C R O E F : Type 0} (number : W → ℕ) (compressed_holds : holdi
     (remainders_holds : holding.Ghosts R W O) (remainders_writes : writing.Ghosts R W F) (w s : ℕ) where
   -- after a refusal of the coder itself the words have ended, and the state is that before it
   ended : (P : ℕ) (items : List S → List (Item S)) (given : List S) (taken : ℕ) (x : DecoderFrontendError) (old : ChainState) (mid new : ChainValue C R) → compressed_holds.is_list
-      → length given ≡ taken → TakesOffAll w s (items given) old mid.state
+      → length given ≡ taken → ChainDecodesAll w s (items given) old mid.state
       → Halted number compressed_holds compressed_reads remainders_holds remainders_writes w s P mid (Frontend x) new → Ended w s P items taken old new.state
   ended P items given taken x old mid new known count all halted = record {
     given = given;
     count = count;
-    taken_off = subst (λ (z : ChainState). TakesOffAll w s (items given) old z) (sym (halted.stays.all known)) all;
+    taken_off = subst (λ (z : ChainState). ChainDecodesAll w s (items given) old z) (sym (halted.stays.all known)) all;
     needs = subst (λ h. NeedsWord w P h) (sym halted.stays.h) halted.why.0;
     none = halted.after.compressed_are ∙ ap (λ (ws : List W). map number ws) (halted.why.1.1 known).1;
   }
@@ -80,7 +80,7 @@ module _ {S W C R O E F : Type 0} (number : W → ℕ) (compressed_holds : holdi
         after,
         item (lent x),
         is,
-        subst (λ (c : ChainValue C R). PutsBackAll w s (map item (map lent xs)) old.state c.state) (sym why.1) coded,
+        subst (λ (c : ChainValue C R). ChainEncodesAll w s (map item (map lent xs)) old.state c.state) (sym why.1) coded,
         why.0,
       )
   not_encoded lent item xs x items after old mid new (Frontend OutOfRemainders) known is all refused =
@@ -90,7 +90,7 @@ module _ {S W C R O E F : Type 0} (number : W → ℕ) (compressed_holds : holdi
         after,
         item (lent x),
         is,
-        subst (λ (c : ChainState). PutsBackAll w s (map item (map lent xs)) old.state c) (sym why.1) coded,
+        subst (λ (c : ChainState). ChainEncodesAll w s (map item (map lent xs)) old.state c) (sym why.1) coded,
         why.0,
       )
 

@@ -6,7 +6,7 @@ use Rattle.constriction_base.specs.declared.backends.reading.Holds as holding
 use Rattle.constriction_base.specs.Steps.{AreWords}
 use Rattle.constriction_queue.specs.declared.situation.EncoderSituation.{EncoderSituation}
 use Rattle.constriction_queue.specs.declared.situation.EncoderSituation.TheVariants.{Normal, Inverted}
-use Rattle.constriction_queue.specs.Encoder.{Encoder, IsEncoder, PartsFit, held_of, number_of, run_by, words_held}
+use Rattle.constriction_queue.specs.Encoder.{Encoder, IsEncoder, PartsFit, pending_of, number_of, run_by, repeated_words}
 use Rattle.constriction_queue.specs.Range.{IsInterval}
 use Rattle.constriction_queue.proofs.Below.{number_below}
 use Rattle.constriction_queue.proofs.Carry.{carry_held, length-held}
@@ -15,8 +15,8 @@ use Rattle.constriction_queue.proofs.Seals.{words_held_fit, words_of_numbers}
 -- the interval lies below the next number of as many words; where words are held, below the one that a carry makes
 inside_by : {Word : Type 0} (number : Word → ℕ) (w s lower range : ℕ) (situation : EncoderSituation Word) (ws : List ℕ)
     → AreWords w ws → PartsFit number w s situation lower range → lower < 2 ^ s → range < 2 ^ s
-    → number_of (2 ^ w) (held_of number w situation ++ ws) * 2 ^ s + lower + range
-    < 2 ^ s * (2 ^ w) ^ length (held_of number w situation ++ ws)
+    → number_of (2 ^ w) (pending_of number w situation ++ ws) * 2 ^ s + lower + range
+    < 2 ^ s * (2 ^ w) ^ length (pending_of number w situation ++ ws)
 inside_by number w s lower range Normal ws all fits low long =
     let next : (number_of (2 ^ w) ws + 1) * 2 ^ s ≤ (2 ^ w) ^ length ws * 2 ^ s =
     mul-le-mul_right (2 ^ s) (omega (arith, number_below w ws all)) in
@@ -25,8 +25,8 @@ inside_by number w s lower range (Inverted count first) ws all fits low long =
     let b : ℕ = 2 ^ w in
     let n : ℕ = non_zero_usize_get count in
     let word : ℕ = number first in
-    let held : List ℕ = words_held (b - 1) n word ++ ws in
-    let carried : List ℕ = words_held 0 n (word + 1) ++ ws in
+    let held : List ℕ = repeated_words (b - 1) n word ++ ws in
+    let carried : List ℕ = repeated_words 0 n (word + 1) ++ ws in
     let below : number_of b carried < b ^ length carried =
     number_below w carried (words_held_fit w 0 n (word + 1) ws (pow_pos w) fits.1 all) in
     let more : number_of b held + 1 < b ^ length held =

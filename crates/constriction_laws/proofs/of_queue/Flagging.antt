@@ -9,7 +9,7 @@ use Rattle.constriction_base.specs.Models.{Model, Item, IsModel, AreModels, item
 use Rattle.constriction_base.specs.Steps.{InTurn}
 use Rattle.constriction_base.proofs.InTurn.{InTurn-more}
 use Rattle.constriction_queue.specs.Decoder.{Decoder, StandsAt}
-use Rattle.constriction_queue.specs.Flagged.{DecodesUnder, HoldsNone, flagged, has_flag, next_model}
+use Rattle.constriction_queue.specs.Flagged.{DecodesUnder, NoSymbolFrom, flagged, has_flag, next_model}
 use Rattle.constriction_laws.specs.queue.Flagging.{flagged_behind}
 use Rattle.constriction_queue.specs.declared.decoder.symbols.DecoderFrontendError.{DecoderFrontendError}
 use Rattle.constriction_queue.specs.Range.{Run}
@@ -145,7 +145,7 @@ module _ (w s : ℕ) (words : List ℕ) where
 -- a switch that refused a decode itself read no quantile of its model
 pub only_invalid : {W B E Q : Type 0} (number : W → ℕ) (holds : holding.Ghosts B W Q) (reads : reading.Ghosts B W Q E) (w s : ℕ) (model : Model ℕ) (none : Type 0)
     (old new : Decoder B) (error : CoderError DecoderFrontendError E) → DecodesUnder number holds reads w s model old (Err error) new
-    → (HoldsNone s model.precision old → none) → InvalidWhere none (stopped.Refused error)
+    → (NoSymbolFrom s model.precision old → none) → InvalidWhere none (stopped.Refused error)
 only_invalid number holds reads w s model none old new (Backend e) step law = tt
 only_invalid number holds reads w s model none old new (Frontend f) (inl halt) law = law halt.1
 only_invalid number holds reads w s model none old new (Frontend f) (inr (symbol, (left, p, has, (answer, call, is)))) law = absurd (never_frontend answer f is)

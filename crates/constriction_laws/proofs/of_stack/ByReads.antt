@@ -9,17 +9,17 @@ use Rattle.constriction_base.specs.Steps.{IsSizes}
 use Rattle.constriction_stack.specs.Ans.{AnsState, AnsValue, filled, refilled, RefillsBy}
 use Rattle.constriction_stack.specs.Imports.{FilledBy}
 use Rattle.constriction_stack.proofs.Importing.{filled_by, filled_full}
-use Rattle.constriction_laws.specs.Readings.{TellsItems, words_left}
-use Rattle.constriction_laws.specs.stack.Readings.{told, DecodesBy, DecodesAllBy}
+use Rattle.constriction_laws.specs.Readings.{ListsItems, words_left}
+use Rattle.constriction_laws.specs.stack.Readings.{state_by_words, DecodesBy, DecodesAllBy}
 use Rattle.constriction_base.specs.Models.{Model, Item}
 use Rattle.constriction_stack.specs.Symbols.{Decodes, DecodesAll}
-use Rattle.constriction_base.specs.Readings.{Gives}
+use Rattle.constriction_base.specs.Readings.{ReadsReturn}
 use Rattle.constriction_base.proofs.Sizes.{facts}
 
 -- the words that reads gave stand before those that are left
 given_words : {W E B : Type 0} (reads : B → Result (Option W) E → B → Type 0) (words : B → List W)
     → ((before after : B) (answer : Result (Option W) E) → reads before answer after → Reads (words before) answer (words after))
-    → (old : B) (ws : List W) (new : B) → Gives reads old ws new → words old ≡ ws ++ words new
+    → (old : B) (ws : List W) (new : B) → ReadsReturn reads old ws new → words old ≡ ws ++ words new
 given_words reads words law old [] new h = sym (ap words h)
 given_words {W} reads words law old (v ∷ vs) new h =
     law old h.0 (Ok (Some v)) h.1 ∙ ap (λ (ws : List W). v ∷ ws) (given_words reads words law h.0 vs new h.2)
@@ -43,7 +43,7 @@ filled_words {W} number reads words w s head old new z fits law h =
 
 -- ---- iterators
 -- a read of a backend over an iterator, of which a function tells the words
-pub item_read : {I W E : Type 0} (steps : I → Option (Result W E) → I → Type 0) (words : I → List W) → TellsItems steps words
+pub item_read : {I W E : Type 0} (steps : I → Option (Result W E) → I → Type 0) (words : I → List W) → ListsItems steps words
     → (old new : I) (ended after : Bool) (answer : Result (Option W) E) → FusedRead steps (old, ended) answer (new, after)
     → Reads (words_left words (old, ended)) answer (words_left words (new, after))
 item_read steps words law old new true after (Ok None) r = (refl, rw r.1 refl)
@@ -58,12 +58,12 @@ module _ {S W E B : Type 0} (number : W → ℕ) (reads : B → Result (Option W
     (law : (head new_head : ℕ) (old new : B) → RefillsBy number reads w s head old new_head new
     → refilled w s head (map number (words old)) ≡ record { head = new_head; words = map number (words new) }) where
   pub decode_told : (model : Model S) (symbol : S) (old new : AnsValue B) → DecodesBy number reads w s model symbol old new
-      → Decodes w s model symbol (told number words old) (told number words new)
+      → Decodes w s model symbol (state_by_words number words old) (state_by_words number words new)
   decode_told model symbol old new d =
       (d.0, d.1, d.2, (record { from = d.3.0.from; below = d.3.0.below }, sym (law _ new.state.head old.backend new.backend d.3.1)))
 
   pub decodes_told : (items : List (Item S)) (old new : AnsValue B) → DecodesAllBy number reads w s items old new
-      → DecodesAll w s items (told number words old) (told number words new)
-  decodes_told [] old new d = ap (λ (x : AnsValue B). told number words x) d
+      → DecodesAll w s items (state_by_words number words old) (state_by_words number words new)
+  decodes_told [] old new d = ap (λ (x : AnsValue B). state_by_words number words x) d
   decodes_told (item ∷ items) old new d =
-      (told number words d.0, decode_told item.model item.symbol old d.0 d.1, decodes_told items d.0 new d.2)
+      (state_by_words number words d.0, decode_told item.model item.symbol old d.0 d.1, decodes_told items d.0 new d.2)

@@ -4,7 +4,7 @@ use Rattle.std.proofs.lemmas.Bool.{cases_lt}
 use Rattle.constriction_base.specs.Steps.{Step, IsStep, IsSizes}
 use Rattle.constriction_base.specs.Tables.{Has, IsTable, Follow, Covers}
 use Rattle.constriction_base.proofs.Entries.{one_at, one_of}
-use Rattle.constriction_stack.specs.Ans.{AnsState, IsValid, pop}
+use Rattle.constriction_stack.specs.Ans.{AnsState, IsNormalized, pop}
 use Rattle.constriction_stack.proofs.Pushing.{push_exists, push_unique}
 use Rattle.constriction_base.specs.Models.{Model, IsModel, Knows}
 use Rattle.constriction_stack.specs.Symbols.{Encodes, Decodes}
@@ -25,7 +25,7 @@ module _ {S : Type 0} (w s : ℕ) (model : Model S) where
   pub step_of : (symbol : S) (left p : ℕ) → IsModel w model → Has model.table symbol left p → IsStep w (record { precision = model.precision; left = left; p = p })
   step_of symbol left p m has = entry_is_step w model.precision model.precision left p model.table symbol m.lawful has (m.some_bits, omega arith) m.within_word
 
-  pub encode_exists : (symbol : S) (old : AnsState) → IsSizes w s → IsModel w model → Knows model symbol → IsValid w s old
+  pub encode_exists : (symbol : S) (old : AnsState) → IsSizes w s → IsModel w model → Knows model symbol → IsNormalized w s old
       → (new : AnsState) × Encodes w s model symbol old new
   encode_exists symbol old z m k v =
       let push = push_exists w s (record { precision = model.precision; left = k.0; p = k.1 }) z (step_of symbol k.0 k.1 m k.2) old v in
@@ -53,6 +53,6 @@ module _ {S : Type 0} (w s : ℕ) (model : Model S) where
       → Encodes w s model symbol old new → Decodes w s model again new last → (again ≡ symbol) × (last ≡ old)
   decode_only symbol again old new last t i j = decode_unique again symbol new last old t j (decode_back w s model symbol old new i)
 
-  pub encode_only : (symbol : S) (old new last : AnsState) → IsSizes w s → IsModel w model → IsValid w s old
+  pub encode_only : (symbol : S) (old new last : AnsState) → IsSizes w s → IsModel w model → IsNormalized w s old
       → Decodes w s model symbol old new → Encodes w s model symbol new last → last ≡ old
   encode_only symbol old new last z m v i j = encode_unique symbol new last old z m j (encode_back w s model symbol old new v i)

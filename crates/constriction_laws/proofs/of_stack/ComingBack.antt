@@ -2,7 +2,7 @@
 use Rattle.std.proofs.Common.{◌≡◌, ℕ, List, [], ◌∷◌, refl, sym, ap₂, ◌∙◌, subst, pow_pos, inr}
 use Rattle.std.specs.Prelude.{reverse}
 use Rattle.constriction_base.specs.Steps.{IsSizes}
-use Rattle.constriction_stack.specs.Ans.{AnsState, IsValid, empty}
+use Rattle.constriction_stack.specs.Ans.{AnsState, IsNormalized, empty}
 use Rattle.constriction_base.specs.Models.{Model, IsModel, Item, models, AreModels, AreKnown}
 use Rattle.constriction_stack.specs.Symbols.{Decodes, EncodesAll, DecodesAll}
 use Rattle.constriction_laws.proofs.of_stack.Choosing.{encode_exists, encode_unique, decode_unique}
@@ -11,16 +11,16 @@ use Rattle.constriction_base.proofs.Turns.{map-reverse, all-reverse}
 
 module _ {S : Type 0} (w s : ℕ) where
   -- ---- there is one list of encodes, and one of decodes
-  pub encodes_exist : (items : List (Item S)) (old : AnsState) → IsSizes w s → AreModels w items → AreKnown items → IsValid w s old
-      → (new : AnsState) × EncodesAll w s items old new × IsValid w s new
+  pub encodes_exist : (items : List (Item S)) (old : AnsState) → IsSizes w s → AreModels w items → AreKnown items → IsNormalized w s old
+      → (new : AnsState) × EncodesAll w s items old new × IsNormalized w s new
   encodes_exist [] old z ms ks v = (old, refl, v)
   encodes_exist (item ∷ items) old z ms ks v =
       let first = encode_exists w s item.model item.symbol old z ms.0 ks.0 v in
       let rest = encodes_exist items first.0 z ms.1 ks.1 first.1.3.valid in
       (rest.0, (first.0, first.1, rest.1), rest.2)
 
-  pub encoded_all_valid : (items : List (Item S)) (old new : AnsState) → IsValid w s old → EncodesAll w s items old new → IsValid w s new
-  encoded_all_valid [] old new v h = subst (λ (x : AnsState). IsValid w s x) (sym h) v
+  pub encoded_all_valid : (items : List (Item S)) (old new : AnsState) → IsNormalized w s old → EncodesAll w s items old new → IsNormalized w s new
+  encoded_all_valid [] old new v h = subst (λ (x : AnsState). IsNormalized w s x) (sym h) v
   encoded_all_valid (item ∷ items) old new v h = encoded_all_valid items h.0 new h.1.3.valid h.2
 
   pub encodes_unique : (items : List (Item S)) (old new other : AnsState) → IsSizes w s → AreModels w items
@@ -55,5 +55,5 @@ module _ {S : Type 0} (w s : ℕ) where
       encodes_unique (reverse items) new last old z (all-reverse (λ item. IsModel w item.model) items ms) j i
 
 -- the state of a new coder is valid
-pub empty_valid : (w s : ℕ) → IsValid w s empty
+pub empty_valid : (w s : ℕ) → IsNormalized w s empty
 empty_valid w s = record { state = record { fits = pow_pos s; are_words = tt }; full = inr refl }

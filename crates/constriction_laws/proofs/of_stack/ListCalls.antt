@@ -9,7 +9,7 @@ use Rattle.constriction_base.specs.declared.backends.writing.WriteWords as writi
 use Rattle.constriction_base.specs.Tables.{AtEntry}
 use Rattle.constriction_stream.specs.Lists.{StepsAll}
 use Rattle.constriction_stream.specs.Symbols.{DecodesSymbol, EncodesSymbol, ByBackend}
-use Rattle.constriction_stack.specs.Ans.{AnsValue, IsValid}
+use Rattle.constriction_stack.specs.Ans.{AnsValue, IsNormalized}
 use Rattle.constriction_stack.specs.Ans as calls
 use Rattle.constriction_laws.specs.stack.Readings.{DecodesBy, DecodesAllBy}
 use Rattle.constriction_base.specs.Models.{Model, Item}
@@ -19,7 +19,7 @@ use Rattle.constriction_stack.proofs.StepCalls.{encode_of}
 -- ---- encodes
 module _ {S W B E K F : Type 0} (number : W → ℕ) (holds : holding.Ghosts B W K) (writes : writing.Ghosts B W E) (w s : ℕ) (is_impossible : F → Type 0) where
   -- so is a list of them: what was given lends a symbol, or a pair, that stands for an item
-  pub encodes_of : {A T : Type 0} (lent : A → T) (item : T → Item S) (xs : List A) (old new : AnsValue B) → IsValid w s old.state
+  pub encodes_of : {A T : Type 0} (lent : A → T) (item : T → Item S) (xs : List A) (old new : AnsValue B) → IsNormalized w s old.state
       → StepsAll {E = CoderError F E} (λ old x answer new. EncodesSymbol (ByBackend (calls.EncodeCall number holds writes w s)) is_impossible
       (item (lent x)).model.precision (item (lent x)).model.table (item (lent x)).symbol old answer new) old xs new
       → EncodesAll w s (map item (map lent xs)) old.state new.state

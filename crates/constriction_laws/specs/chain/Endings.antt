@@ -10,7 +10,7 @@ use Rattle.constriction_laws.specs.declared.errors.RoundTripError.{RoundTripErro
 use Rattle.constriction_laws.specs.declared.errors.Stopped.TheVariants.{NoMemory, Refused}
 use Rattle.constriction_chain.specs.Chain.{ChainState, least}
 use Rattle.constriction_chain.specs.Imports.{AreBinaryWords, FromRemainders}
-use Rattle.constriction_chain.specs.Symbols.{TakesOffAll, PutsBackAll}
+use Rattle.constriction_chain.specs.Symbols.{ChainDecodesAll, ChainEncodesAll}
 use Rattle.constriction_chain.specs.Walk.{NeedsWord}
 use Rattle.constriction_chain.specs.declared.errors.BackendError.{BackendError}
 use Rattle.constriction_chain.specs.declared.errors.EncoderFrontendError.{EncoderFrontendError}
@@ -24,7 +24,7 @@ use Rattle.constriction_laws.specs.declared.chain.errors.PutBackError.TheVariant
 pub record Ended {S : Type 0} (w s P : ℕ) (items : List S → List (Item S)) (taken : ℕ) (old new : ChainState) : Type 0 where
   pub given : List S
   pub count : length given ≡ taken
-  pub taken_off : TakesOffAll w s (items given) old new
+  pub taken_off : ChainDecodesAll w s (items given) old new
   pub needs : NeedsWord w P new.h
   pub none : new.compressed ≡ []
 
@@ -35,8 +35,8 @@ EndsEarly is_list w s P items amt old taken new = (taken < amt) × (is_list → 
 
 -- The coder decodes `amt` symbols. If the backend's `is_list` holds, the decodes lead from the old state to the new
 -- one.
-abbrev pub TookOff : {S : Type 0} → Type 0 → ℕ → ℕ → (List S → List (Item S)) → ℕ → ChainState → ChainState → Type 0
-TookOff {S} is_list w s items amt old new = (given : List S) × (length given ≡ amt) × (is_list → TakesOffAll w s (items given) old new)
+abbrev pub ChainDecodedList : {S : Type 0} → Type 0 → ℕ → ℕ → (List S → List (Item S)) → ℕ → ChainState → ChainState → Type 0
+ChainDecodedList {S} is_list w s items amt old new = (given : List S) × (length given ≡ amt) × (is_list → ChainDecodesAll w s (items given) old new)
 
 -- A list of decodes stops early. Either a backend refuses a word of the next decode, or there is no memory for the
 -- symbols.
@@ -55,7 +55,7 @@ OnlyEnds ended e = Reasons ⊥ ⊥ ⊥ ended e
 
 -- The items before one item are encoded. The reason `why` stops the encode of that item.
 abbrev pub StopsBefore : {S : Type 0} → ℕ → ℕ → List (Item S) → (Item S → Type 0) → ChainState → ChainState → Type 0
-StopsBefore {S} w s items why old new = (before after : List (Item S)) × (item : Item S) × (items ≡ before ++ item ∷ after) × PutsBackAll w s before old new × why item
+StopsBefore {S} w s items why old new = (before after : List (Item S)) × (item : Item S) × (items ≡ before ++ item ∷ after) × ChainEncodesAll w s before old new × why item
 
 -- The item's symbol has no entry in its table.
 abbrev pub IsImpossible : {S : Type 0} → Item S → Type 0

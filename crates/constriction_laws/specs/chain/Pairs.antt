@@ -9,19 +9,19 @@ use Rattle.constriction_chain.specs.Chain.{ChainState, ChainValue}
 use Rattle.constriction_chain.specs.Imports.{FromRemainders}
 use Rattle.constriction_chain.specs.Runs.{AreIsolated}
 use Rattle.constriction_chain.specs.Steps.{DecodeCall, Halted}
-use Rattle.constriction_chain.specs.Symbols.{PutsBackAll, TakesOffAll}
+use Rattle.constriction_chain.specs.Symbols.{ChainEncodesAll, ChainDecodesAll}
 use Rattle.constriction_chain.specs.Words.{remainder_words}
-use Rattle.constriction_laws.specs.chain.Endings.{Ended, EndsEarly, NotPutBack, OnlyEnds, RefusedAmong, TookOff}
+use Rattle.constriction_laws.specs.chain.Endings.{Ended, EndsEarly, NotPutBack, OnlyEnds, RefusedAmong, ChainDecodedList}
 use Rattle.constriction_laws.specs.Outcomes.{DecodesPairs}
 use Rattle.constriction_laws.specs.chain.Isolating.{decodings_by}
 use Rattle.constriction_laws.specs.declared.chain.errors.PutBackError.{PutBackError}
 use Rattle.constriction_laws.specs.declared.errors.RoundTripError.{RoundTripError}
 
 -- Decodes of the symbols, each under its own model, lead from the one coder to the other.
-abbrev pub TakesPairs : {S M C R : Type 0} → ℕ → ℕ → ℕ → (M → List (S × ℕ × ℕ)) → List S → List M → ChainValue C R
+abbrev pub ChainDecodesPairs : {S M C R : Type 0} → ℕ → ℕ → ℕ → (M → List (S × ℕ × ℕ)) → List S → List M → ChainValue C R
     → ChainValue C R → Type 0
-TakesPairs w s precision table symbols models old new =
-    TakesOffAll w s (pairs_of precision table symbols models) old.state new.state
+ChainDecodesPairs w s precision table symbols models old new =
+    ChainDecodesAll w s (pairs_of precision table symbols models) old.state new.state
 
 -- Fewer symbols were taken than there are models; over a backend that knows its words they ended there.
 abbrev pub PairsEndEarly : {S M : Type 0} → Type 0 → ℕ → ℕ → ℕ → (M → List (S × ℕ × ℕ)) → List M → ChainState → ℕ
@@ -36,16 +36,16 @@ PairsEnded w s precision table models old taken =
     × Ended w s precision (λ given. pairs_of precision table given models) taken old after
 
 -- Decodes of the items lead to a state of these words: the prefix is compressed, the suffix is that of the remainders.
-abbrev pub TakesApart : {W S : Type 0} → (W → ℕ) → ℕ → ℕ → List (Item S) → ChainState → List W → List W → Type 0
-TakesApart number w s items old prefix suffix = (after : ChainState) × TakesOffAll w s items old after
+abbrev pub ChainDecodesApart : {W S : Type 0} → (W → ℕ) → ℕ → ℕ → List (Item S) → ChainState → List W → List W → Type 0
+ChainDecodesApart number w s items old prefix suffix = (after : ChainState) × ChainDecodesAll w s items old after
     × (map number (reverse prefix) ≡ after.compressed) × (map number (reverse suffix) ≡ remainder_words w after)
 
 -- Encodes of the symbols, from the last to the first, lead from the coder of these remainders to this state.
-abbrev pub PutsPairsBack : {S M : Type 0} → ℕ → ℕ → ℕ → (M → List (S × ℕ × ℕ)) → List S → List M → List ℕ → ChainState
+abbrev pub ChainEncodesPairs : {S M : Type 0} → ℕ → ℕ → ℕ → (M → List (S × ℕ × ℕ)) → List S → List M → List ℕ → ChainState
     → Type 0
-PutsPairsBack w s precision table symbols models words last =
+ChainEncodesPairs w s precision table symbols models words last =
     (before : ChainState) × FromRemainders w s precision words before
-    × PutsBackAll w s (reverse (pairs_of precision table symbols models)) before last
+    × ChainEncodesAll w s (reverse (pairs_of precision table symbols models)) before last
 
 -- Why the symbols, from the last to the first, weren't put back to the coder of these remainders.
 abbrev pub PairsNotPutBack : {S M : Type 0} → ℕ → ℕ → ℕ → (M → List (S × ℕ × ℕ)) → List ℕ → List S → List M
@@ -71,7 +71,7 @@ abbrev pub EndsInTwo : {S M L C R : Type 0} → Type 0 → ℕ → ℕ → ℕ �
     → ChainValue C R → (L → List (S × ℕ × ℕ)) → List L → ChainValue C R → ChainValue C R → RoundTripError → Type 0
 EndsInTwo is_list w s precision table models old new other others same again e = OnlyEnds (λ taken.
     (PairsEndEarly is_list w s precision table models old.state taken new.state × (again ≡ same))
-    ⊎ (TookOff is_list w s (λ given. pairs_of precision table given models) (length models) old.state new.state
+    ⊎ (ChainDecodedList is_list w s (λ given. pairs_of precision table given models) (length models) old.state new.state
     × PairsEndEarly is_list w s precision other others same.state taken again.state)) e
 
 module _ {W C R Q E F : Type 0} (number : W → ℕ) (holds : holding.Ghosts C W Q) (reads : reading.Ghosts C W Q E)
@@ -93,5 +93,5 @@ module _ {W C R Q E F : Type 0} (number : W → ℕ) (holds : holding.Ghosts C W
   abbrev pub RefusedInTwo : {S M L : Type 0} → (M → List (S × ℕ × ℕ)) → List M → ChainValue C R → ChainValue C R
       → (L → List (S × ℕ × ℕ)) → List L → ChainValue C R → ChainValue C R → Type 0
   RefusedInTwo table models old new other others same again = (PairsRefused table models old new × (again ≡ same))
-      ⊎ (TookOff holds.is_list w s (λ given. pairs_of precision table given models) (length models) old.state new.state
+      ⊎ (ChainDecodedList holds.is_list w s (λ given. pairs_of precision table given models) (length models) old.state new.state
       × PairsRefused other others same again)

@@ -4,7 +4,7 @@ use Rattle.constriction_base.specs.Models.{Model}
 use Rattle.constriction_base.specs.Steps.{Step}
 use Rattle.constriction_base.proofs.Entries.{in_range}
 use Rattle.constriction_chain.specs.Chain.{ChainState, IsChain, IsSized}
-use Rattle.constriction_chain.specs.Symbols.{TakesOff, PutsBack, IsModelAt}
+use Rattle.constriction_chain.specs.Symbols.{ChainDecodesOne, ChainEncodesOne, IsModelAt}
 use Rattle.constriction_chain.proofs.Chains.{decode_from}
 use Rattle.constriction_chain.proofs.Validity.{decoded_chain}
 
@@ -17,12 +17,12 @@ pub record Sizes : Type 0 where
 
 -- A decode undoes an encode.
 pub decode_back : {S : Type 0} (w s : ℕ) (model : Model S) (symbol : S) (old new : ChainState)
-    → PutsBack w s model symbol old new → TakesOff w s model symbol new old
+    → ChainEncodesOne w s model symbol old new → ChainDecodesOne w s model symbol new old
 decode_back w s model symbol old new i = (i.0, i.1, i.2, i.3.back)
 
 -- An encode undoes a decode from a valid state.
 pub encode_back : {S : Type 0} (w s P : ℕ) (model : Model S) (symbol : S) (old new : ChainState) → IsSized w s P → IsModelAt P model
-    → IsChain w s P old → TakesOff w s model symbol old new → PutsBack w s model symbol new old
+    → IsChain w s P old → ChainDecodesOne w s model symbol old new → ChainEncodesOne w s model symbol new old
 encode_back w s P model symbol old new sized at chain (left, p, has, d) =
     let e : Step = record { precision = model.precision; left = left; p = p } in
     let here : IsChain w s model.precision old = subst (λ n. IsChain w s n old) (sym at.level) chain in
@@ -31,7 +31,7 @@ encode_back w s P model symbol old new sized at chain (left, p, has, d) =
 
 -- A decode from a valid state leads to a valid state.
 pub decoded_at : {S : Type 0} (w s P : ℕ) (model : Model S) (symbol : S) (old new : ChainState) → IsSized w s P → IsModelAt P model
-    → IsChain w s P old → TakesOff w s model symbol old new → IsChain w s P new
+    → IsChain w s P old → ChainDecodesOne w s model symbol old new → IsChain w s P new
 decoded_at w s P model symbol old new sized at chain (left, p, has, d) =
     let e : Step = record { precision = model.precision; left = left; p = p } in
     let here : IsChain w s model.precision old = subst (λ n. IsChain w s n old) (sym at.level) chain in

@@ -12,7 +12,7 @@ use Rattle.constriction_queue.specs.Range.{Run}
 use Rattle.constriction_queue.specs.declared.decoder.symbols.DecoderFrontendError.{DecoderFrontendError}
 use Rattle.constriction_laws.specs.declared.errors.Stopped.{Stopped}
 use Rattle.constriction_laws.specs.declared.errors.Stopped.TheVariants as stopped
-use Rattle.constriction_laws.specs.queue.Outcomes.{HoldNone, InvalidWhere, ReadTo}
+use Rattle.constriction_laws.specs.queue.Outcomes.{NoList, InvalidWhere, ReadTo}
 
 -- The symbols, each with its model. If `switched` is true, all models are `second`. Otherwise the models are `first` up
 -- to and including the flag, and then `second`.
@@ -21,7 +21,7 @@ flagged_behind switched flag first second symbols = if switched then items_of se
 
 module _ {W B E Q : Type 0} (number : W → ℕ) (holds : holding.Ghosts B W Q) (reads : reading.Ghosts B W Q E) (w s : ℕ) (first second : Model ℕ) where
   -- A switch returns the symbols `given`, which are at most `amt` symbols.
-  pub record GivesFlagged (amt : ℕ) (old : Switch B) (given : List ℕ) (mid : Decoder B) (new : Switch B) : Type 0 where
+  pub record ReturnsFlagged (amt : ℕ) (old : Switch B) (given : List ℕ) (mid : Decoder B) (new : Switch B) : Type 0 where
     pub most : length given ≤ amt
     -- The decodes lead to the decoder `mid`. Each decode uses the model that applies at its symbol.
     pub taken : InTurn (λ item before after. DecodesUnder number holds reads w s item.model before (Ok item.symbol) after)
@@ -51,18 +51,18 @@ ReadsFlagged w s first second old result new = (words : List ℕ) (from : Run) �
 
 -- Suppose that the old decoder has reached a run in a list of words. If the decoder itself refuses a decode, no list of
 -- `amt` symbols is decoded from the words at that run.
-abbrev pub HoldNoneFlagged : {T F E B : Type 0} → ℕ → ℕ → Model ℕ → Model ℕ → ℕ → Switch B
+abbrev pub NoListFlagged : {T F E B : Type 0} → ℕ → ℕ → Model ℕ → Model ℕ → ℕ → Switch B
     → Result T (Stopped (CoderError F E)) → Type 0
-HoldNoneFlagged w s first second amt old result = (words : List ℕ) (from : Run) → StandsAt w s words from old.decoder
-    → IfErr result (InvalidWhere (HoldNone w s words (flagged_behind old.switched old.flag first second) amt from))
+NoListFlagged w s first second amt old result = (words : List ℕ) (from : Run) → StandsAt w s words from old.decoder
+    → IfErr result (InvalidWhere (NoList w s words (flagged_behind old.switched old.flag first second) amt from))
 
--- A switch decodes at most `amt` symbols (`GivesFlagged`). The call returns these symbols and leaves the decoder after
--- the last decode, or the switch stops with an error (`StopsFlagged`).
+-- A switch decodes at most `amt` symbols (`ReturnsFlagged`). The call returns these symbols and leaves the decoder
+-- after the last decode, or the switch stops with an error (`StopsFlagged`).
 abbrev pub StepsFlagged : {W B E Q A : Type 0} → (W → ℕ) → holding.Ghosts B W Q → reading.Ghosts B W Q E → ℕ → ℕ
     → Model ℕ → Model ℕ → ℕ → Switch B → Result (Vec ℕ A) (Stopped (CoderError DecoderFrontendError E)) → Switch B
     → Type 0
 StepsFlagged {B = B} number holds reads w s first second amt old result new = (given : List ℕ) × (mid : Decoder B)
     × IfOk result (λ again. again.items ≡ given)
-    × GivesFlagged number holds reads w s first second amt old given mid new
+    × ReturnsFlagged number holds reads w s first second amt old given mid new
     × MatchResult result (λ _. new.decoder ≡ mid)
     (λ e. StopsFlagged number holds reads w s first second amt given mid e new)

@@ -29,12 +29,12 @@ ReadTo w s words items old new = (last : Run) × FindsAll w s words items old la
 
 -- No list of `amt` symbols is decoded from these words, starting at the interval `old`. The function `items` gives each
 -- symbol its model.
-abbrev pub HoldNone : {S : Type 0} → ℕ → ℕ → List ℕ → (List S → List (Item S)) → ℕ → Run → Type 0
-HoldNone {S} w s words items amt old = (symbols : List S) (last : Run) → length symbols ≡ amt → FindsAll w s words (items symbols) old last → ⊥
+abbrev pub NoList : {S : Type 0} → ℕ → ℕ → List ℕ → (List S → List (Item S)) → ℕ → Run → Type 0
+NoList {S} w s words items amt old = (symbols : List S) (last : Run) → length symbols ≡ amt → FindsAll w s words (items symbols) old last → ⊥
 
 -- If the backend's `is_list` holds, no list of `amt` symbols is decoded from the decoder's position on.
-abbrev pub GivesNone : {S B : Type 0} → Type 0 → ℕ → ℕ → (List S → List (Item S)) → ℕ → Decoder B → Type 0
-GivesNone is_list w s items amt decoder = is_list → (words : List ℕ) (old : Run) → StandsAt w s words old decoder → HoldNone w s words items amt old
+abbrev pub NoListFrom : {S B : Type 0} → Type 0 → ℕ → ℕ → (List S → List (Item S)) → ℕ → Decoder B → Type 0
+NoListFrom is_list w s items amt decoder = is_list → (words : List ℕ) (old : Run) → StandsAt w s words old decoder → NoList w s words items amt old
 
 -- Encoding the items from the interval `old` and sealing gives these words.
 abbrev pub SealsAll : {S : Type 0} → ℕ → ℕ → List (Item S) → Run → List ℕ → Type 0
@@ -49,8 +49,8 @@ ReadsToEnd w s words items ended =
 -- A decoder of the words is positioned after these items. Its words are those of its backend (`IsDecoder`), and
 -- `exhausted` says whether the backend may have run out of words. The result is true if and only if that decoder may be
 -- exhausted.
-abbrev pub TellsEnd : {Word S B T : Type 0} → (Word → ℕ) → holding.Ghosts B Word T → ℕ → ℕ → (B → Bool) → List ℕ → List (Item S) → Bool → Type 0
-TellsEnd {B = B} number holds w s exhausted words items ended = (last : Run) × (decoder : Decoder B)
+abbrev pub ReportsEnd : {Word S B T : Type 0} → (Word → ℕ) → holding.Ghosts B Word T → ℕ → ℕ → (B → Bool) → List ℕ → List (Item S) → Bool → Type 0
+ReportsEnd {B = B} number holds w s exhausted words items ended = (last : Run) × (decoder : Decoder B)
     × IsDecoder number holds w s decoder × FindsAll w s words items (initial s) last × StandsAt w s words last decoder
     × (IsTrue ended ↔ MayBeExhausted w s exhausted decoder)
 
@@ -60,10 +60,10 @@ LieWithin w s words items = (last : Run) × NarrowsAll w s items (initial s) las
 
 -- Decoding `amt` symbols from a position fails with this error. `NoSuchPlace`: the words end before the position.
 -- `InvalidData`: the words encode no `amt` symbols from any interval at the position.
-abbrev pub NoneAt : {S : Type 0} → ℕ → ℕ → List ℕ → (List S → List (Item S)) → ℕ → ℕ → ℕ → ℕ → DecodeError → Type 0
-NoneAt w s words items amt place lower range NoSuchPlace = length words < place
-NoneAt w s words items amt place lower range InvalidData = (there : Run) → IsPosition s there place lower range → HoldNone w s words items amt there
-NoneAt w s words items amt place lower range other = ⊤
+abbrev pub NoListAt : {S : Type 0} → ℕ → ℕ → List ℕ → (List S → List (Item S)) → ℕ → ℕ → ℕ → ℕ → DecodeError → Type 0
+NoListAt w s words items amt place lower range NoSuchPlace = length words < place
+NoListAt w s words items amt place lower range InvalidData = (there : Run) → IsPosition s there place lower range → NoList w s words items amt there
+NoListAt w s words items amt place lower range other = ⊤
 
 -- If the decoder itself refused a list of decodes, the property holds.
 abbrev pub InvalidWhere : {F B : Type 0} → Type 0 → Stopped (CoderError F B) → Type 0

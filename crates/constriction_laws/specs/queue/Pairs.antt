@@ -8,9 +8,9 @@ use Rattle.constriction_queue.specs.States.{IsPosition, lower_of, range_of}
 use Rattle.constriction_queue.specs.declared.state.RangeCoderState.{RangeCoderState}
 use Rattle.constriction_queue.specs.Symbols.{FindsAll, NarrowsAll}
 use Rattle.constriction_laws.specs.Bounds.{AreBoundedBy, IsRangeBounded}
-use Rattle.constriction_laws.specs.Outcomes.{GivesBack, GivesBackAnd, GivesBackWith, GivesBackWithOne}
+use Rattle.constriction_laws.specs.Outcomes.{ReturnsSymbols, ReturnsSymbolsAnd, ReturnsSymbolsWith, ReturnsSymbolsWithOne}
 use Rattle.constriction_laws.specs.queue.Concatenated.{DelimitsItems}
-use Rattle.constriction_laws.specs.queue.Outcomes.{HoldNone, LieWithin, NoneAt, ReadTo, SealsAll}
+use Rattle.constriction_laws.specs.queue.Outcomes.{NoList, LieWithin, NoListAt, ReadTo, SealsAll}
 use Rattle.constriction_laws.specs.declared.queue.concatenated.DecodeError.{DecodeError}
 
 -- The items of symbols, each under its own model.
@@ -30,9 +30,9 @@ abbrev pub HoldFrom : {W S : Type 0} → (W → ℕ) → ℕ → ℕ → List W 
 HoldFrom number w s words there items = (last : Run) × FindsAll w s (map number words) items there last
 
 -- The words hold no list of as many symbols as there are models.
-abbrev pub HoldNoPairs : {S M : Type 0} → ℕ → ℕ → ℕ → (M → List (S × ℕ × ℕ)) → List ℕ → List M → Type 0
-HoldNoPairs w s precision table words models =
-    HoldNone w s words (λ symbols. pairs_of precision table symbols models) (length models) (initial s)
+abbrev pub NoPairs : {S M : Type 0} → ℕ → ℕ → ℕ → (M → List (S × ℕ × ℕ)) → List ℕ → List M → Type 0
+NoPairs w s precision table words models =
+    NoList w s words (λ symbols. pairs_of precision table symbols models) (length models) (initial s)
 
 -- The position is recorded as the number of words before it and an interval; it is that of this run.
 abbrev pub IsRecorded : {Word State WordNonZero StateNonZero : Type 0} {word : _} {state : _} → ℕ → Run
@@ -44,17 +44,17 @@ abbrev pub NoPairsAt : {S M Word State WordNonZero StateNonZero : Type 0} {word 
     → (M → List (S × ℕ × ℕ)) → List ℕ → List M → ℕ × RangeCoderState Word State WordNonZero StateNonZero word state
     → DecodeError → Type 0
 NoPairsAt w s precision table words models position e =
-    NoneAt w s words (λ symbols. pairs_of precision table symbols models) (length models)
+    NoListAt w s words (λ symbols. pairs_of precision table symbols models) (length models)
     position.0 (lower_of position.1) (range_of position.1) e
 
 -- If the position is that of a run, and the words hold symbols from this run on, one for each model, a successful call
 -- returns these symbols.
-abbrev pub GivesFrom : {S M A E Word State WordNonZero StateNonZero : Type 0} {word : _} {state : _} → ℕ → ℕ → ℕ
+abbrev pub ReturnsFrom : {S M A E Word State WordNonZero StateNonZero : Type 0} {word : _} {state : _} → ℕ → ℕ → ℕ
     → (M → List (S × ℕ × ℕ)) → List ℕ → List M → ℕ × RangeCoderState Word State WordNonZero StateNonZero word state
     → Result (Vec S A) E → Type 0
-GivesFrom {S} w s precision table words models position result =
+ReturnsFrom {S} w s precision table words models position result =
     (symbols : List S) (there last : Run) → IsRecorded s there position
-    → FindsAll w s words (pairs_of precision table symbols models) there last → GivesBack models symbols result
+    → FindsAll w s words (pairs_of precision table symbols models) there last → ReturnsSymbols models symbols result
 
 -- The encoder is as a new one.
 abbrev pub IsAsNew : {B : Type 0} → ℕ → ℕ → Encoder B → Type 0
@@ -79,34 +79,34 @@ ReadsOnward w s precision table models old result new = (words : List ℕ) (ther
 
 -- If the words hold symbols where the old decoder stands, one for each model, a successful call returns these symbols,
 -- and the new decoder stands behind them.
-abbrev pub GivesFound : {S M A E B : Type 0} → ℕ → ℕ → ℕ → (M → List (S × ℕ × ℕ)) → List M → Decoder B
+abbrev pub ReturnsFound : {S M A E B : Type 0} → ℕ → ℕ → ℕ → (M → List (S × ℕ × ℕ)) → List M → Decoder B
     → Result (Vec S A) E → Decoder B → Type 0
-GivesFound {S} w s precision table models old result new =
+ReturnsFound {S} w s precision table models old result new =
     (words : List ℕ) (symbols : List S) (there last : Run) → StandsAt w s words there old
     → FindsAll w s words (pairs_of precision table symbols models) there last
-    → GivesBackAnd models symbols result (StandsAt w s words last new)
+    → ReturnsSymbolsAnd models symbols result (StandsAt w s words last new)
 
 -- A successful call decodes words by a new decoder, and returns the symbols and whether the words may have ended. In
 -- each field, there are as many symbols as models. No field says that the call succeeds.
-pub record GivesSymbolsOf {S M A E : Type 0} (w s precision : ℕ) (table : M → List (S × ℕ × ℕ)) (words : List ℕ)
+pub record ReturnsSymbolsOf {S M A E : Type 0} (w s precision : ℕ) (table : M → List (S × ℕ × ℕ)) (words : List ℕ)
     (models : List M) (result : Result (Vec S A × Bool) E) : Type 0 where
   -- If a new decoder finds symbols in the words, a successful call returns these symbols.
   pub back : (symbols : List S) (last : Run)
       → FindsAll w s words (pairs_of precision table symbols models) (initial s) last
-      → GivesBackWith models symbols result
+      → ReturnsSymbolsWith models symbols result
   -- If the words are the sealed words of items, a successful call returns the items' symbols, and that the words may
   -- have ended.
   pub sealed : (symbols : List S) → SealsAll w s (pairs_of precision table symbols models) (initial s) words
-      → GivesBackWithOne models symbols result IsTrue
+      → ReturnsSymbolsWithOne models symbols result IsTrue
   -- If a state is two words wide and the words begin with the sealed words of items, a successful call returns the
   -- items' symbols.
   pub followed : (symbols : List S) (own rest : List ℕ) → s / w ≡ 2
       → SealsAll w s (pairs_of precision table symbols models) (initial s) own → words ≡ own ++ rest
-      → GivesBackWith models symbols result
+      → ReturnsSymbolsWith models symbols result
   -- If the words begin with self-delimiting words of items, a successful call returns the items' symbols.
   pub delimited : (symbols : List S) (own rest : List ℕ)
       → DelimitsItems w s (pairs_of precision table symbols models) own → words ≡ own ++ rest
-      → GivesBackWith models symbols result
+      → ReturnsSymbolsWith models symbols result
   -- If the words lie within the run of items, a successful call returns the items' symbols.
   pub lying : (symbols : List S) → length symbols ≡ length models
       → LieWithin w s words (pairs_of precision table symbols models)

@@ -17,11 +17,11 @@ pub record Reading : Type 0 where
   pub are_words : AreWords w words
 
 -- Takes an encode of the item back: leads from the interval after the encode to the valid interval before it.
-abbrev pub TakesBack : {S : Type 0} → ℕ → ℕ → Item S → Run → Run → Type 0
-TakesBack w s item new old = IsInterval w s old × Narrows w s item.model item.symbol old new
+abbrev pub UndoesEncode : {S : Type 0} → ℕ → ℕ → Item S → Run → Run → Type 0
+UndoesEncode w s item new old = IsInterval w s old × Narrows w s item.model item.symbol old new
 
 -- If the words lie within the interval after the encode, a decode returns the item. The words also lie within the
 -- interval before the encode.
 pub read_back : {S : Type 0} (g : Reading) (item : Item S) (new old : Run) → IsModel g.w item.model → Within g.w g.s g.words new
-    → TakesBack g.w g.s item new old → Finds g.w g.s g.words item.model item.symbol old new × Within g.w g.s g.words old
+    → UndoesEncode g.w g.s item new old → Finds g.w g.s g.words item.model item.symbol old new × Within g.w g.s g.words old
 read_back g item new old m i h = read_before g.w g.s g.are g.words g.are_words item old new m h.0 h.1 i

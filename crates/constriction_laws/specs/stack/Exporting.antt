@@ -3,12 +3,12 @@ use Rattle.std.specs.Prelude.{◌≡◌, ℕ, List, Result, Vec, reverse}
 use Rattle.constriction_base.specs.Models.{Item, pairs_of}
 use Rattle.constriction_base.specs.Steps.{AreWords}
 use Rattle.constriction_base.specs.Writing.{IsOneAbove}
-use Rattle.constriction_stack.specs.Ans.{AnsState, AnsValue, IsValid, empty, exported}
+use Rattle.constriction_stack.specs.Ans.{AnsState, AnsValue, IsNormalized, empty, exported}
 use Rattle.constriction_stack.specs.Binary.{binary_state, binary_words}
 use Rattle.constriction_stack.specs.Positions.{AnsPosition, Grows, position_of, sought}
 use Rattle.constriction_stack.specs.Symbols.{EncodesAll, DecodesAll}
 use Rattle.constriction_laws.specs.Bounds.{AreBoundedBy, IsStackBounded}
-use Rattle.constriction_laws.specs.Outcomes.{GivesBack, GivesBackAnd, GivesBackWithOne, HasImpossibleItem, Reasons}
+use Rattle.constriction_laws.specs.Outcomes.{ReturnsSymbols, ReturnsSymbolsAnd, ReturnsSymbolsWithOne, HasImpossibleItem, Reasons}
 use Rattle.constriction_laws.specs.declared.errors.RoundTripError.{RoundTripError}
 
 -- Encodes of the items onto the old state lead to a state with these words.
@@ -34,7 +34,7 @@ ExportsBinary w s items old words = (last : AnsState) × (m : ℕ) × EncodesAll
 abbrev pub NoBinary : {S : Type 0} → ℕ → ℕ → List (Item S) → AnsState → RoundTripError → Type 0
 NoBinary w s items old e =
     Reasons (HasImpossibleItem items) ⊥
-    (ComesFromNoWords w s items old × (IsValid w s old → LeadsToNoBinary w s (reverse items) old)) (λ taken. ⊥) e
+    (ComesFromNoWords w s items old × (IsNormalized w s old → LeadsToNoBinary w s (reverse items) old)) (λ taken. ⊥) e
 
 -- Encodes of symbols, each under its own model, from the last to the first.
 abbrev pub EncodesPairs : {S M : Type 0} → ℕ → ℕ → ℕ → (M → List (S × ℕ × ℕ)) → List S → List M → AnsState → AnsState
@@ -47,22 +47,22 @@ abbrev pub UndoesEncodes : {S M A E : Type 0} → ℕ → ℕ → ℕ → (M →
     → Result (Vec S A) E → AnsState → Type 0
 UndoesEncodes {S} w s precision table models old result new =
     (symbols : List S) (before : AnsState) → EncodesPairs w s precision table symbols models before old
-    → GivesBackAnd models symbols result (new ≡ before)
+    → ReturnsSymbolsAnd models symbols result (new ≡ before)
 
 -- A call returned the symbols whose encodes led to this valid state.
-abbrev pub GivesEncoded : {S M A E : Type 0} → ℕ → ℕ → ℕ → (M → List (S × ℕ × ℕ)) → List M → AnsState
+abbrev pub ReturnsEncoded : {S M A E : Type 0} → ℕ → ℕ → ℕ → (M → List (S × ℕ × ℕ)) → List M → AnsState
     → Result (Vec S A) E → Type 0
-GivesEncoded {S} w s precision table models state result =
-    (symbols : List S) (before : AnsState) → IsValid w s state
-    → EncodesPairs w s precision table symbols models before state → GivesBack models symbols result
+ReturnsEncoded {S} w s precision table models state result =
+    (symbols : List S) (before : AnsState) → IsNormalized w s state
+    → EncodesPairs w s precision table symbols models before state → ReturnsSymbols models symbols result
 
 -- A call returned the symbols whose encodes led to a state, if the state's position is this one, and the coder has
 -- grown from there.
-abbrev pub GivesBehind : {S M A E : Type 0} → ℕ → ℕ → ℕ → (M → List (S × ℕ × ℕ)) → List M → AnsPosition → AnsState
+abbrev pub ReturnsBehind : {S M A E : Type 0} → ℕ → ℕ → ℕ → (M → List (S × ℕ × ℕ)) → List M → AnsPosition → AnsState
     → Result (Vec S A) E → Type 0
-GivesBehind {S} w s precision table models position state result = (symbols : List S) (old there : AnsState)
+ReturnsBehind {S} w s precision table models position state result = (symbols : List S) (old there : AnsState)
     → EncodesPairs w s precision table symbols models old there → position ≡ position_of there → Grows there state
-    → GivesBack models symbols result
+    → ReturnsSymbols models symbols result
 
 -- Decodes of the items lead from this position of a coder to a state.
 abbrev pub HoldsBehind : {S : Type 0} → ℕ → ℕ → AnsPosition → AnsState → List (Item S) → Type 0
@@ -73,18 +73,18 @@ abbrev pub recorded : {Head : Type 0} → (Head → ℕ) → ℕ × Head → Ans
 recorded number position = record { held = position.0; head = number position.1 }
 
 -- A call returned the symbols if the words are those of their encodes from an empty coder.
-abbrev pub GivesExport : {S M A E : Type 0} → ℕ → ℕ → ℕ → (M → List (S × ℕ × ℕ)) → List M → List ℕ → Result (Vec S A) E
+abbrev pub ReturnsExported : {S M A E : Type 0} → ℕ → ℕ → ℕ → (M → List (S × ℕ × ℕ)) → List M → List ℕ → Result (Vec S A) E
     → List S → AnsState → Type 0
-GivesExport w s precision table models words result symbols state =
+ReturnsExported w s precision table models words result symbols state =
     EncodesPairs w s precision table symbols models empty state → words ≡ exported w state
-    → GivesBack models symbols result
+    → ReturnsSymbols models symbols result
 
 -- A call undid an export of some symbols onto a valid state: it returned the symbols, and a coder in that state.
 abbrev pub UndoesExport : {S M A B E : Type 0} → ℕ → ℕ → ℕ → (M → List (S × ℕ × ℕ)) → List M → List ℕ
     → Result (Vec S A × AnsValue B) E → Type 0
-UndoesExport {S} w s precision table models words result = (symbols : List S) (old : AnsState) → IsValid w s old
+UndoesExport {S} w s precision table models words result = (symbols : List S) (old : AnsState) → IsNormalized w s old
     → ExportsAll w s (reverse (pairs_of precision table symbols models)) old words
-    → GivesBackWithOne models symbols result (λ coder. coder.state ≡ old)
+    → ReturnsSymbolsWithOne models symbols result (λ coder. coder.state ≡ old)
 
 -- Encodes of symbols, each under its own model, from the last to the first, lead from one coder to another.
 abbrev pub PushesPairs : {S M B : Type 0} → ℕ → ℕ → ℕ → (M → List (S × ℕ × ℕ)) → List S → List M → AnsValue B

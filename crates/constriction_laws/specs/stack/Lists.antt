@@ -5,7 +5,7 @@ use Rattle.constriction_base.specs.Models.{Item, Model, IsModel, AreModels, mode
 use Rattle.constriction_base.specs.Steps.{Step, InTurn, AreSteps, AreWords, IsSizes}
 use Rattle.constriction_base.specs.Tables.{IsTable}
 use Rattle.constriction_base.specs.Writing.{IsOneAbove}
-use Rattle.constriction_stack.specs.Ans.{AnsState, AnsValue, IsPush, IsValid, empty, filled}
+use Rattle.constriction_stack.specs.Ans.{AnsState, AnsValue, IsPush, IsNormalized, empty, filled}
 use Rattle.constriction_stack.specs.Binary.{binary_state, binary_words}
 use Rattle.constriction_stack.specs.Positions.{position_of, sought}
 use Rattle.constriction_stack.specs.Symbols.{Decodes, DecodesAll, EncodesAll}
@@ -23,16 +23,16 @@ AfterTwo w s before since start middle last holds =
 -- Behind a decode under a lawful model, from a valid state, this holds.
 abbrev pub AfterDecode : {S : Type 0} → ℕ → ℕ → Model S → S → AnsState → AnsState → Type 0 → Type 0
 AfterDecode w s model symbol old new holds =
-    IsSizes w s → IsModel w model → IsValid w s old → Decodes w s model symbol old new → holds
+    IsSizes w s → IsModel w model → IsNormalized w s old → Decodes w s model symbol old new → holds
 
 -- Behind decodes of items under lawful models, from a valid state, this holds.
 abbrev pub AfterDecodes : {S : Type 0} → ℕ → ℕ → List (Item S) → AnsState → AnsState → Type 0 → Type 0
 AfterDecodes w s items old new holds =
-    IsSizes w s → AreModels w items → IsValid w s old → DecodesAll w s items old new → holds
+    IsSizes w s → AreModels w items → IsNormalized w s old → DecodesAll w s items old new → holds
 
 -- From a valid state, with lawful steps, this holds.
-abbrev pub FromValid : ℕ → ℕ → List Step → AnsState → Type 0 → Type 0
-FromValid w s steps old holds = IsSizes w s → AreSteps w steps → IsValid w s old → holds
+abbrev pub FromNormalized : ℕ → ℕ → List Step → AnsState → Type 0 → Type 0
+FromNormalized w s steps old holds = IsSizes w s → AreSteps w steps → IsNormalized w s old → holds
 
 -- If others have the models of the items in reverse order, they are the items in reverse order, and this holds.
 abbrev pub AreReversed : {S : Type 0} → List (Item S) → List (Item S) → Type 0 → Type 0

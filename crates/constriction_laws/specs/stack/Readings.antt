@@ -8,13 +8,13 @@ use Rattle.constriction_stack.specs.Binary.{BinaryFilledBy}
 use Rattle.constriction_stack.specs.Imports.{FilledBy, ImportRefused}
 use Rattle.constriction_stack.specs.Ans.{AnsState, AnsValue, IsNext, RefillsBy, empty, popped_head}
 use Rattle.constriction_laws.specs.Outcomes.{IfItems}
-use Rattle.constriction_laws.specs.Readings.{TellsItems, TellsWords}
-use Rattle.constriction_laws.specs.stack.Exporting.{ExportsAll, GivesExport}
+use Rattle.constriction_laws.specs.Readings.{ListsItems, ListsWords}
+use Rattle.constriction_laws.specs.stack.Exporting.{ExportsAll, ReturnsExported}
 use Rattle.constriction_laws.specs.stack.Lists.{AreReversed, HoldsItems}
 
 -- The state of a coder over a backend whose words the function `words` lists.
-abbrev pub told : {W B : Type 0} → (W → ℕ) → (B → List W) → AnsValue B → AnsState
-told number words coder = record { head = coder.state.head; words = map number (words coder.backend) }
+abbrev pub state_by_words : {W B : Type 0} → (W → ℕ) → (B → List W) → AnsValue B → AnsState
+state_by_words number words coder = record { head = coder.state.head; words = map number (words coder.backend) }
 
 -- A decode of the symbol by reads: its entry holds the head's quantile, and reads refill the head after the pop.
 abbrev pub DecodesBy : {S W E B : Type 0} → (W → ℕ) → (B → Result (Option W) E → B → Type 0) → ℕ → ℕ → Model S → S → AnsValue B → AnsValue B → Type 0
@@ -41,8 +41,8 @@ DecodesFromBinary {B = B} number reads w s given items last =
 
 -- The function `words` lists the words that reads return. For the backend `given`, an empty coder exports these words
 -- after encoding the items.
-abbrev pub TellsExport : {S W E B : Type 0} → (W → ℕ) → (B → Result (Option W) E → B → Type 0) → (B → List W) → ℕ → ℕ → List (Item S) → B → Type 0
-TellsExport number reads words w s items given = TellsWords reads words × ExportsAll w s items empty (map number (words given))
+abbrev pub ListsExport : {S W E B : Type 0} → (W → ℕ) → (B → Result (Option W) E → B → Type 0) → (B → List W) → ℕ → ℕ → List (Item S) → B → Type 0
+ListsExport number reads words w s items given = ListsWords reads words × ExportsAll w s items empty (map number (words given))
 
 -- Decodes of the items by reads from an iterator, behind an import from it.
 abbrev pub DecodesFromIterator : {S W E I : Type 0} → (W → ℕ) → (I → Option (Result W E) → I → Type 0) → ℕ → ℕ → I
@@ -60,21 +60,21 @@ IteratorRefused {I = I} number gives w s given =
 abbrev pub ComeBackByReads : {S W E B : Type 0} → (W → ℕ) → (B → Result (Option W) E → B → Type 0) → (B → List W) → ℕ
     → ℕ → List (Item S) → List (Item S) → B → AnsValue B → Type 0
 ComeBackByReads number reads words w s items others given last =
-    TellsExport number reads words w s items given → DecodesFrom number reads w s given others last
-    → AreReversed items others (told number words last ≡ empty)
+    ListsExport number reads words w s items given → DecodesFrom number reads w s given others last
+    → AreReversed items others (state_by_words number words last ≡ empty)
 
 -- Whatever function tells the words of the iterator, the symbols that a call returned are decoded from an import of
 -- them.
-abbrev pub HoldsTold : {S M W E A F I : Type 0} → (W → ℕ) → (I → Option (Result W E) → I → Type 0) → ℕ → ℕ → ℕ
+abbrev pub HoldsListed : {S M W E A F I : Type 0} → (W → ℕ) → (I → Option (Result W E) → I → Type 0) → ℕ → ℕ → ℕ
     → (M → List (S × ℕ × ℕ)) → List M → I → Result (Vec S A) F → Type 0
-HoldsTold {W = W} {I = I} number gives w s precision table models given result =
-    (words : I → List W) → TellsItems gives words
+HoldsListed {W = W} {I = I} number gives w s precision table models given result =
+    (words : I → List W) → ListsItems gives words
     → IfItems precision table models result (HoldsItems w s (map number (words given)))
 
 -- Whatever function tells the words of the iterator, a call returned the symbols if the words are those of their
 -- encodes from an empty coder.
-abbrev pub GivesTold : {S M W E A F I : Type 0} → (W → ℕ) → (I → Option (Result W E) → I → Type 0) → ℕ → ℕ → ℕ
+abbrev pub ReturnsListed : {S M W E A F I : Type 0} → (W → ℕ) → (I → Option (Result W E) → I → Type 0) → ℕ → ℕ → ℕ
     → (M → List (S × ℕ × ℕ)) → List M → I → Result (Vec S A) F → Type 0
-GivesTold {S = S} {W = W} {I = I} number gives w s precision table models given result =
+ReturnsListed {S = S} {W = W} {I = I} number gives w s precision table models given result =
     (words : I → List W) (symbols : List S) (state : AnsState)
-    → TellsItems gives words → GivesExport w s precision table models (map number (words given)) result symbols state
+    → ListsItems gives words → ReturnsExported w s precision table models (map number (words given)) result symbols state

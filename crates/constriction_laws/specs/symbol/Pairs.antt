@@ -33,9 +33,9 @@ PairsNotStacked w number writes codeword wants gives symbols codebooks old e new
 
 -- Symbols whose codewords are unread, each under its own codebook: the call returned them, and the bits behind them are
 -- unread.
-abbrev pub GivesWritten : {I A K S E : Type 0} → (K → S → Option (List Bool)) → (K → S → S → Type 0) → (I → List Bool)
+abbrev pub ReturnsWritten : {I A K S E : Type 0} → (K → S → Option (List Bool)) → (K → S → S → Type 0) → (I → List Bool)
     → List K → I → Result (Vec S A) E → I → Type 0
-GivesWritten {S = S} codeword same unread codebooks old result new = (symbols : List S) (code rest : List Bool)
+ReturnsWritten {S = S} codeword same unread codebooks old result new = (symbols : List S) (code rest : List Bool)
     → length symbols ≡ length codebooks → AreCodewordsBy codeword codebooks symbols code → unread old ≡ code ++ rest
     → IfOk result (λ again. AreSameBy same codebooks again.items symbols × (unread new ≡ rest))
 

@@ -36,8 +36,8 @@ SymbolNotWritten {C = C} stops codeword has writes (Backend e) new =
     stops (λ item code. (mid : C) × has mid code × writes mid item (Err (Backend e)) new)
 
 -- The bits don't begin with the codewords of any `amt` symbols.
-abbrev pub BeginsWithNone : {S : Type 0} → (S → Option (List Bool)) → ℕ → List Bool → Type 0
-BeginsWithNone {S} codeword amt bits =
+abbrev pub NoCodewordsBegin : {S : Type 0} → (S → Option (List Bool)) → ℕ → List Bool → Type 0
+NoCodewordsBegin {S} codeword amt bits =
     (symbols : List S) (code rest : List Bool) → AreCodewords codeword symbols code → bits ≡ code ++ rest
     → amt ≡ length symbols → ⊥
 

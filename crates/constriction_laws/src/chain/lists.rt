@@ -6,9 +6,9 @@
 ghost use Rattle.std.specs.Prelude.{◌≡◌, ℕ, List, reverse, ⊤};
 ghost use Rattle.constriction_base.specs.Models.{Item};
 ghost use Rattle.constriction_chain.specs.Chain.{ChainState, IsChain};
-ghost use Rattle.constriction_chain.specs.Symbols.{TakesOff, TakesOffAll, PutsBack, PutsBackAll};
+ghost use Rattle.constriction_chain.specs.Symbols.{ChainDecodesOne, ChainDecodesAll, ChainEncodesOne, ChainEncodesAll};
 ghost use Rattle.constriction_chain.specs.Symbols.{IsModelAt};
-ghost use Rattle.constriction_laws.specs.chain.Lists.{AfterTakeOff};
+ghost use Rattle.constriction_laws.specs.chain.Lists.{AfterChainDecodes};
 ghost use Rattle.constriction_laws.specs.chain.Undone.{Sizes, decode_back, encode_back, decoded_at};
 
 use crate::lists::{StepsUndo, lists_undo};
@@ -32,9 +32,9 @@ impl<Symbol> StepsUndo for Encoding<Symbol> {
 
     ghost valid = { λ sizes state. ⊤ };
 
-    ghost does = { λ sizes item old new. PutsBack sizes.0 sizes.1 item.model item.symbol old new };
+    ghost does = { λ sizes item old new. ChainEncodesOne sizes.0 sizes.1 item.model item.symbol old new };
 
-    ghost undoes = { λ sizes item old new. TakesOff sizes.0 sizes.1 item.model item.symbol old new };
+    ghost undoes = { λ sizes item old new. ChainDecodesOne sizes.0 sizes.1 item.model item.symbol old new };
 
     ghost one_undone = { λ sizes item old new allowed valid does.
         (decode_back sizes.0 sizes.1 item.model item.symbol old new does, tt) };
@@ -58,9 +58,9 @@ impl<Symbol> StepsUndo for Decoding<Symbol> {
 
     ghost valid = { λ sizes state. IsChain sizes.w sizes.s sizes.P state };
 
-    ghost does = { λ sizes item old new. TakesOff sizes.w sizes.s item.model item.symbol old new };
+    ghost does = { λ sizes item old new. ChainDecodesOne sizes.w sizes.s item.model item.symbol old new };
 
-    ghost undoes = { λ sizes item old new. PutsBack sizes.w sizes.s item.model item.symbol old new };
+    ghost undoes = { λ sizes item old new. ChainEncodesOne sizes.w sizes.s item.model item.symbol old new };
 
     ghost one_undone = { λ sizes item old new allowed valid does. (
       encode_back sizes.w sizes.s sizes.P item.model item.symbol old new sizes.are allowed valid does,
@@ -73,7 +73,7 @@ impl<Symbol> StepsUndo for Decoding<Symbol> {
 /// The decodes return the same symbols, last symbol first, and lead to the state before the encodes.
 pub fn decodes_undo_encodes<Symbol>()
     ensures { (w s : ℕ) (items : List (Item Symbol)) (old new : ChainState) →
-        PutsBackAll w s items old new → TakesOffAll w s (reverse items) new old }
+        ChainEncodesAll w s items old new → ChainDecodesAll w s (reverse items) new old }
 {
     lists_undo::<Encoding<Symbol>>()
 }
@@ -82,11 +82,14 @@ pub fn decodes_undo_encodes<Symbol>()
 ///
 /// The encodes lead to exactly one state: the state before the decodes.
 pub fn encodes_undo_decodes<Symbol>()
-    ensures back { (w s P : ℕ) (items : List (Item Symbol)) (old new : ChainState) → AfterTakeOff w s P items old new
-        (PutsBackAll w s (reverse items) new old) }
-    ensures only { (w s P : ℕ) (items : List (Item Symbol)) (old new last : ChainState) → AfterTakeOff w s P items old
-        new (PutsBackAll w s (reverse items) new last → last ≡ old) }
-    ensures valid { (w s P : ℕ) (items : List (Item Symbol)) (old new : ChainState) → AfterTakeOff w s P items old new
+    ensures back { (w s P : ℕ) (items : List (Item Symbol)) (old new : ChainState) → AfterChainDecodes w s P items old
+        new
+        (ChainEncodesAll w s (reverse items) new old) }
+    ensures only { (w s P : ℕ) (items : List (Item Symbol)) (old new last : ChainState) → AfterChainDecodes w s P items
+        old
+        new (ChainEncodesAll w s (reverse items) new last → last ≡ old) }
+    ensures valid { (w s P : ℕ) (items : List (Item Symbol)) (old new : ChainState) → AfterChainDecodes w s P items old
+        new
         (IsChain w s P new) }
 {
     lists_undo::<Decoding<Symbol>>()

@@ -8,7 +8,7 @@ ghost use Rattle.constriction_laws.specs.chain.Endings.{BeginInBinary};
 ghost use Rattle.constriction_laws.specs.chain.Lists.{CanBePutBack, ComeBackOver};
 ghost use Rattle.constriction_chain.specs.Imports.{FromBinary, FromCompressed, FromRemainders, IsWhole};
 ghost use Rattle.constriction_chain.specs.Imports.{compressed_words};
-ghost use Rattle.constriction_chain.specs.Symbols.{AreModelsAt, TakesOffAll};
+ghost use Rattle.constriction_chain.specs.Symbols.{AreModelsAt, ChainDecodesAll};
 ghost use Rattle.constriction_base.specs.Writing.{IsOneAbove};
 
 /// Importing a list of words leads to at most one state.
@@ -40,7 +40,8 @@ pub fn one_coder()
 /// the remainders are the list `below`. The clause `encoded` says that steps 4 and 5 are always possible.
 pub fn words_come_back<Symbol>()
     ensures encoded { (w s P : ℕ) (below : List ℕ) (items : List (Item Symbol)) (x y : ChainState) → IsSized w s P →
-        AreModelsAt P items → AreWords w below → IsWhole w s P x → TakesOffAll w s items x y → CanBePutBack w s P items
+        AreModelsAt P items → AreWords w below → IsWhole w s P x → ChainDecodesAll w s items x y → CanBePutBack w s P
+        items
         below y }
     ensures compressed { (w s P : ℕ) (words below : List ℕ) (items : List (Item Symbol)) (x y z last : ChainState) →
         ComeBackOver w s P items below (FromCompressed w s P words x) x y z last (words ≡ compressed_words w last ++

@@ -5,7 +5,7 @@ ghost use Rattle.constriction_base.specs.Models.{Model, IsModel};
 ghost use Rattle.constriction_base.specs.Steps.{IsSizes, AreWords};
 ghost use Rattle.constriction_queue.specs.Flagged.{flagged};
 ghost use Rattle.constriction_laws.specs.Outcomes.{model_at};
-ghost use Rattle.constriction_laws.specs.queue.Flagging.{HoldNoneFlagged, ReadsFlagged, StepsFlagged};
+ghost use Rattle.constriction_laws.specs.queue.Flagging.{NoListFlagged, ReadsFlagged, StepsFlagged};
 ghost use Rattle.constriction_laws.specs.queue.Lists.{AreFoundAlike, AreReadBefore};
 ghost use Rattle.constriction_queue.specs.Range.{Run};
 
@@ -79,7 +79,7 @@ where
     ensures steps { StepsFlagged Word.number Backend.Holds Backend.ReadWords.own Word.BITS State.BITS (model_at P1
         (M1.table first.now)) (model_at P2 (M2.table second.now)) amt switch.old result switch.new }
     ensures flag { switch.new.flag ≡ switch.old.flag }
-    ensures err { Backend.is_list → HoldNoneFlagged Word.BITS State.BITS (model_at P1 (M1.table first.now)) (model_at P2
+    ensures err { Backend.is_list → NoListFlagged Word.BITS State.BITS (model_at P1 (M1.table first.now)) (model_at P2
         (M2.table second.now)) amt switch.old result }
 {
     let mut symbols = Vec::new(alloc);

@@ -14,7 +14,7 @@ ghost use Rattle.constriction_base.specs.Steps.{IsSizes, AreWords};
 ghost use Rattle.constriction_queue.specs.Range.{Run, IsInterval, Within, sealed, initial};
 ghost use Rattle.constriction_queue.specs.Symbols.{Finds, NarrowsAll, FindsAll, MayEnd};
 ghost use Rattle.constriction_laws.specs.queue.Lists.{AfterNarrows, FromInterval, IsOneRead, WithinEncodes};
-ghost use Rattle.constriction_laws.specs.queue.Undone.{Reading, TakesBack, read_back};
+ghost use Rattle.constriction_laws.specs.queue.Undone.{Reading, UndoesEncode, read_back};
 
 use crate::lists::{StepsUndo, lists_undo};
 use std::marker::PhantomData;
@@ -37,7 +37,7 @@ impl<Symbol> StepsUndo for Encoding<Symbol> {
 
     ghost valid = { λ g r. Within g.w g.s g.words r };
 
-    ghost does = { λ g item new old. TakesBack g.w g.s item new old };
+    ghost does = { λ g item new old. UndoesEncode g.w g.s item new old };
 
     ghost undoes = { λ g item old new. Finds g.w g.s g.words item.model item.symbol old new };
 

@@ -5,7 +5,7 @@
 
 ghost use Rattle.std.specs.Prelude.{◌≡◌, ◌≤◌, ℕ, List};
 ghost use Rattle.constriction_base.specs.Steps.{IsSizes, AreWords};
-ghost use Rattle.constriction_stack.specs.Ans.{AnsState, IsValid};
+ghost use Rattle.constriction_stack.specs.Ans.{AnsState, IsNormalized};
 ghost use Rattle.constriction_base.specs.Writing.{IsOneAbove};
 ghost use Rattle.constriction_stack.specs.Binary.{binary_state, binary_words};
 ghost use Rattle.constriction_base.specs.Models.{Item};
@@ -18,15 +18,15 @@ pub fn binary_export_of_import()
     ensures words { (w s : ℕ) (words : List ℕ) → IsSizes w s → AreWords w words → IsBinaryForm w (binary_state w s
         words) words }
     ensures valid { (w s : ℕ) (words : List ℕ) → IsSizes w s → AreWords w words →
-        IsValid w s (binary_state w s words) }
+        IsNormalized w s (binary_state w s words) }
 {}
 
 /// Importing the binary form of a valid state restores that state.
 pub fn binary_import_of_export()
-    ensures state { (w s m : ℕ) (state : AnsState) → IsSizes w s → IsValid w s state →
+    ensures state { (w s m : ℕ) (state : AnsState) → IsSizes w s → IsNormalized w s state →
         IsOneAbove w m state.head →
         binary_state w s (binary_words w m state) ≡ state }
-    ensures words { (w s m : ℕ) (state : AnsState) → IsSizes w s → IsValid w s state →
+    ensures words { (w s m : ℕ) (state : AnsState) → IsSizes w s → IsNormalized w s state →
         AreWords w (binary_words w m state) }
 {}
 

@@ -7,7 +7,7 @@
 ghost use Rattle.std.specs.Prelude.{◌≡◌, ℕ};
 ghost use Rattle.constriction_base.specs.Digits.{count_of_words};
 ghost use Rattle.constriction_base.specs.Steps.{IsSizes};
-ghost use Rattle.constriction_stack.specs.Ans.{AnsState, IsValid, exported, filled};
+ghost use Rattle.constriction_stack.specs.Ans.{AnsState, IsNormalized, exported, filled};
 ghost use Rattle.constriction_base.specs.Writing.{IsOneAbove};
 ghost use Rattle.constriction_stack.specs.Binary.{binary_state, binary_words};
 ghost use Rattle.constriction_stack.specs.Guards.{without};
@@ -18,9 +18,11 @@ ghost use Rattle.constriction_laws.specs.stack.Lists.{with_words};
 /// The clause `compressed` is about a guard that lends the exported words. The clause `binary` is about a guard that
 /// lends the binary form.
 pub fn shown_words_are_exported()
-    ensures compressed { (w s : ℕ) (state shown : AnsState) → IsSizes w s → IsValid w s state → shown ≡ with_words state
+    ensures compressed { (w s : ℕ) (state shown : AnsState) → IsSizes w s → IsNormalized w s state → shown ≡ with_words
+        state
         (exported w state) → filled w s 0 shown.words ≡ state }
-    ensures binary { (w s m : ℕ) (state shown : AnsState) → IsSizes w s → IsValid w s state → IsOneAbove w m state.head
+    ensures binary { (w s m : ℕ) (state shown : AnsState) → IsSizes w s → IsNormalized w s state → IsOneAbove w m
+        state.head
         → shown ≡ with_words state (binary_words w m state) → binary_state w s shown.words ≡ state }
 {}
 

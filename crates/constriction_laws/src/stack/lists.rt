@@ -6,11 +6,11 @@
 ghost use Rattle.std.specs.Prelude.{◌≡◌, ℕ, List, reverse, ⊤};
 ghost use Rattle.constriction_base.specs.Readings.{BeginsHigh};
 ghost use Rattle.constriction_base.specs.Steps.{Step, InTurn, IsSizes, AreSteps, AreWords};
-ghost use Rattle.constriction_stack.specs.Ans.{AnsState, IsValid, IsPop, filled, exported, empty};
+ghost use Rattle.constriction_stack.specs.Ans.{AnsState, IsNormalized, IsPop, filled, exported, empty};
 ghost use Rattle.constriction_base.specs.Models.{Item, IsModel, AreModels, AreKnown};
 ghost use Rattle.constriction_stack.specs.Symbols.{Encodes, Decodes, EncodesAll, DecodesAll};
 ghost use Rattle.constriction_laws.specs.Outcomes.{AreOne};
-ghost use Rattle.constriction_laws.specs.stack.Lists.{AfterDecodes, AfterEncodes, DecodesWords, FromEmpty, FromValid};
+ghost use Rattle.constriction_laws.specs.stack.Lists.{AfterDecodes, AfterEncodes, DecodesWords, FromEmpty, FromNormalized};
 ghost use Rattle.constriction_laws.specs.stack.Lists.{IsOneWayBack, Pushes};
 ghost use Rattle.constriction_laws.specs.stack.Undone.{Sizes, decode_back, encode_back, decoded_valid};
 
@@ -61,7 +61,7 @@ impl<Symbol> StepsUndo for Decoding<Symbol> {
 
     ghost allowed = { λ sizes item. IsModel sizes.w item.model };
 
-    ghost valid = { λ sizes state. IsValid sizes.w sizes.s state };
+    ghost valid = { λ sizes state. IsNormalized sizes.w sizes.s state };
 
     ghost does = { λ sizes item old new. Decodes sizes.w sizes.s item.model item.symbol old new };
 
@@ -76,8 +76,8 @@ impl<Symbol> StepsUndo for Decoding<Symbol> {
 /// Symbols with entries in their tables can be encoded onto each valid state in exactly one way.
 pub fn one_list_of_encodes<Symbol>()
     ensures exists { (w s : ℕ) (items : List (Item Symbol)) (old : AnsState) →
-        IsSizes w s → AreModels w items → AreKnown items → IsValid w s old →
-        (new : AnsState) × EncodesAll w s items old new × IsValid w s new }
+        IsSizes w s → AreModels w items → AreKnown items → IsNormalized w s old →
+        (new : AnsState) × EncodesAll w s items old new × IsNormalized w s new }
     ensures unique { (w s : ℕ) (items : List (Item Symbol)) (old new other : AnsState) → AfterEncodes w s items old new
         (EncodesAll w s items old other → new ≡ other) }
 {}
@@ -103,7 +103,7 @@ pub fn encodes_undo_decodes<Symbol>()
     ensures only { (w s : ℕ) (items : List (Item Symbol)) (old new last : AnsState) → AfterDecodes w s items old new
         (EncodesAll w s (reverse items) new last → last ≡ old) }
     ensures valid { (w s : ℕ) (items : List (Item Symbol)) (old new : AnsState) → AfterDecodes w s items old new
-        (IsValid w s new) }
+        (IsNormalized w s new) }
 {
     lists_undo::<Decoding<Symbol>>()
 }
@@ -144,12 +144,14 @@ pub fn words_come_back<Symbol>()
 /// A step consists of the precision of a table and the interval of a symbol. Pushes undo pops that start from a valid
 /// state. A list of steps can be pushed onto each valid state in exactly one way.
 pub fn lists_of_entries_undo()
-    ensures pushes { (w s : ℕ) (steps : List Step) (old : AnsState) → FromValid w s steps old ((new : AnsState) × Pushes
-        w s steps old new × IsValid w s new) }
+    ensures pushes { (w s : ℕ) (steps : List Step) (old : AnsState) → FromNormalized w s steps old
+        ((new : AnsState) × Pushes
+        w s steps old new × IsNormalized w s new) }
     ensures only { (w s : ℕ) (steps : List Step) (old new other : AnsState) → IsSizes w s → AreSteps w steps → AreOne
         (Pushes w s steps old) new other }
     ensures pops_undo { (w s : ℕ) (steps : List Step) (old new : AnsState) → Pushes w s steps old new → InTurn (IsPop w
         s) (reverse steps) new old }
-    ensures pushes_undo { (w s : ℕ) (steps : List Step) (old new : AnsState) → FromValid w s steps old (InTurn (IsPop w
+    ensures pushes_undo { (w s : ℕ) (steps : List Step) (old new : AnsState) → FromNormalized w s steps old
+        (InTurn (IsPop w
         s) steps old new → Pushes w s (reverse steps) new old) }
 {}

@@ -6,7 +6,7 @@
 ghost use Rattle.std.specs.Prelude.{◌≡◌, ◌≤◌, ℕ, List, length, reverse};
 ghost use Rattle.constriction_laws.specs.stack.Lists.{AddsOneAtMost, AfterEncodes, AfterTwo, DecodesBack, IsOneWayBack};
 ghost use Rattle.constriction_base.specs.Steps.{Step, IsSizes, IsStep};
-ghost use Rattle.constriction_stack.specs.Ans.{AnsState, IsValid, IsPush, filled, exported};
+ghost use Rattle.constriction_stack.specs.Ans.{AnsState, IsNormalized, IsPush, filled, exported};
 ghost use Rattle.constriction_stack.specs.Positions.{position_of, sought, Grows};
 ghost use Rattle.constriction_base.specs.Models.{Item, AreModels};
 
@@ -43,7 +43,7 @@ pub fn symbols_before_a_position<Symbol>()
         → AreModels w before → AreModels w since → AfterTwo w s before since start middle last (IsOneWayBack w s before
         others (sought (position_of middle) last) end start) }
     ensures imported { (w s : ℕ) (before since : List (Item Symbol)) (start middle last : AnsState) → IsSizes w s →
-        IsValid w s start → AfterTwo w s before since start middle last (filled w s 0 (exported w last) ≡ last) }
+        IsNormalized w s start → AfterTwo w s before since start middle last (filled w s 0 (exported w last) ≡ last) }
 {
     decodes_undo_encodes::<Symbol>()
 }

@@ -8,8 +8,8 @@ ghost use Rattle.std.specs.Prelude.{ℕ, List};
 ghost use Rattle.constriction_base.specs.Iterators.{FusedRead};
 ghost use Rattle.constriction_base.specs.Steps.{IsSizes};
 ghost use Rattle.constriction_stack.specs.Ans.{AnsValue};
-ghost use Rattle.constriction_laws.specs.Readings.{TellsWords, TellsItems, words_left};
-ghost use Rattle.constriction_laws.specs.stack.Readings.{told, ComeBackByReads, DecodesBy, DecodesAllBy};
+ghost use Rattle.constriction_laws.specs.Readings.{ListsWords, ListsItems, words_left};
+ghost use Rattle.constriction_laws.specs.stack.Readings.{state_by_words, ComeBackByReads, DecodesBy, DecodesAllBy};
 ghost use Rattle.constriction_base.specs.Models.{Model, Item, AreModels};
 ghost use Rattle.constriction_stack.specs.Symbols.{Decodes, DecodesAll};
 
@@ -23,8 +23,8 @@ use constriction_words::BitArray;
 /// The function `words` lists the words that an iterator will return. The function `words_left words` lists the words
 /// of a backend over that iterator. If the iterator has ended, this list is empty.
 pub fn items_are_words<Word, ReadError, Iter: Iterator<Item = Result<Word, ReadError>>>()
-    ensures { (words : Iter → List Word) → TellsItems Iter.next_gives words →
-        TellsWords (FusedRead Iter.next_gives) (words_left words) }
+    ensures { (words : Iter → List Word) → ListsItems Iter.next_gives words →
+        ListsWords (FusedRead Iter.next_gives) (words_left words) }
 {}
 
 /// If `words` lists the words of a backend, decoding from the backend equals decoding from that list.
@@ -32,13 +32,13 @@ pub fn items_are_words<Word, ReadError, Iter: Iterator<Item = Result<Word, ReadE
 /// Both decodes return the same symbols, and leave the same head and words.
 pub fn decodes_are_words<Symbol, Word: BitArray, Backend: ReadWords<Word, Stack>>()
     ensures one { (words : Backend → List Word) (w s : ℕ) (model : Model Symbol) (symbol : Symbol)
-        (old new : AnsValue Backend) → TellsWords Backend.reads words →
+        (old new : AnsValue Backend) → ListsWords Backend.reads words →
         DecodesBy Word.number Backend.reads w s model symbol old new →
-        Decodes w s model symbol (told Word.number words old) (told Word.number words new) }
+        Decodes w s model symbol (state_by_words Word.number words old) (state_by_words Word.number words new) }
     ensures all { (words : Backend → List Word) (w s : ℕ) (items : List (Item Symbol)) (old new : AnsValue Backend) →
-        TellsWords Backend.reads words →
+        ListsWords Backend.reads words →
         DecodesAllBy Word.number Backend.reads w s items old new →
-        DecodesAll w s items (told Word.number words old) (told Word.number words new) }
+        DecodesAll w s items (state_by_words Word.number words old) (state_by_words Word.number words new) }
 {
     reads_are_words::<Word, Backend>()
 }

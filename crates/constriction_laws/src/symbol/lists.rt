@@ -3,7 +3,7 @@
 ghost use Rattle.constriction_base.specs.declared.errors.CoderError.TheVariants.{Frontend};
 ghost use Rattle.constriction_laws.specs.declared.errors.Stopped.TheVariants.{Refused};
 ghost use Rattle.constriction_symbol.specs.declared.codebooks.SymbolCodeError.{SymbolCodeError};
-ghost use Rattle.constriction_laws.specs.symbol.Refusals.{BeginsWithNone};
+ghost use Rattle.constriction_laws.specs.symbol.Refusals.{NoCodewordsBegin};
 ghost use Rattle.constriction_laws.specs.symbol.Pairs.{ComeBackUnder, ComeBackUnderEach, StopsUnder};
 ghost use Rattle.std.specs.Prelude.{Bool, List, ◌++◌, ◌≡◌, ℕ};
 
@@ -41,5 +41,5 @@ pub fn refused_where_none_begin<S: Semantics, R: ReadBitStream<S>, C: DecoderCod
     requires { R.is_list }
     ensures { (codebook : C) (amt : ℕ) (bits tail : List Bool) (old new : R) (e : SymbolCodeError C.InvalidCodeword) →
         R.unread old ≡ bits ++ tail → StopsUnder R.gives C.codeword C.reads_on C.is_invalid codebook amt old (Refused
-        (Frontend e)) new → BeginsWithNone (C.codeword codebook) amt bits }
+        (Frontend e)) new → NoCodewordsBegin (C.codeword codebook) amt bits }
 {}

@@ -169,11 +169,12 @@ pub struct RangeCompressedIter<'a, Word: BitArray> {
 
 impl<'a, Word: BitArray> Model for RangeCompressedIter<'a, Word> {
     ghost use Rattle.std.specs.Prelude.{◌++◌, ◌+◌, ◌<◌, ◌^◌, ℕ, List, map, length};
-    ghost use Rattle.constriction_queue.specs.Encoder.{first_owed, released_of};
+    ghost use Rattle.constriction_queue.specs.Encoder.{flushed_in_order, released_of};
 
     ghost Value = { List ℕ };
 
-    ghost view = { λ i. map Word.number i.below.now ++ first_owed Word.number i.seal.held i.seal.point i.seal.zero };
+    ghost view = { λ i. map Word.number i.below.now ++ flushed_in_order Word.number i.seal.held i.seal.point i.seal.zero
+        };
 
     ghost invariant = { λ _. Unit {0} };
 }

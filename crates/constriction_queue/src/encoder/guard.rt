@@ -7,7 +7,7 @@ ghost use Rattle.std.specs.Prelude.{◌≡◌, ◌+◌, ◌<◌, drop, length, m
 ghost use Rattle.std.specs.Borrow.{sem, RestsIfErr};
 ghost use Rattle.std.specs.contracts.vec.Vec.{the_row as vec_row};
 ghost use Rattle.constriction_queue.specs.Encoder.{HasHeads, IsEncoder, sealed_by};
-ghost use Rattle.constriction_queue.specs.Guarded.{SealLacksRoom};
+ghost use Rattle.constriction_queue.specs.Guarded.{TooShortForSeal};
 
 use crate::encoder::RangeEncoder;
 use crate::seal::sealing;
@@ -74,7 +74,7 @@ impl<Word: WordOf<State>, State: BitArray, A: Allocator> RangeEncoder<Word, Stat
         ensures kept { OnErr result (self.new.words ≡ self.old.words) }
         ensures coder { IsEncoder Word.number ⟦<Vec<Word, A> as Holds<Word, Stack>>⟧ Word.BITS State.BITS self.new }
         ensures room { OnErr result
-            (SealLacksRoom (⟦<Vec<Word, A> as WriteWords<Word>>⟧.room) Word.BITS State.BITS self.old) }
+            (TooShortForSeal (⟦<Vec<Word, A> as WriteWords<Word>>⟧.room) Word.BITS State.BITS self.old) }
     {
         let seal = sealing(self.state, self.situation);
         let count = owed_count(&seal.held, &seal.point, &seal.zero);
@@ -110,7 +110,7 @@ impl<Word: WordOf<State>, State: BitArray, A: Allocator> RangeEncoder<Word, Stat
         ensures back { IfOk result (λ g. drop (written g) (lender g).now.words ≡ self.old.words) }
         ensures heads { IfOk result (λ g. HasHeads self.old (lender g).now) }
         ensures room { OnErr result
-            (SealLacksRoom (⟦<Vec<Word, A> as WriteWords<Word>>⟧.room) Word.BITS State.BITS self.old) }
+            (TooShortForSeal (⟦<Vec<Word, A> as WriteWords<Word>>⟧.room) Word.BITS State.BITS self.old) }
         ensures* kept { sem 𝓛 (RestsIfErr (the_row Word.row State.row (vec_row Word.row A.row A.Allocator)
             Word.NonZero.row State.NonZero.row Word.BitArray State.BitArray ⟦<Vec<Word, A> as Holds<Word, Stack>>⟧)
             self.entry (λ g. (lender g).ghost_name) result

@@ -6,7 +6,7 @@
 ghost use Rattle.std.specs.Prelude.{◌≡◌, ◌+◌, ◌<◌, List, length, map, IfOk, OnErr};
 ghost use Rattle.std.specs.Fn.{FnOnceReturnsAt, FnOnceTakesAt};
 ghost use Rattle.constriction_queue.specs.Encoder.{HasHeads, IsEncoder, sealed_by};
-ghost use Rattle.constriction_queue.specs.Guarded.{SealLacksRoom};
+ghost use Rattle.constriction_queue.specs.Guarded.{TooShortForSeal};
 
 use crate::encoder::RangeEncoder;
 use constriction_base::backends::{Holds, Stack, WriteWords, take_back};
@@ -43,7 +43,7 @@ impl<Word: WordOf<State>, State: BitArray, A: Allocator> RangeEncoder<Word, Stat
         ensures coder { IsEncoder Word.number ⟦<Vec<Word, A> as Holds<Word, Stack>>⟧
             Word.BITS State.BITS self.new }
         ensures room { OnErr result
-            (SealLacksRoom (⟦<Vec<Word, A> as WriteWords<Word>>⟧.room) Word.BITS State.BITS self.old) }
+            (TooShortForSeal (⟦<Vec<Word, A> as WriteWords<Word>>⟧.room) Word.BITS State.BITS self.old) }
     {
         let count = self.put_seal()?;
         let answer = f(self.bulk.as_slice());

@@ -94,7 +94,7 @@ impl<'a, Word: WordOf<State>, State: BitArray, A: Allocator> IntoSeekReadWords<W
 }
 
 impl<Word: WordOf<State>, State: BitArray, A: Allocator> RangeEncoder<Word, State, Vec<Word, A>> {
-    ghost use Rattle.constriction_queue.specs.Guarded.{lender, written, SealLacksRoom};
+    ghost use Rattle.constriction_queue.specs.Guarded.{lender, written, TooShortForSeal};
 
     /// Borrows the encoder, and returns a decoder of the words that [`RangeEncoder::into_compressed`] would return.
     ///
@@ -130,7 +130,7 @@ impl<Word: WordOf<State>, State: BitArray, A: Allocator> RangeEncoder<Word, Stat
         ensures back { IfOk result (λ d. drop (written d.bulk.buf) (lender d.bulk.buf).now.words ≡ self.old.words) }
         ensures heads { IfOk result (λ d. HasHeads self.old (lender d.bulk.buf).now) }
         ensures room { OnErr result
-            (SealLacksRoom (⟦<Vec<Word, A> as WriteWords<Word>>⟧.room) Word.BITS State.BITS self.old) }
+            (TooShortForSeal (⟦<Vec<Word, A> as WriteWords<Word>>⟧.room) Word.BITS State.BITS self.old) }
     {
         let count = self.put_seal()?;
         let mut bulk = Cursor::new_at_write_beginning(EncoderGuard { inner: self, count });

@@ -8,7 +8,7 @@
 //! in contracts couldn't identify the coder that the guard borrows. The contract of `backend` states that the backend
 //! holds the coder's words, so a caller who decodes lent words needs no other contract.
 
-ghost use Rattle.constriction_base.specs.Readings.{NeverRefused, TakesUpTo};
+ghost use Rattle.constriction_base.specs.Readings.{NeverRefused, ReadsUpTo};
 ghost use Rattle.std.specs.Prelude.{◌≡◌, ◌↔◌, ◌^◌, ◌++◌, ℕ, drop, map, Ok, Err, IfOk, IfErr, OnOk};
 ghost use Rattle.std.specs.Borrow.{sem, RestsIfErr};
 ghost use Rattle.constriction_base.specs.Digits.{fixed_digits};
@@ -80,7 +80,7 @@ where
         ensures kept { (lent_back self.exit).now.state.head ≡ (lender self.entry).now.state.head }
         ensures back { NeverRefused Backend.reads →
             (lent_back self.exit).now.state ≡ without (written self.entry) (lender self.entry).now.state }
-        ensures reads { TakesUpTo Backend.reads (written self.entry)
+        ensures reads { ReadsUpTo Backend.reads (written self.entry)
             (lender self.entry).now.backend (lent_back self.exit).now.backend }
         ensures coder { IsCoder Word.number Backend.Holds Word.BITS State.BITS (lent_back self.exit).now }
     {

@@ -3,7 +3,7 @@
 //! The contracts require that the iterator ends and that its `next_back` may be called. They refer to `next_back`
 //! itself, so a caller needs no contract of the adapter `Rev`.
 
-ghost use Rattle.constriction_stream.specs.CoderLists.{EncodesEachPair, EncodesSymbols, GivesAtMostLeft, LowersLeft, TriesPairs};
+ghost use Rattle.constriction_stream.specs.CoderLists.{EncodesEachPair, EncodesSymbols, YieldsUpToLeft, LowersLeft, TriesPairs};
 
 use crate::coder::AnsCoder;
 use constriction_base::backends::{Holds, Stack, WriteWords};
@@ -37,7 +37,7 @@ impl<Word: WordOf<State>, State: BitArray, Backend: WriteWords<Word>> AnsCoder<
         S: Lent<M::Symbol> + Drop,
         I: IntoIterator<Item = (S, M)>,
         I::IntoIter: DoubleEndedIterator + Drop,
-        requires { GivesAtMostLeft ⟦<Self as Encode<PRECISION>>⟧ (I.into_iter_gives symbols_and_models)
+        requires { YieldsUpToLeft ⟦<Self as Encode<PRECISION>>⟧ (I.into_iter_gives symbols_and_models)
             I.IntoIter.can_next_back I.IntoIter.remaining self.old }
         ensures steps { EncodesEachPair ⟦<Self as Encode<PRECISION>>⟧ PRECISION M.table S.lent
             (I.into_iter_gives symbols_and_models) I.IntoIter.next_back_gives self.old result self.new }
@@ -66,7 +66,7 @@ impl<Word: WordOf<State>, State: BitArray, Backend: WriteWords<Word>> AnsCoder<
         S: Lent<M::Symbol> + Drop,
         I: IntoIterator<Item = Result<(S, M), E>>,
         I::IntoIter: DoubleEndedIterator + Drop,
-        requires { GivesAtMostLeft ⟦<Self as Encode<PRECISION>>⟧ (I.into_iter_gives symbols_and_models)
+        requires { YieldsUpToLeft ⟦<Self as Encode<PRECISION>>⟧ (I.into_iter_gives symbols_and_models)
             I.IntoIter.can_next_back I.IntoIter.remaining self.old }
         ensures steps { TriesPairs ⟦<Self as Encode<PRECISION>>⟧ PRECISION M.table S.lent
             (I.into_iter_gives symbols_and_models) I.IntoIter.next_back_gives self.old result self.new }
@@ -103,7 +103,7 @@ impl<Word: WordOf<State>, State: BitArray, Backend: WriteWords<Word>> AnsCoder<
         S: Lent<M::Symbol> + Drop,
         I: IntoIterator<Item = S>,
         I::IntoIter: DoubleEndedIterator + Drop,
-        requires { GivesAtMostLeft ⟦<Self as Encode<PRECISION>>⟧ (I.into_iter_gives symbols)
+        requires { YieldsUpToLeft ⟦<Self as Encode<PRECISION>>⟧ (I.into_iter_gives symbols)
             I.IntoIter.can_next_back I.IntoIter.remaining self.old }
         ensures steps { EncodesSymbols ⟦<Self as Encode<PRECISION>>⟧ PRECISION (M.table model) S.lent
             (I.into_iter_gives symbols) I.IntoIter.next_back_gives self.old result self.new }

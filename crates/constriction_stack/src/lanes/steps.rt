@@ -3,7 +3,7 @@
 ghost use Rattle.std.specs.Prelude.{◌≡◌, ◌+◌, ◌-◌, ◌^◌, ◌<◌, ◌≤◌, length, map, reverse, take, IfSome};
 ghost use Rattle.constriction_base.specs.Steps.{IsSizes, IsStep};
 ghost use Rattle.constriction_words.specs.Reciprocals.{IsReciprocalOf};
-ghost use Rattle.constriction_stack.specs.Ans.{IsPush, IsValid, refilled};
+ghost use Rattle.constriction_stack.specs.Ans.{IsPush, IsNormalized, refilled};
 ghost use Rattle.constriction_stack.specs.Lanes.{MakesRoom, lane};
 ghost use Rattle.constriction_stack.specs.Symbols.{Decodes};
 
@@ -98,7 +98,7 @@ pub fn encode_onto<Word: WordOf<State>, State: BitArray>(
     requires room { len < length words.old }
     requires reciprocal { IfSome reciprocal (λ r. IsReciprocalOf r (State.number p)) }
     requires step { IsStep Word.BITS record { precision = precision; left = State.number left; p = State.number p } }
-    ensures encoded { IsValid Word.BITS State.BITS (lane Word.number State.number head words.old len)
+    ensures encoded { IsNormalized Word.BITS State.BITS (lane Word.number State.number head words.old len)
         → IsPush Word.BITS State.BITS record { precision = precision; left = State.number left; p = State.number p }
         (lane Word.number State.number head words.old len)
         (lane Word.number State.number result.0 words.new result.1) }

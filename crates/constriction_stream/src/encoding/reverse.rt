@@ -1,7 +1,7 @@
 //! `EncodeReverse`, the trait of encoders that encode a list from the last symbol to the first.
 
 ghost use Rattle.constriction_stream.specs.Symbols.{EncodesSymbol, EncodesPair};
-ghost use Rattle.constriction_stream.specs.Lists.{StepsUntilFault, GivesAtMost, LowersByItems, TriesItem};
+ghost use Rattle.constriction_stream.specs.Lists.{StepsUntilFault, YieldsUpTo, LowersByItems, TriesItem};
 
 use crate::encoding::{Encode, Lent};
 use crate::errors::TryCodingError;
@@ -42,7 +42,7 @@ pub trait EncodeReverse<const PRECISION: usize>: Encode<PRECISION> {
         S: Lent<M::Symbol> + Drop,
         I: IntoIterator<Item = (S, M)>,
         I::IntoIter: DoubleEndedIterator + Drop,
-        requires { GivesAtMost (I.into_iter_gives symbols_and_models) I.IntoIter.can_next_back I.IntoIter.remaining
+        requires { YieldsUpTo (I.into_iter_gives symbols_and_models) I.IntoIter.can_next_back I.IntoIter.remaining
             Self.counts_symbols (Self.symbols_left self.old) }
         ensures steps { StepsUntilFault (EncodesPair Self.encodes Self.is_impossible_symbol PRECISION M.table S.lent)
             (I.into_iter_gives symbols_and_models) I.IntoIter.next_back_gives self.old result self.new }
@@ -81,7 +81,7 @@ pub trait EncodeReverse<const PRECISION: usize>: Encode<PRECISION> {
         S: Lent<M::Symbol> + Drop,
         I: IntoIterator<Item = Result<(S, M), E>>,
         I::IntoIter: DoubleEndedIterator + Drop,
-        requires { GivesAtMost (I.into_iter_gives symbols_and_models) I.IntoIter.can_next_back I.IntoIter.remaining
+        requires { YieldsUpTo (I.into_iter_gives symbols_and_models) I.IntoIter.can_next_back I.IntoIter.remaining
             Self.counts_symbols (Self.symbols_left self.old) }
         ensures steps { StepsUntilFault
             (TriesItem (EncodesPair Self.encodes Self.is_impossible_symbol PRECISION M.table S.lent))
@@ -130,7 +130,7 @@ pub trait EncodeReverse<const PRECISION: usize>: Encode<PRECISION> {
         S: Lent<M::Symbol> + Drop,
         I: IntoIterator<Item = S>,
         I::IntoIter: DoubleEndedIterator + Drop,
-        requires { GivesAtMost (I.into_iter_gives symbols) I.IntoIter.can_next_back I.IntoIter.remaining
+        requires { YieldsUpTo (I.into_iter_gives symbols) I.IntoIter.can_next_back I.IntoIter.remaining
             Self.counts_symbols (Self.symbols_left self.old) }
         ensures steps { StepsUntilFault (λ old symbol result new. EncodesSymbol Self.encodes Self.is_impossible_symbol
             PRECISION (M.table model) (S.lent symbol) old result new)

@@ -1,6 +1,6 @@
 //! Collects the weights for a Huffman tree from iterators.
 
-ghost use Rattle.constriction_symbol.specs.Merging.{GivesWeights, LendsWeights, StopsGiving, StopsLending};
+ghost use Rattle.constriction_symbol.specs.Merging.{YieldsWeights, LendsWeights, StopsGiving, StopsLending};
 ghost use Rattle.std.specs.Iterator.{IsFiniteIterable};
 ghost use Rattle.std.specs.Prelude.{IfErr, IfOk};
 
@@ -24,7 +24,7 @@ where
     I::IntoIter: Drop,
     requires { IsFiniteIterable I.into_iter_gives I.IntoIter.can_next I.IntoIter.remaining probabilities }
     ensures ok { IfOk result (λ weights.
-        GivesWeights (I.into_iter_gives probabilities) I.IntoIter.next_gives weights.items) }
+        YieldsWeights (I.into_iter_gives probabilities) I.IntoIter.next_gives weights.items) }
     ensures err { IfErr result (λ e. StopsGiving (I.into_iter_gives probabilities) I.IntoIter.next_gives e) }
 {
     let mut weights = Vec::new(alloc);

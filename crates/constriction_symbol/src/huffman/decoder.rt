@@ -1,6 +1,6 @@
 //! `DecoderHuffmanTree`: a Huffman tree that decodes a symbol by walking from the root to the symbol's leaf.
 
-ghost use Rattle.constriction_symbol.specs.Codewords.{BeginsTopBits, GivesBits, StopsWithin, UnlessBitsEnd};
+ghost use Rattle.constriction_symbol.specs.Codewords.{BeginsTopBits, YieldsBits, StopsWithin, UnlessBitsEnd};
 ghost use Rattle.constriction_symbol.specs.Bits.{top_bits};
 ghost use Rattle.constriction_symbol.specs.DecoderTree.{HoldsTree, LeadsTo, tree_of_pairs};
 ghost use Rattle.constriction_symbol.specs.Huffman.{ReadsOnIn, leaves, path};
@@ -13,7 +13,7 @@ ghost use Rattle.std.specs.Prelude.{Bool, IfErr, IfOk, IfSome, List, Some, lengt
 use crate::codebooks::{Codebook, DecoderCodebook};
 use crate::huffman::collecting::{collect_given, collect_lent};
 use crate::huffman::error::HuffmanError;
-use crate::huffman::first_bits::{Place, place_of, places_of};
+use crate::huffman::first_bits::{ReachedNode, place_of, places_of};
 use crate::huffman::merging::merged_pairs;
 use crate::taking::{Refusal, next_bit};
 use crate::top_bits::TopBits;
@@ -44,14 +44,14 @@ pub struct DecoderHuffmanTree {
     ///
     /// A child is a symbol, or the number of symbols plus the index of an inner node in this list.
     nodes: Vec<[usize; 2]>,
-    /// The decoding table: entry `1xyz` (binary) is the [`Place`] that the bits `x`, `y`, `z` lead to.
-    places: Vec<Place>,
+    /// The decoding table: entry `1xyz` (binary) is the [`ReachedNode`] that the bits `x`, `y`, `z` lead to.
+    places: Vec<ReachedNode>,
     /// The number of bits that one look-up in `places` reads.
     most: u32,
 }
 
 impl Model for DecoderHuffmanTree {
-    ghost use Rattle.constriction_symbol.specs.DecoderTree.{HasPlaces, HoldsTree, tree_of_pairs};
+    ghost use Rattle.constriction_symbol.specs.DecoderTree.{LeadToNodes, HoldsTree, tree_of_pairs};
     ghost use Rattle.constriction_symbol.specs.Huffman.{Tree};
     ghost use Rattle.constriction_symbol.specs.TreeCode.{tree_code};
     ghost use Rattle.std.specs.Prelude.{length, ◌+◌, ◌<◌, ◌^◌, ◌≡◌, ◌≤◌};
@@ -63,7 +63,7 @@ impl Model for DecoderHuffmanTree {
     ghost view = { λ t. tree_of_pairs t.nodes.items };
 
     ghost invariant = { λ t. HoldsTree t.nodes.items (tree_of_pairs t.nodes.items)
-        × HasPlaces t.nodes.items t.places.items × (0 < t.most) × (t.most ≤ 9)
+        × LeadToNodes t.nodes.items t.places.items × (0 < t.most) × (t.most ≤ 9)
         × (length t.places.items ≡ 2 ^ (t.most + 1)) };
 }
 
@@ -277,7 +277,7 @@ fn walk<V, E, I: Iterator<Item = Result<bool, E>>>(
     ensures can { UnlessBitsEnd result (I.can_next source.new) }
     ensures finite { IsFinite (I.remaining source.old) → UnlessBitsEnd result (IsFinite (I.remaining source.new)) }
     ensures bits { IfOk result (λ symbol. (bits : List Bool) × (path (tree_of_pairs nodes.now) symbol ≡ Some bits)
-        × GivesBits I.next_gives source.old bits source.new) }
+        × YieldsBits I.next_gives source.old bits source.new) }
     ensures stops { IfErr result (λ e.
         StopsWithin I.next_gives (ReadsOnIn (tree_of_pairs nodes.now)) source.old e source.new) }
 {
@@ -301,7 +301,7 @@ fn walk_on<Word: BitArray>(
     nodes: &[[usize; 2]],
     bits: Word,
     count: u32,
-    place: Place,
+    place: ReachedNode,
 ) -> Option<(usize, u32)>
     requires tree { HoldsTree nodes.now (tree_of_pairs nodes.now) }
     requires within { count ≤ Word.BITS }

@@ -9,7 +9,7 @@
 //! at most 9. So a small tree has a small table. A look-up reads as many bits as the table covers, or all bits of the
 //! word if the word has fewer bits.
 
-ghost use Rattle.constriction_symbol.specs.DecoderTree.{HasPlaces, HoldsTree, IsPlace, IsTopPlace, tree_of_pairs};
+ghost use Rattle.constriction_symbol.specs.DecoderTree.{LeadToNodes, HoldsTree, LeadsToNode, TopLeadsToNode, tree_of_pairs};
 ghost use Rattle.std.specs.Prelude.{Bool, IfOk, List, [], length, ◌+◌, ◌++◌, ◌<◌, ◌==◌, ◌^◌, ◌∷◌, ◌≡◌, ◌≤◌, ℕ};
 
 use constriction_words::BitArray;
@@ -24,7 +24,7 @@ const MOST: u32 = 9;
 /// bits. If the node is an inner node, the list has `taken` bits. `index` is the symbol, or the number of symbols plus
 /// the index of the inner node.
 #[derive(Debug, Clone, Copy)]
-pub struct Place {
+pub struct ReachedNode {
     pub index: usize,
     pub taken: u32,
 }
@@ -44,18 +44,18 @@ fn most_of(nodes: usize) -> u32
 /// Returns the place that `bit` (0 or 1) leads to from `place`, or `place` itself if it holds a symbol.
 ///
 /// `nodes` lists the two children of each inner node.
-fn place_below(nodes: &[[usize; 2]], place: Place, bit: usize) -> Place
+fn place_below(nodes: &[[usize; 2]], place: ReachedNode, bit: usize) -> ReachedNode
     requires tree { HoldsTree nodes.now (tree_of_pairs nodes.now) }
-    requires place { (bits : List Bool) × (length bits < 32) × IsPlace nodes.now bits place }
+    requires place { (bits : List Bool) × (length bits < 32) × LeadsToNode nodes.now bits place }
     requires below { bit < 2 }
-    ensures { (bits : List Bool) → IsPlace nodes.now bits place →
-        IsPlace nodes.now (bits ++ (bit == 1) ∷ []) result }
+    ensures { (bits : List Bool) → LeadsToNode nodes.now bits place →
+        LeadsToNode nodes.now (bits ++ (bit == 1) ∷ []) result }
 {
     let symbols = nodes.len() + 1;
     if place.index < symbols {
         return place;
     }
-    Place {
+    ReachedNode {
         index: nodes[place.index - symbols][bit],
         taken: place.taken + 1,
     }
@@ -64,18 +64,19 @@ fn place_below(nodes: &[[usize; 2]], place: Place, bit: usize) -> Place
 /// Returns the decoding table of a tree, and the number of bits that the table covers.
 ///
 /// `nodes` lists the two children of each inner node. The root comes last. Entry `1xyz` (binary) of the table is the
-/// [`Place`] that the bits `x`, `y`, `z` lead to. If there is no memory for the table, the call returns `AllocError`.
-pub fn places_of(alloc: Global, nodes: &[[usize; 2]]) -> Result<(Vec<Place>, u32), AllocError>
+/// [`ReachedNode`] that the bits `x`, `y`, `z` lead to. If there is no memory for the table, the call returns
+/// `AllocError`.
+pub fn places_of(alloc: Global, nodes: &[[usize; 2]]) -> Result<(Vec<ReachedNode>, u32), AllocError>
     requires tree { HoldsTree nodes.now (tree_of_pairs nodes.now) }
     ensures some { IfOk result (λ table. 0 < table.1) }
     ensures count { IfOk result (λ table. length table.0.items ≡ 2 ^ (table.1 + 1)) }
     ensures few { IfOk result (λ table. table.1 ≤ 9) }
-    ensures places { IfOk result (λ table. HasPlaces nodes.now table.0.items) }
+    ensures places { IfOk result (λ table. LeadToNodes nodes.now table.0.items) }
 {
     let most = most_of(nodes.len());
     let count = 1usize << (most + 1);
     let mut places = Vec::with_capacity(alloc, count)?;
-    let root = Place {
+    let root = ReachedNode {
         index: 2 * nodes.len(),
         taken: 0,
     };
@@ -102,12 +103,12 @@ fn lesser(most: u32, all: u32) -> u32
 /// `places` and `most` are the decoding table and the number of bits that [`places_of`] returns. The look-up reads the
 /// highest `most` bits, or all bits if `Word::BITS` is below `most`.
 #[inline]
-pub fn place_of<Word: BitArray>(places: &[Place], most: u32, bits: Word) -> Place
+pub fn place_of<Word: BitArray>(places: &[ReachedNode], most: u32, bits: Word) -> ReachedNode
     requires some { 0 < most }
     requires few { most ≤ 9 }
     requires count { length places.now ≡ 2 ^ (most + 1) }
-    ensures { (nodes : List (List ℕ)) → HasPlaces nodes places.now →
-        IsTopPlace nodes Word.BITS (Word.number bits) result }
+    ensures { (nodes : List (List ℕ)) → LeadToNodes nodes places.now →
+        TopLeadsToNode nodes Word.BITS (Word.number bits) result }
 {
     let count = lesser(most, Word::BITS);
     let first = bits.shifted_right(Word::BITS - count).to_index();

@@ -6,7 +6,7 @@ ghost use Rattle.constriction_models.specs.Quantized.{indexed};
 ghost use Rattle.constriction_models.specs.Quantizers.{symbol_count, first_symbol};
 ghost use Rattle.constriction_models.specs.laws.Indexing.{indexed_is_table, indexed_two};
 ghost use Rattle.constriction_models.specs.laws.Mixing.{mixed_is_distribution};
-ghost use Rattle.constriction_inputs.specs.Mixtures.{IsMixable, components_of, or_lone, row_of_place};
+ghost use Rattle.constriction_inputs.specs.Mixtures.{IsMixable, components_of, or_lone, row_at_index};
 
 use constriction_base::model::{DecoderModel, EncoderModel, EntropyModel};
 use constriction_models::distribution::CumulativeDistribution;
@@ -144,11 +144,11 @@ pub(super) fn fill_from_row(
     requires within { width * place + width ≤ length weights.now }
     requires counted { (length locations.now ≡ length weights.now) × (length scales.now ≡ length weights.now) }
     requires scaled { (k : ℕ) → k < length scales.now → 0 < get_or scales.now k 0 }
-    requires mixable { IsMixable (row_of_place width place weights.now) }
+    requires mixable { IsMixable (row_at_index width place weights.now) }
     requires room { width ≤ vec_capacity components.now }
     ensures components { weighted ⟦<FamilyDistribution as CumulativeDistribution>⟧.below components.new.items
         ≡ components_of (Some family)
-        (row_of_place width place weights.now) (row_of_place width place locations.now) (row_of_place width place scales.now) }
+        (row_at_index width place weights.now) (row_at_index width place locations.now) (row_at_index width place scales.now) }
     ensures some { 0
         < total_weight (weighted ⟦<FamilyDistribution as CumulativeDistribution>⟧.below components.new.items) }
     ensures most { total_weight (weighted ⟦<FamilyDistribution as CumulativeDistribution>⟧.below components.new.items)

@@ -5,7 +5,7 @@ use Rattle.constriction_base.specs.declared.errors.CoderError.TheVariants.{Front
 use Rattle.constriction_laws.specs.declared.errors.Stopped.TheVariants.{Refused}
 use Rattle.constriction_symbol.specs.Codewords.{ComesBack, ReadsSymbol}
 use Rattle.constriction_symbol.specs.declared.codebooks.SymbolCodeError.{SymbolCodeError}
-use Rattle.constriction_laws.specs.symbol.Refusals.{BeginsWithNone, StopsReading}
+use Rattle.constriction_laws.specs.symbol.Refusals.{NoCodewordsBegin, StopsReading}
 use Rattle.constriction_symbol.proofs.CodewordLists.{none_stops}
 
 -- by a law of single symbols, as `symbol_comes_back` has it
@@ -13,7 +13,7 @@ pub begins_with_none : {I S V E : Type 0} (next : I → Option (Result Bool E) �
     → ((symbol : S) (first rest : List Bool) (old new : I) (answer : Result S (CoderError (SymbolCodeError V) E)) → codeword symbol ≡ Some first → unread old ≡ first ++ rest
     → ReadsSymbol next codeword reads_on is_invalid old answer new → ComesBack same symbol rest answer (unread new))
     → (amt : ℕ) (bits tail : List Bool) (old new : I) (e : SymbolCodeError V) → unread old ≡ bits ++ tail
-    → StopsReading {E = E} next codeword reads_on is_invalid amt old (Refused (Frontend e)) new → BeginsWithNone codeword amt bits
+    → StopsReading {E = E} next codeword reads_on is_invalid amt old (Refused (Frontend e)) new → NoCodewordsBegin codeword amt bits
 begins_with_none {I} {S} {V} {E} next unread codeword same reads_on is_invalid law amt bits tail old new e all (given, mid, less, read, refused) = λ symbols code rest coded is count.
     none_stops unread codeword (λ t before after. ReadsSymbol {E = E} next codeword reads_on is_invalid before (Ok t) after) same (λ _ _. Unit {0})
     (λ t s first more before after free known here step. law s first more before after (Ok t) known here step)

@@ -4,7 +4,7 @@
 
 ghost use Rattle.std.specs.Prelude.{◌≡◌, length, reverse, IfErr, IfOk, OnOk};
 ghost use Rattle.constriction_base.specs.Models.{pairs_of};
-ghost use Rattle.constriction_chain.specs.Symbols.{TakesOffAll, PutsBackAll};
+ghost use Rattle.constriction_chain.specs.Symbols.{ChainDecodesAll, ChainEncodesAll};
 ghost use Rattle.constriction_laws.specs.Outcomes.{IfRefused};
 ghost use Rattle.constriction_laws.specs.chain.Endings.{NotEncoded, OnlyEnds};
 ghost use Rattle.constriction_laws.specs.chain.Pairs.{DecodesByReads, PairsEndEarly, PairsRefused};
@@ -43,7 +43,7 @@ where
     C::ReadError: Drop,
     R::WriteError: Drop,
     ensures count { IfOk result (λ again. length again.items ≡ length models.now) }
-    ensures decoded { C.is_list → IfOk result (λ again. TakesOffAll Word.BITS State.BITS
+    ensures decoded { C.is_list → IfOk result (λ again. ChainDecodesAll Word.BITS State.BITS
         (pairs_of PRECISION M.table again.items models.now) coder.old.state coder.new.state) }
     ensures reads { IfOk result (λ again. DecodesByReads Word.number C.Holds C.ReadWords.own R.Holds R.WriteWords.own
         Word.BITS State.BITS PRECISION M.table again.items models.now coder.old coder.new) }
@@ -86,7 +86,7 @@ pub fn encode_pairs_reverse<
 where
     M::Probability: WordOf<Word>,
     requires { length symbols.now ≡ length models.now }
-    ensures encoded { R.is_list → OnOk result (PutsBackAll Word.BITS State.BITS
+    ensures encoded { R.is_list → OnOk result (ChainEncodesAll Word.BITS State.BITS
         (reverse (pairs_of PRECISION M.table symbols.now models.now)) coder.old.state coder.new.state) }
     ensures err { R.is_list → IfErr result (λ e. NotEncoded Word.BITS State.BITS
         (reverse (pairs_of PRECISION M.table symbols.now models.now)) coder.old.state e coder.new.state) }

@@ -6,7 +6,7 @@ ghost use Rattle.std.specs.Prelude.{IfErr, IfOk};
 ghost use Rattle.constriction_laws.specs.Outcomes.{IfRefused};
 ghost use Rattle.constriction_laws.specs.chain.Lists.{FromSameBits};
 ghost use Rattle.constriction_laws.specs.chain.Pairs.{AreIsolatedBy, AreOneEach, DecodesByReads, EndsInTwo};
-ghost use Rattle.constriction_laws.specs.chain.Pairs.{RefusedInTwo, TakesPairs};
+ghost use Rattle.constriction_laws.specs.chain.Pairs.{RefusedInTwo, ChainDecodesPairs};
 
 use crate::chain::isolation::symbols_are_isolated;
 use crate::chain::round_trips::coding::decode_pairs;
@@ -56,9 +56,11 @@ where
     C::ReadError: Drop,
     R::WriteError: Drop,
     ensures count { IfOk result (AreOneEach models.now others.now) }
-    ensures first { C.is_list → IfOk result (λ both. TakesPairs Word.BITS State.BITS PRECISION M.table both.0.items
+    ensures first { C.is_list → IfOk result (λ both. ChainDecodesPairs Word.BITS State.BITS PRECISION M.table
+        both.0.items
         models.now coder.old coder.new) }
-    ensures other { C.is_list → IfOk result (λ both. TakesPairs Word.BITS State.BITS PRECISION L.table both.1.items
+    ensures other { C.is_list → IfOk result (λ both. ChainDecodesPairs Word.BITS State.BITS PRECISION L.table
+        both.1.items
         others.now same.old same.new) }
     ensures reads { IfOk result (λ both. DecodesByReads Word.number C.Holds C.ReadWords.own R.Holds R.WriteWords.own
         Word.BITS State.BITS PRECISION M.table both.0.items models.now coder.old coder.new

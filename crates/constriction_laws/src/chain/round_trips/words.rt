@@ -7,8 +7,8 @@ ghost use Rattle.std.specs.Prelude.{◌≡◌, ℕ, List, length, map, reverse, 
 ghost use Rattle.constriction_base.specs.Models.{pairs_of};
 ghost use Rattle.constriction_chain.specs.Chain.{ChainState, IsSized};
 ghost use Rattle.constriction_laws.specs.chain.Endings.{ComesBackOver, OnlyEnds};
-ghost use Rattle.constriction_laws.specs.chain.Lists.{AfterTaking};
-ghost use Rattle.constriction_laws.specs.chain.Pairs.{PairsEnded, PairsNotPutBack, PutsPairsBack, TakesApart};
+ghost use Rattle.constriction_laws.specs.chain.Lists.{AfterWholeDecodes};
+ghost use Rattle.constriction_laws.specs.chain.Pairs.{PairsEnded, PairsNotPutBack, ChainEncodesPairs, ChainDecodesApart};
 
 use crate::chain::errors::PutBackError;
 use crate::chain::round_trips::coding::{decode_pairs, encode_pairs_reverse};
@@ -42,7 +42,7 @@ where
     M::Probability: WordOf<Word>,
     M::Symbol: Drop,
     ensures count { IfOk result (λ taken. length taken.0.items ≡ length models.now) }
-    ensures words { IfOk result (λ taken. TakesApart Word.number Word.BITS State.BITS (pairs_of PRECISION M.table
+    ensures words { IfOk result (λ taken. ChainDecodesApart Word.number Word.BITS State.BITS (pairs_of PRECISION M.table
         taken.0.items models.now) coder.state taken.1.items taken.2.items) }
     ensures err { IfErr result (OnlyEnds (PairsEnded Word.BITS State.BITS PRECISION M.table models.now
         coder.state)) }
@@ -85,9 +85,10 @@ where
     M::Probability: WordOf<Word>,
     requires { IsSized Word.BITS State.BITS PRECISION }
     ensures counts { OnOk result (length symbols.now ≡ length models.now) }
-    ensures encoded { IfOk result (λ coder. PutsPairsBack Word.BITS State.BITS PRECISION M.table symbols.now models.now
+    ensures encoded { IfOk result (λ coder. ChainEncodesPairs Word.BITS State.BITS PRECISION M.table symbols.now
+        models.now
         (map Word.number (reverse remainders.items)) coder.state) }
-    ensures back { (x after : ChainState) (below : List ℕ) → AfterTaking Word.BITS State.BITS PRECISION (pairs_of
+    ensures back { (x after : ChainState) (below : List ℕ) → AfterWholeDecodes Word.BITS State.BITS PRECISION (pairs_of
         PRECISION M.table symbols.now models.now) (map Word.number (reverse remainders.items)) x after below (IfOk
         result (λ coder. ComesBackOver x below after.compressed coder.state)) }
     ensures err { IfErr result (PairsNotPutBack Word.BITS State.BITS PRECISION M.table (map Word.number (reverse

@@ -8,8 +8,8 @@ ghost use Rattle.constriction_laws.specs.Outcomes.{HasImpossibleItem};
 ghost use Rattle.constriction_queue.specs.Decoder.{IsDecoder, MayBeExhausted, StandsAt};
 ghost use Rattle.constriction_queue.specs.Encoder.{left_to_encode};
 ghost use Rattle.constriction_queue.specs.Range.{Run};
-ghost use Rattle.constriction_laws.specs.queue.Outcomes.{GivesNone, NotCoded, NotRead};
-ghost use Rattle.constriction_laws.specs.queue.Pairs.{GivesFound, NarrowsBy, ReadsOnward, pairs_by};
+ghost use Rattle.constriction_laws.specs.queue.Outcomes.{NoListFrom, NotCoded, NotRead};
+ghost use Rattle.constriction_laws.specs.queue.Pairs.{ReturnsFound, NarrowsBy, ReadsOnward, pairs_by};
 ghost use Rattle.constriction_queue.specs.Symbols.{MayEnd};
 
 use crate::errors::{RoundTripError, Stopped};
@@ -91,9 +91,9 @@ where
     ensures count { IfOk result (λ again. length again.items ≡ length models.now) }
     ensures decoded { Backend.is_list → ReadsOnward Word.BITS State.BITS PRECISION M.table models.now decoder.old result
         decoder.new }
-    ensures back { Backend.is_list → GivesFound Word.BITS State.BITS PRECISION M.table models.now decoder.old result
+    ensures back { Backend.is_list → ReturnsFound Word.BITS State.BITS PRECISION M.table models.now decoder.old result
         decoder.new }
-    ensures err { IfErr result (NotRead (GivesNone Backend.is_list Word.BITS State.BITS (pairs_by PRECISION M.table
+    ensures err { IfErr result (NotRead (NoListFrom Backend.is_list Word.BITS State.BITS (pairs_by PRECISION M.table
         models.now) (length models.now) decoder.old)) }
 {
     match any_coder::decode_by_models::<_, _, PRECISION>(alloc, decoder, models) {

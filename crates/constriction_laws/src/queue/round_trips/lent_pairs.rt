@@ -7,10 +7,10 @@
 ghost use Rattle.std.specs.Prelude.{◌≡◌, List, length, IfOk, IfErr};
 ghost use Rattle.constriction_base.specs.Models.{pairs_of};
 ghost use Rattle.constriction_queue.specs.Encoder.{sealed_by, HasHeads};
-ghost use Rattle.constriction_laws.specs.Outcomes.{GivesBack};
+ghost use Rattle.constriction_laws.specs.Outcomes.{ReturnsSymbols};
 ghost use Rattle.constriction_laws.specs.queue.Concatenated.{ReadsItems};
 ghost use Rattle.constriction_laws.specs.queue.Outcomes.{NotRead};
-ghost use Rattle.constriction_laws.specs.queue.Pairs.{HasEncoded, HoldNoPairs};
+ghost use Rattle.constriction_laws.specs.queue.Pairs.{HasEncoded, NoPairs};
 
 use crate::errors::RoundTripError;
 use crate::queue::lists::symbols_come_back;
@@ -47,10 +47,10 @@ where
     ensures read { IfOk result (λ again. ReadsItems Word.BITS State.BITS (sealed_by Word.BITS State.BITS encoder.old)
         (pairs_of PRECISION M.table again.items models.now)) }
     ensures back { (symbols : List M.Symbol) → HasEncoded Word.BITS State.BITS (pairs_of PRECISION M.table symbols
-        models.now) encoder.old → GivesBack models.now symbols result }
+        models.now) encoder.old → ReturnsSymbols models.now symbols result }
     ensures heads { HasHeads encoder.old encoder.new }
     ensures kept { encoder.new.words ≡ encoder.old.words }
-    ensures err { IfErr result (NotRead (HoldNoPairs Word.BITS State.BITS PRECISION M.table (sealed_by Word.BITS
+    ensures err { IfErr result (NotRead (NoPairs Word.BITS State.BITS PRECISION M.table (sealed_by Word.BITS
         State.BITS encoder.old) models.now)) }
 {
     let Ok(guard) = encoder.get_compressed() else {

@@ -14,8 +14,8 @@ ghost use Rattle.constriction_base.specs.Steps.{IsSizes};
 ghost use Rattle.constriction_laws.specs.Outcomes.{HasImpossibleItem, IfItemsWith};
 ghost use Rattle.constriction_queue.specs.Encoder.{left_to_encode};
 ghost use Rattle.constriction_laws.specs.queue.Outcomes.{LieWithin, NotCoded};
-ghost use Rattle.constriction_laws.specs.queue.Outcomes.{NotRead, ReadsToEnd, TellsEnd};
-ghost use Rattle.constriction_laws.specs.queue.Pairs.{BoundsSealed, GivesSymbolsOf, HoldNoPairs, IsAsNew, SealsPairs};
+ghost use Rattle.constriction_laws.specs.queue.Outcomes.{NotRead, ReadsToEnd, ReportsEnd};
+ghost use Rattle.constriction_laws.specs.queue.Pairs.{BoundsSealed, ReturnsSymbolsOf, NoPairs, IsAsNew, SealsPairs};
 
 use crate::bounds::following::symbols_come_back_before_others;
 use crate::bounds::range_bound;
@@ -97,14 +97,14 @@ where
     ensures count { IfOk result (λ back. length back.0.items ≡ length models.now) }
     ensures read { IfOk result (λ back. ReadsToEnd Word.BITS State.BITS (map Word.number (Words.words words))
         (pairs_of PRECISION M.table back.0.items models.now) back.1) }
-    ensures ended { IfOk result (λ back. TellsEnd Word.number ⟦<Words::IntoReadWords as Holds<Word, Queue>>⟧
+    ensures ended { IfOk result (λ back. ReportsEnd Word.number ⟦<Words::IntoReadWords as Holds<Word, Queue>>⟧
         Word.BITS State.BITS (⟦<Words::IntoReadWords as ReadWords<Word, Queue>>⟧.seems_exhausted)
         (map Word.number (Words.words words)) (pairs_of PRECISION M.table back.0.items models.now) back.1) }
-    ensures back { GivesSymbolsOf Word.BITS State.BITS PRECISION M.table (map Word.number (Words.words words))
+    ensures back { ReturnsSymbolsOf Word.BITS State.BITS PRECISION M.table (map Word.number (Words.words words))
         models.now result }
     ensures within { 0 < length models.now → IfItemsWith PRECISION M.table models.now result (λ items _. LieWithin
         Word.BITS State.BITS (map Word.number (Words.words words)) items) }
-    ensures err { IfErr result (NotRead (HoldNoPairs Word.BITS State.BITS PRECISION M.table (map Word.number
+    ensures err { IfErr result (NotRead (NoPairs Word.BITS State.BITS PRECISION M.table (map Word.number
         (Words.words words)) models.now)) }
 {
     symbols_come_back::<M::Symbol>();

@@ -7,7 +7,7 @@ ghost use Rattle.std.specs.Prelude.{◌≡◌, ◌≤◌, length, map, IfOk, IfE
 ghost use Rattle.constriction_base.specs.Steps.{IsSizes};
 ghost use Rattle.constriction_queue.specs.Range.{Run};
 ghost use Rattle.constriction_laws.specs.Outcomes.{IfItems};
-ghost use Rattle.constriction_laws.specs.queue.Pairs.{GivesFrom, HoldFrom, IsRecorded, NoPairsAt};
+ghost use Rattle.constriction_laws.specs.queue.Pairs.{ReturnsFrom, HoldFrom, IsRecorded, NoPairsAt};
 
 use crate::errors::RoundTripError;
 use crate::queue::concatenated::DecodeError;
@@ -48,7 +48,7 @@ where
     ensures count { IfOk result (λ again. length again.items ≡ length models.now) }
     ensures read { (there : Run) → IsRecorded State.BITS there position → IfItems PRECISION M.table models.now result
         (HoldFrom Word.number Word.BITS State.BITS words.items there) }
-    ensures back { GivesFrom Word.BITS State.BITS PRECISION M.table (map Word.number words.items) models.now position
+    ensures back { ReturnsFrom Word.BITS State.BITS PRECISION M.table (map Word.number words.items) models.now position
         result }
     ensures err { IfErr result (NoPairsAt Word.BITS State.BITS PRECISION M.table (map Word.number words.items)
         models.now position) }

@@ -4,7 +4,7 @@ ghost use Rattle.std.specs.Prelude.{◌≡◌, ℕ, List, length, map, reverse, 
 ghost use Rattle.constriction_base.specs.Models.{pairs_of};
 ghost use Rattle.constriction_base.specs.Steps.{IsSizes, AreWords};
 ghost use Rattle.constriction_laws.specs.Outcomes.{IfItemsWith, OnlyRefused};
-ghost use Rattle.constriction_stack.specs.Ans.{IsValid};
+ghost use Rattle.constriction_stack.specs.Ans.{IsNormalized};
 ghost use Rattle.constriction_laws.specs.stack.Exporting.{ExportsBinary, NoBinary};
 ghost use Rattle.constriction_laws.specs.stack.Lists.{DecodesBinary, LeavesOfBinary};
 ghost use Rattle.constriction_laws.specs.stack.Readings.{DecodesFromBinary};
@@ -83,7 +83,8 @@ where
     Backend::WriteError: Drop,
     requires sizes { IsSizes Word.BITS State.BITS }
     requires count { length symbols.now ≡ length models.now }
-    ensures words { IsValid Word.BITS State.BITS coder.state → IfOk result (λ again. ExportsBinary Word.BITS State.BITS
+    ensures words { IsNormalized Word.BITS State.BITS coder.state → IfOk result
+        (λ again. ExportsBinary Word.BITS State.BITS
         (reverse (pairs_of PRECISION M.table symbols.now models.now)) coder.state (map Word.number (Backend.words
         again))) }
     ensures back { (words : List ℕ) → AreWords Word.BITS words → DecodesBinary Word.BITS State.BITS words (pairs_of

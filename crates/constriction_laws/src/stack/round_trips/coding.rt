@@ -4,7 +4,7 @@
 
 ghost use Rattle.std.specs.Prelude.{◌≡◌, length, IfOk, IfErr, OnOk};
 ghost use Rattle.constriction_laws.specs.Outcomes.{HasImpossibleItem, OnlyRefused, UnlessImpossible};
-ghost use Rattle.constriction_stack.specs.Ans.{IsValid};
+ghost use Rattle.constriction_stack.specs.Ans.{IsNormalized};
 ghost use Rattle.constriction_laws.specs.stack.Exporting.{PushesPairs, UndoesEncodes};
 ghost use Rattle.constriction_laws.specs.stack.Readings.{DecodesAllBy};
 ghost use Rattle.constriction_stack.specs.Symbols.{DecodesAll};
@@ -43,7 +43,7 @@ where
     M::Probability: WordOf<Word>,
     Backend::WriteError: Drop,
     requires { length symbols.now ≡ length models.now }
-    ensures coded { IsValid Word.BITS State.BITS coder.old.state → OnOk result (PushesPairs Word.BITS State.BITS
+    ensures coded { IsNormalized Word.BITS State.BITS coder.old.state → OnOk result (PushesPairs Word.BITS State.BITS
         PRECISION M.table symbols.now models.now coder.old coder.new) }
     ensures err { IfErr result (UnlessImpossible
         (HasImpossibleItem (pairs_of PRECISION M.table symbols.now models.now))) }

@@ -3,7 +3,7 @@
 ghost use Rattle.std.specs.Prelude.{◌≡◌, length, IfOk, IfErr, OnOk};
 ghost use Rattle.constriction_base.specs.Readings.{BeginsHigh};
 ghost use Rattle.constriction_laws.specs.Outcomes.{IfItems, UnlessInvalid};
-ghost use Rattle.constriction_laws.specs.stack.Exporting.{GivesEncoded};
+ghost use Rattle.constriction_laws.specs.stack.Exporting.{ReturnsEncoded};
 ghost use Rattle.constriction_laws.specs.stack.Lists.{HoldsItems};
 ghost use Rattle.constriction_stack.specs.Ans.{exported};
 
@@ -42,7 +42,7 @@ where
     ensures count { IfOk result (λ again. length again.items ≡ length models.now) }
     ensures read { IfItems PRECISION M.table models.now result (HoldsItems Word.BITS State.BITS (exported Word.BITS
         coder.old.state)) }
-    ensures back { GivesEncoded Word.BITS State.BITS PRECISION M.table models.now coder.old.state result }
+    ensures back { ReturnsEncoded Word.BITS State.BITS PRECISION M.table models.now coder.old.state result }
     ensures high { OnOk result (BeginsHigh (exported Word.BITS coder.old.state)) }
     ensures kept { coder.new.state ≡ coder.old.state }
     ensures err { IfErr result (UnlessInvalid (BeginsHigh (exported Word.BITS coder.old.state) → ⊥)) }

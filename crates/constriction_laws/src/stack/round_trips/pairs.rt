@@ -7,7 +7,7 @@ ghost use Rattle.std.specs.Prelude.{◌≡◌, length, map, reverse, IfOk, IfErr
 ghost use Rattle.constriction_base.specs.Models.{pairs_of};
 ghost use Rattle.constriction_base.specs.Steps.{IsSizes};
 ghost use Rattle.constriction_laws.specs.Outcomes.{HasImpossibleItem, IfItemsWith, UnlessImpossible, UnlessInvalid};
-ghost use Rattle.constriction_stack.specs.Ans.{IsValid, empty};
+ghost use Rattle.constriction_stack.specs.Ans.{IsNormalized, empty};
 ghost use Rattle.constriction_stack.specs.Imports.{ImportRefused};
 ghost use Rattle.constriction_laws.specs.stack.Exporting.{BoundsPairs, ExportsAll, UndoesExport};
 ghost use Rattle.constriction_laws.specs.stack.Lists.{LeavesOfWords};
@@ -47,7 +47,8 @@ where
     M::Probability: WordOf<Word>,
     Backend::WriteError: Drop,
     requires { length symbols.now ≡ length models.now }
-    ensures words { IsValid Word.BITS State.BITS coder.state → IfOk result (λ words. ExportsAll Word.BITS State.BITS
+    ensures words { IsNormalized Word.BITS State.BITS coder.state → IfOk result
+        (λ words. ExportsAll Word.BITS State.BITS
         (reverse (pairs_of PRECISION M.table symbols.now models.now))
         coder.state (map Word.number (Backend.words words))) }
     ensures sizes { OnOk result (IsSizes Word.BITS State.BITS) }

@@ -2,7 +2,7 @@
 
 ghost use Rattle.std.specs.Prelude.{◌≡◌, ◌≤◌, ◌<◌, length, IfOk, IfErr, OnOk};
 ghost use Rattle.constriction_laws.specs.Outcomes.{IfItems, UnlessInvalid};
-ghost use Rattle.constriction_laws.specs.stack.Exporting.{GivesBehind, HoldsBehind, recorded};
+ghost use Rattle.constriction_laws.specs.stack.Exporting.{ReturnsBehind, HoldsBehind, recorded};
 
 use crate::errors::RoundTripError;
 use crate::stack::round_trips::coding::decode_pairs;
@@ -39,7 +39,7 @@ where
     ensures count { IfOk result (λ again. length again.items ≡ length models.now) }
     ensures read { IfItems PRECISION M.table models.now result (HoldsBehind Word.BITS State.BITS (recorded State.number
         position) coder.now.state) }
-    ensures back { GivesBehind Word.BITS State.BITS PRECISION M.table models.now (recorded State.number position)
+    ensures back { ReturnsBehind Word.BITS State.BITS PRECISION M.table models.now (recorded State.number position)
         coder.now.state result }
     ensures err { IfErr result (UnlessInvalid (length coder.now.state.words < position.0)) }
 {

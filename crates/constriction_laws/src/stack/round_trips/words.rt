@@ -4,9 +4,9 @@ ghost use Rattle.std.specs.Prelude.{◌≡◌, List, length, map, IfOk, IfErr, O
 ghost use Rattle.constriction_base.specs.Readings.{BeginsHigh};
 ghost use Rattle.constriction_base.specs.Steps.{IsSizes};
 ghost use Rattle.constriction_laws.specs.Outcomes.{IfItems, UnlessInvalid};
-ghost use Rattle.constriction_laws.specs.stack.Exporting.{GivesExport};
+ghost use Rattle.constriction_laws.specs.stack.Exporting.{ReturnsExported};
 ghost use Rattle.constriction_laws.specs.stack.Lists.{HoldsItems};
-ghost use Rattle.constriction_laws.specs.stack.Readings.{DecodesFromIterator, GivesTold, HoldsTold, IteratorRefused};
+ghost use Rattle.constriction_laws.specs.stack.Readings.{DecodesFromIterator, ReturnsListed, HoldsListed, IteratorRefused};
 ghost use Rattle.constriction_stack.specs.Ans.{AnsState};
 
 use crate::errors::RoundTripError;
@@ -44,7 +44,7 @@ where
     ensures count { IfOk result (λ again. length again.items ≡ length models.now) }
     ensures read { IfItems PRECISION M.table models.now result (HoldsItems Word.BITS State.BITS (map Word.number
         words.items)) }
-    ensures back { (symbols : List M.Symbol) (state : AnsState) → GivesExport Word.BITS State.BITS PRECISION M.table
+    ensures back { (symbols : List M.Symbol) (state : AnsState) → ReturnsExported Word.BITS State.BITS PRECISION M.table
         models.now (map Word.number words.items) result symbols state }
     ensures high { OnOk result (BeginsHigh (map Word.number words.items)) }
     ensures err { IfErr result (UnlessInvalid (BeginsHigh (map Word.number words.items) → ⊥)) }
@@ -83,9 +83,9 @@ where
     requires sizes { IsSizes Word.BITS State.BITS }
     requires can { Iter.can_next items }
     ensures count { IfOk result (λ again. length again.items ≡ length models.now) }
-    ensures read { HoldsTold Word.number Iter.next_gives Word.BITS State.BITS PRECISION M.table models.now items
+    ensures read { HoldsListed Word.number Iter.next_gives Word.BITS State.BITS PRECISION M.table models.now items
         result }
-    ensures back { GivesTold Word.number Iter.next_gives Word.BITS State.BITS PRECISION M.table models.now items
+    ensures back { ReturnsListed Word.number Iter.next_gives Word.BITS State.BITS PRECISION M.table models.now items
         result }
     ensures reads { IfItems PRECISION M.table models.now result (DecodesFromIterator Word.number Iter.next_gives
         Word.BITS State.BITS items) }

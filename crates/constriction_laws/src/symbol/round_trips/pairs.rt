@@ -7,7 +7,7 @@
 ghost use Rattle.constriction_symbol.specs.Lists.{AreCodewordsBy, ReadsPairs};
 ghost use Rattle.constriction_base.specs.Backends.{IsWrite};
 ghost use Rattle.constriction_laws.specs.symbol.Refusals.{StopsAtCodebook};
-ghost use Rattle.constriction_laws.specs.symbol.Pairs.{GivesWritten, PairsNotStacked, PairsNotWritten};
+ghost use Rattle.constriction_laws.specs.symbol.Pairs.{ReturnsWritten, PairsNotStacked, PairsNotWritten};
 ghost use Rattle.std.specs.List.{zip};
 ghost use Rattle.std.specs.Prelude.{Bool, IfErr, IfOk, List, OnOk, length, reverse, ◌++◌, ◌≡◌};
 
@@ -96,7 +96,7 @@ where
     ensures count { IfOk result (λ symbols. length symbols.items ≡ length codebooks.now) }
     ensures steps { IfOk result (λ symbols. ReadsPairs R.gives C.codeword C.reads_on C.is_invalid
         (zip symbols.items codebooks.now) stream.old stream.new) }
-    ensures back { R.is_list → GivesWritten C.codeword C.is_same R.unread codebooks.now stream.old result stream.new }
+    ensures back { R.is_list → ReturnsWritten C.codeword C.is_same R.unread codebooks.now stream.old result stream.new }
     ensures err { IfErr result (λ e. StopsAtCodebook R.gives C.codeword C.reads_on C.is_invalid
         codebooks.now stream.old e stream.new) }
 {

@@ -1,5 +1,5 @@
 use Rattle.std.specs.Prelude.{ℕ, ◌-◌, ◌<◌, ◌≤◌}
-use Rattle.constriction_models.specs.Counts.{AllShare, LimitsNone, IsLimit, IsSplit}
+use Rattle.constriction_models.specs.Counts.{AllShare, NoneBelowLimit, IsLimit, IsSplit}
 use Rattle.constriction_models.proofs.counts.split_at_least_limit.Given as goal
 
 abbrev pub invariant-search : goal.invariant-search
@@ -9,7 +9,7 @@ invariant-search l = record {
   some : 1 ≤ l.split.limit;
   within : l.split.limit ≤ l.most;
   least : (other : ℕ) → IsLimit l.counts l.all other → l.split.limit ≤ other;
-  fair : AllShare l.counts l.all → LimitsNone l.counts l.split.limit;
+  fair : AllShare l.counts l.all → NoneBelowLimit l.counts l.split.limit;
 }
 
 abbrev pub decreases-search : goal.decreases-search

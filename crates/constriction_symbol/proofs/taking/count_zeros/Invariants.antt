@@ -1,6 +1,6 @@
 use Rattle.std.proofs.Common.{◌≤◌, ◌+◌, ◌-◌, false, replicate}
 use Rattle.std.specs.Iterator.{IsFinite}
-use Rattle.constriction_symbol.specs.Codewords.{GivesBits}
+use Rattle.constriction_symbol.specs.Codewords.{YieldsBits}
 use Rattle.constriction_symbol.proofs.taking.count_zeros.Given as goal
 
 -- so many zeros were taken
@@ -9,7 +9,7 @@ invariant-zeros g l = record {
   can : g.I.Iterator.can_next l.source;
   finite : IsFinite (g.I.Iterator.remaining l.fn.source) → IsFinite (g.I.Iterator.remaining l.source);
   within : l.count ≤ l.most + 1;
-  taken : GivesBits g.I.Iterator.next_gives l.fn.source (replicate l.count false) l.source;
+  taken : YieldsBits g.I.Iterator.next_gives l.fn.source (replicate l.count false) l.source;
 }
 
 abbrev pub decreases-zeros : goal.decreases-zeros

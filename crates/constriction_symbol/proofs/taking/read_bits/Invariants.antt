@@ -1,6 +1,6 @@
 use Rattle.std.proofs.Common.{◌≡◌, ◌≤◌, ◌+◌, ◌*◌, ◌^◌, Bool, List, length}
 use Rattle.std.specs.Iterator.{IsFinite}
-use Rattle.constriction_symbol.specs.Codewords.{GivesBits}
+use Rattle.constriction_symbol.specs.Codewords.{YieldsBits}
 use Rattle.constriction_symbol.specs.Golomb.{number_after}
 use Rattle.constriction_symbol.proofs.taking.read_bits.Given as goal
 
@@ -13,7 +13,7 @@ invariant-bits g l = record {
   taken : List Bool;
   len : length taken + l.left ≡ l.count;
   value : g.N.BitArray.number l.number ≡ number_after (g.N.BitArray.number l.fn.start) taken;
-  gives : GivesBits g.I.Iterator.next_gives l.fn.source taken l.source;
+  gives : YieldsBits g.I.Iterator.next_gives l.fn.source taken l.source;
 }
 
 abbrev pub decreases-bits : goal.decreases-bits

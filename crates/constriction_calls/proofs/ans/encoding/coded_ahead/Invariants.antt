@@ -1,7 +1,7 @@
 use Rattle.std.proofs.Common.{◌≡◌, ◌≤◌, ◌<◌, ◌-◌, drop, length}
 use Rattle.std.specs.Prelude.{reverse, IfSome}
 use Rattle.constriction_base.specs.Models.{AreModels}
-use Rattle.constriction_stack.specs.Ans.{IsValid}
+use Rattle.constriction_stack.specs.Ans.{IsNormalized}
 use Rattle.constriction_stack.specs.Symbols.{EncodesAll}
 use Rattle.constriction_words.specs.Reciprocals.{IsReciprocalOf}
 use Rattle.constriction_inputs.specs.Items.{HasAt, HasInterval}
@@ -14,7 +14,7 @@ invariant-items g l =
       same : g.L.ItemList.list_items l.list ≡ items;
       some : 0 < l.rest;
       within : l.rest ≤ length items;
-      valid : IsValid g.Word.BitArray.BITS g.State.BitArray.BITS l.coder.state;
+      valid : IsNormalized g.Word.BitArray.BITS g.State.BitArray.BITS l.coder.state;
       models : AreModels g.Word.BitArray.BITS (drop l.rest items);
       coded : EncodesAll g.Word.BitArray.BITS g.State.BitArray.BITS (reverse (drop l.rest items)) l.initial.coder.state l.coder.state;
       at : HasAt items (l.rest - 1) (HasInterval g.row.PRECISION g.P.BitArray.BITS (g.P.BitArray.number l.found.0) (g.P.BitArray.nonzero_number l.found.1));

@@ -1,7 +1,7 @@
 use Rattle.std.proofs.Common.{◌≡◌, ◌≤◌, drop, length}
 use Rattle.std.specs.Prelude.{reverse}
 use Rattle.constriction_base.specs.Models.{AreModels}
-use Rattle.constriction_stack.specs.Ans.{IsValid}
+use Rattle.constriction_stack.specs.Ans.{IsNormalized}
 use Rattle.constriction_stack.specs.Symbols.{EncodesAll}
 use Rattle.constriction_calls.proofs.ans.encoding.coded_in_order.Given as goal
 
@@ -11,7 +11,7 @@ invariant-items g l =
     record {
       same : g.L.ItemList.list_items l.list ≡ items;
       within : l.rest ≤ length items;
-      valid : IsValid g.Word.BitArray.BITS g.State.BitArray.BITS l.coder.state;
+      valid : IsNormalized g.Word.BitArray.BITS g.State.BitArray.BITS l.coder.state;
       models : AreModels g.Word.BitArray.BITS (drop l.rest items);
       coded : EncodesAll g.Word.BitArray.BITS g.State.BitArray.BITS (reverse (drop l.rest items)) l.initial.coder.state l.coder.state;
     }

@@ -2,7 +2,7 @@ use Rattle.std.proofs.Common.{◌≡◌, ◌∙◌, [], ap, arith, drop, inr, le
 use Rattle.std.specs.Prelude.{◌<◌}
 use Rattle.std.proofs.lemmas.List.{drop_all}
 use Rattle.constriction_base.specs.Models.{AreModels}
-use Rattle.constriction_stack.specs.Ans.{AnsState, IsValid}
+use Rattle.constriction_stack.specs.Ans.{AnsState, IsNormalized}
 use Rattle.constriction_stack.specs.Symbols.{EncodesAll}
 use Rattle.constriction_inputs.proofs.Places.{is_step, models_more}
 use Rattle.constriction_calls.proofs.AnsPlaces.{codes_more}
@@ -24,7 +24,7 @@ returns-in-Ok g c =
     let first = c.from_raw_parts-coder.result.state in
     let none : first.words ≡ [] = ap (λ (x : AnsState). x.words) c.from_raw_parts-coder.ensures.state ∙ ap (λ ws. map g.Word.BitArray.number (reverse ws)) c.new.ensures.items in
     let end : drop 1 items ≡ [] = drop_all 1 items (omega (arith, c.requires.one)) in
-    let valid : IsValid w s first = record { state = record { fits = c.from_raw_parts-coder.ensures.coder.head_fits; are_words = rw none tt }; full = inr none } in
+    let valid : IsNormalized w s first = record { state = record { fits = c.from_raw_parts-coder.ensures.coder.head_fits; are_words = rw none tt }; full = inr none } in
     let models : AreModels w (drop 1 items) = rw end tt in
     let coded : EncodesAll w s (reverse (drop 1 items)) first first = rw end refl in
     let pushed = c.in-Ok.ensures.pushed valid in

@@ -2,7 +2,7 @@ use Rattle.std.proofs.Common.{refl, ap, ◌≡◌, ◌∙◌, take, [], arith}
 use Rattle.std.proofs.Math.Seq.{take-length}
 use Rattle.constriction_chain.proofs.Chains.{state}
 use Rattle.constriction_inputs.specs.Buffers.{stack_in}
-use Rattle.constriction_calls.specs.ChainCalls.{AreInUse, keeps}
+use Rattle.constriction_calls.specs.ChainCalls.{AreInUse, chain_buffers}
 use Rattle.constriction_inputs.proofs.Asking.{fit_ok}
 use Rattle.constriction_calls.proofs.ChainAnswers.{of_data, of_room, takes_ended, takes_stopped}
 use Rattle.constriction_calls.proofs.ChainFrame.{ends_in, needs_space_in, taken_in}
@@ -11,7 +11,7 @@ use Rattle.constriction_calls.proofs.chain.decoding.decode.Goals as goal
 pub returns-in-Err-take_by : goal.returns-in-Err-take_by
 returns-in-Err-take_by g c =
     let number = g.Word.BitArray.number in
-    let old = keeps c.args.heads.now c.args.compressed.now c.args.compressed_len.now c.args.remainders.now c.args.remainders_len.now in
+    let old = chain_buffers c.args.heads.now c.args.compressed.now c.args.compressed_len.now c.args.remainders.now c.args.remainders_len.now in
     let within : AreInUse old = (omega (arith, c.if-compressed_len-compressed.false), omega (arith, c.if-remainders_len-remainders.false)) in
     let fit = fit_ok g.row.PRECISION (g.G.Models.coded c.args.models.now c.args.symbols.now) (c.in-Ok.ensures c.args.symbols.now refl) in
     let right = c.in-Some.ensures.variant.0 refl in
@@ -26,7 +26,7 @@ returns-in-Err-take_by g c =
 pub returns-in-Err-end_taking : goal.returns-in-Err-end_taking
 returns-in-Err-end_taking g c =
     let number = g.Word.BitArray.number in
-    let old = keeps c.args.heads.now c.args.compressed.now c.args.compressed_len.now c.args.remainders.now c.args.remainders_len.now in
+    let old = chain_buffers c.args.heads.now c.args.compressed.now c.args.compressed_len.now c.args.remainders.now c.args.remainders_len.now in
     let within : AreInUse old = (omega (arith, c.if-compressed_len-compressed.false), omega (arith, c.if-remainders_len-remainders.false)) in
     let fit = fit_ok g.row.PRECISION (g.G.Models.coded c.args.models.now c.args.symbols.now) (c.in-Ok.ensures c.args.symbols.now refl) in
     let right = c.in-Some.ensures.variant.0 refl in
@@ -37,7 +37,7 @@ returns-in-Err-end_taking g c =
     record {
       call = takes_stopped number g.State.BitArray.number g.Word.BitArray.BITS g.State.BitArray.BITS g.row.PRECISION old within (g.G.Models.coded c.args.models.now) c.args.symbols.now fit
           (record { some = right.0; window = right.1 })
-          (keeps now.heads c.args.compressed.now now.compressed_len now.remainders now.remainders_len) (rw (kept.0, kept.1, kept.2, kept.3) refl) c.in-Err-end_taking.error
+          (chain_buffers now.heads c.args.compressed.now now.compressed_len now.remainders now.remainders_len) (rw (kept.0, kept.1, kept.2, kept.3) refl) c.in-Err-end_taking.error
           (of_room _ _ _ _ c.in-Err-end_taking.ensures.err (needs_space_in number g.Word.BitArray.BITS g.State.BitArray.BITS _ _ c.args.compressed.now c.args.compressed_len.now c.args.remainders.now c.args.remainders_len.now
           _ _ c.in-Ok-take_by.again.items c.take_by.new.coder.state within.1 c.in-Ok-take_by.ensures.count (rw is at c.in-Ok-take_by.ensures.ok)));
     }
@@ -45,7 +45,7 @@ returns-in-Err-end_taking g c =
 pub returns : goal.returns
 returns g c =
     let number = g.Word.BitArray.number in
-    let old = keeps c.args.heads.now c.args.compressed.now c.args.compressed_len.now c.args.remainders.now c.args.remainders_len.now in
+    let old = chain_buffers c.args.heads.now c.args.compressed.now c.args.compressed_len.now c.args.remainders.now c.args.remainders_len.now in
     let within : AreInUse old = (omega (arith, c.if-compressed_len-compressed.false), omega (arith, c.if-remainders_len-remainders.false)) in
     let fit = fit_ok g.row.PRECISION (g.G.Models.coded c.args.models.now c.args.symbols.now) (c.in-Ok.ensures c.args.symbols.now refl) in
     let right = c.in-Some.ensures.variant.0 refl in
@@ -56,7 +56,7 @@ returns g c =
     let again : c.copy_from_slice.new.self ≡ c.in-Ok-take_by.again.items = c.copy_from_slice.ensures.after ∙ c.as_slice.ensures.value in
     record {
       call = rw again (takes_ended number g.State.BitArray.number g.Word.BitArray.BITS g.State.BitArray.BITS g.row.PRECISION old within (g.G.Models.coded c.args.models.now) c.args.symbols.now fit
-          (record { some = right.0; window = right.1 }) (keeps now.heads c.args.compressed.now now.compressed_len now.remainders now.remainders_len) c.in-Ok-take_by.again.items c.in-Ok-take_by.ensures.count
+          (record { some = right.0; window = right.1 }) (chain_buffers now.heads c.args.compressed.now now.compressed_len now.remainders now.remainders_len) c.in-Ok-take_by.again.items c.in-Ok-take_by.ensures.count
           (taken_in number g.Word.BitArray.BITS g.State.BitArray.BITS _ _ c.args.compressed.now c.args.compressed_len.now c.args.remainders.now c.args.remainders_len.now _ _ _ now.compressed_len e.remainders.0 now.remainders
           now.remainders_len c.take_by.new.coder.state within.0 (rw is at c.in-Ok-take_by.ensures.ok) e.heads.0 e.heads.1 e.compressed e.remainders.1 e.remainders.2) refl e.remainders.0 e.remainders.2);
     }

@@ -2,7 +2,7 @@ use Rattle.std.proofs.Common.{refl, ap, ◌∙◌, ◌≡◌, take, [], reverse,
 use Rattle.std.proofs.Math.Seq.{take-length}
 use Rattle.constriction_chain.proofs.Chains.{state}
 use Rattle.constriction_inputs.specs.Buffers.{stack_in}
-use Rattle.constriction_calls.specs.ChainCalls.{keeps}
+use Rattle.constriction_calls.specs.ChainCalls.{chain_buffers}
 use Rattle.constriction_calls.proofs.ChainAnswers.{items_stopped, of_room}
 use Rattle.constriction_calls.proofs.ChainFrame.{lacks_in, needs_room_in, put_in}
 use Rattle.constriction_calls.proofs.chain.encoding.encode_within.Goals as goal
@@ -13,7 +13,7 @@ returns-in-Err g c =
     let w = g.Word.BitArray.BITS in
     let s = g.State.BitArray.BITS in
     let items = g.L.ItemList.list_items c.args.list.now in
-    let old = keeps c.args.heads.now c.args.compressed.now c.args.compressed_len.now c.args.remainders.now c.args.remainders_len.now in
+    let old = chain_buffers c.args.heads.now c.args.compressed.now c.args.compressed_len.now c.args.remainders.now c.args.remainders_len.now in
     let is : c.from_raw_parts-coder.result.state ≡ state (number c.args.heads.now.compressed) (g.State.BitArray.number c.args.heads.now.remainders) [] (stack_in number c.args.remainders.now c.args.remainders_len.now)
     = ap (λ coder. coder.state) c.from_raw_parts-coder.ensures.value ∙ rw (c.requires.heads, c.new_at_write_end-lent.ensures, c.new_at_write_beginning.ensures, take-length (take c.args.remainders_len.now c.args.remainders.now)) refl in
     items_stopped number g.State.BitArray.number w s g.row.PRECISION old items c.in-Err.refusal (elim c.in-Err.ensures.refused [
@@ -28,7 +28,7 @@ returns-in-Err-end_putting g c =
     let w = g.Word.BitArray.BITS in
     let s = g.State.BitArray.BITS in
     let items = g.L.ItemList.list_items c.args.list.now in
-    let old = keeps c.args.heads.now c.args.compressed.now c.args.compressed_len.now c.args.remainders.now c.args.remainders_len.now in
+    let old = chain_buffers c.args.heads.now c.args.compressed.now c.args.compressed_len.now c.args.remainders.now c.args.remainders_len.now in
     let is : c.from_raw_parts-coder.result.state ≡ state (number c.args.heads.now.compressed) (g.State.BitArray.number c.args.heads.now.remainders) [] (stack_in number c.args.remainders.now c.args.remainders_len.now)
     = ap (λ coder. coder.state) c.from_raw_parts-coder.ensures.value ∙ rw (c.requires.heads, c.new_at_write_end-lent.ensures, c.new_at_write_beginning.ensures, take-length (take c.args.remainders_len.now c.args.remainders.now)) refl in
     let now = c.end_putting.new in
@@ -36,7 +36,7 @@ returns-in-Err-end_putting g c =
     items_stopped number g.State.BitArray.number w s g.row.PRECISION old items c.in-Err-end_putting.error (inr (of_room _ _ _ _ c.in-Err-end_putting.ensures.err
     (needs_room_in number w s _ _ c.args.compressed.now c.args.compressed_len.now c.args.remainders.now c.args.remainders_len.now g.met.Word.BitArray.number_law (reverse items) c.put_items.new.coder.state
     c.requires.compressed (rw is at c.in-Ok.ensures.put))))
-    (keeps now.heads now.compressed now.compressed_len c.args.remainders.now now.remainders_len) (rw (kept.0, kept.1, kept.2, kept.3) refl)
+    (chain_buffers now.heads now.compressed now.compressed_len c.args.remainders.now now.remainders_len) (rw (kept.0, kept.1, kept.2, kept.3) refl)
 
 pub returns-in-Ok-end_putting : goal.returns-in-Ok-end_putting
 returns-in-Ok-end_putting g c =

@@ -1,6 +1,6 @@
 use Rattle.std.proofs.Common.{◌≡◌, ◌≤◌, length, drop}
 use Rattle.std.specs.Prelude.{reverse}
-use Rattle.constriction_chain.specs.Symbols.{PutsBackAll}
+use Rattle.constriction_chain.specs.Symbols.{ChainEncodesAll}
 use Rattle.constriction_calls.proofs.chain.encoding.put_many.Given as goal
 
 abbrev pub invariant-loop-left : goal.invariant-loop-left
@@ -8,7 +8,7 @@ invariant-loop-left g l =
     let items = g.L.ItemList.list_items l.fn.list in
     record {
       within : l.left ≤ length items;
-      put : PutsBackAll g.C.Put.word_bits g.C.Put.state_bits (reverse (drop l.left items)) (g.C.Put.chain l.fn.coder) (g.C.Put.chain l.coder);
+      put : ChainEncodesAll g.C.Put.word_bits g.C.Put.state_bits (reverse (drop l.left items)) (g.C.Put.chain l.fn.coder) (g.C.Put.chain l.coder);
       items : g.L.ItemList.list_items l.list ≡ items;
     }
 

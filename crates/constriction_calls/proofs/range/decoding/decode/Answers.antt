@@ -1,7 +1,7 @@
 use Rattle.std.proofs.Common.{◌≡◌, ◌∙◌, ◌-◌, ◌≤◌, ℕ, List, ap, arith, length, map, refl, rules, sym}
 use Rattle.std.proofs.lemmas.List.{length-map}
 use Rattle.constriction_inputs.specs.Coded.{items}
-use Rattle.constriction_calls.specs.RangeCalls.{IsDecoderKept}
+use Rattle.constriction_calls.specs.RangeCalls.{ValidDecoder}
 use Rattle.constriction_inputs.proofs.Asking.{fit_ok}
 use Rattle.constriction_calls.proofs.RangeAnswers.{takes_after, takes_fault, words_moved}
 use Rattle.constriction_calls.proofs.RangeTaking.{finds_same, stands_on, stands_read}
@@ -24,7 +24,7 @@ returns-in-Ok g c =
     let size = length-map c.args.words.now number in
     let within : old.pos ≤ length buffer = omega (arith, c.if-decoder-words.false, size) in
     let fit = fit_ok P (coded symbols) (c.in_ok-check.ensures symbols refl) in
-    let is : IsDecoderKept state w s old = search rules in
+    let is : ValidDecoder state w s old = search rules in
     let same : c.copy_from_slice.new.self ≡ again = c.copy_from_slice.ensures.after ∙ c.deref.ensures.value in
     let count : length c.copy_from_slice.new.self ≡ length symbols = ap length same ∙ c.in-Ok.ensures.count in
     let are = sym (c.in-Some-decoder_list.ensures.items again c.in-Ok.ensures.count) in
@@ -54,7 +54,7 @@ returns g c =
     let old = c.args.decoder.now in
     let within : old.pos ≤ length buffer = omega (arith, c.if-decoder-words.false, length-map c.args.words.now number) in
     let fit = fit_ok P (coded symbols) (c.in_ok-check.ensures symbols refl) in
-    let is : IsDecoderKept state w s old = search rules in
+    let is : ValidDecoder state w s old = search rules in
     record {
       call = takes_fault state w s P coded buffer old symbols within fit is c.in-Err.refusal
           (words_moved c.in-Err.refusal

@@ -1,5 +1,5 @@
 use Rattle.std.proofs.Common.{◌+◌, ◌≤◌, [], arith, length, refl}
-use Rattle.constriction_calls.specs.RangeCalls.{RangeKept, run_kept}
+use Rattle.constriction_calls.specs.RangeCalls.{RangeBuffers, run_of_parts}
 use Rattle.constriction_inputs.proofs.Asking.{fit_ok}
 use Rattle.constriction_calls.proofs.RangeAnswers.{puts_ended}
 use Rattle.constriction_calls.proofs.range.encoding.encode.Goals as goal
@@ -12,13 +12,13 @@ returns-in-Some g c =
     let s = g.State.BitArray.BITS in
     let coded = g.I.Items.coded c.args.items.now in
     let count = g.I.Items.item_count c.args.items.now in
-    let old : RangeKept g.row.Word.Denot g.row.State.Denot = record { encoder = c.args.encoder.now; words = c.args.buffer.now; len = c.args.len.now } in
+    let old : RangeBuffers g.row.Word.Denot g.row.State.Denot = record { encoder = c.args.encoder.now; words = c.args.buffer.now; len = c.args.len.now } in
     let within : c.args.len.now ≤ length c.args.buffer.now = omega (arith, c.if-len-buffer.false) in
     let room : c.args.len.now + c.args.encoder.now.held ≤ length c.args.buffer.now = omega (arith, within, c.if-encoder-buffer.true) in
     let made = c.in-Some in
     let e = c.end_putting.ensures in
     let new = c.end_putting.new in
     record {
-      call = puts_ended number state w s g.row.PRECISION coded count old within (fit_ok g.row.PRECISION coded c.in_ok-check.ensures) made.ensures.can room (run_kept number state w s c.args.encoder.now []) refl made.now
+      call = puts_ended number state w s g.row.PRECISION coded count old within (fit_ok g.row.PRECISION coded c.in_ok-check.ensures) made.ensures.can room (run_of_parts number state w s c.args.encoder.now []) refl made.now
           made.ensures.narrowed.is made.words.now made.words.now refl made.ensures.narrowed.narrowed c.end_putting.result new.encoder new.buffer new.len e.ok e.err e.full e.kept;
     }

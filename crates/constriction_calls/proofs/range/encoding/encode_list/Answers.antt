@@ -1,6 +1,6 @@
 use Rattle.std.proofs.Common.{◌+◌, ◌≤◌, length, rules}
 use Rattle.constriction_queue.specs.Encoder.{run_by}
-use Rattle.constriction_calls.specs.RangeCalls.{CanEncode, RangeKept}
+use Rattle.constriction_calls.specs.RangeCalls.{CanEncode, RangeBuffers}
 use Rattle.constriction_calls.proofs.RangeAnswers.{puts_ended}
 use Rattle.constriction_calls.proofs.range.encoding.encode_list.Goals as goal
 
@@ -10,7 +10,7 @@ returns g c =
     let state = g.State.BitArray.number in
     let w = g.Word.BitArray.BITS in
     let s = g.State.BitArray.BITS in
-    let old : RangeKept g.row.Word.Denot g.row.State.Denot = record { encoder = c.args.encoder.now; words = c.args.buffer.now; len = c.args.len.now } in
+    let old : RangeBuffers g.row.Word.Denot g.row.State.Denot = record { encoder = c.args.encoder.now; words = c.args.buffer.now; len = c.args.len.now } in
     let coded = g.I.Items.coded c.args.items.now in
     let count = g.I.Items.item_count c.args.items.now in
     let can : CanEncode number state w s c.args.encoder.now count = search rules in

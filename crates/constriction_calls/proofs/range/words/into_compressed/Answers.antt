@@ -1,10 +1,10 @@
 use Rattle.std.proofs.Common.{◌∙◌, ◌-◌, ◌≡◌, ◌≤◌, ap, arith, length, refl, rules, sym}
 use Rattle.constriction_queue.specs.Encoder.{run_by}
 use Rattle.constriction_queue.specs.Range.{Run, sealed}
-use Rattle.constriction_calls.specs.RangeCalls.{CanEncode, IsSealed, RangeKept, count_needed}
+use Rattle.constriction_calls.specs.RangeCalls.{CanEncode, IsSealed, RangeBuffers, count_needed}
 use Rattle.constriction_inputs.specs.declared.refusal.Refusal.TheVariants as refusals
 use Rattle.constriction_calls.proofs.RangeAnswers.{count_is, seals_after, seals_room}
-use Rattle.constriction_calls.proofs.RangeKept.{turned}
+use Rattle.constriction_calls.proofs.RangeBuffers.{turned}
 use Rattle.constriction_calls.proofs.range.words.into_compressed.Goals as goal
 
 pub returns-then-count-buffer : goal.returns-then-count-buffer
@@ -13,7 +13,7 @@ returns-then-count-buffer g c =
     let state = g.State.BitArray.number in
     let w = g.Word.BitArray.BITS in
     let s = g.State.BitArray.BITS in
-    let old : RangeKept g.row.Word.Denot g.row.State.Denot = record { encoder = c.args.encoder.now; words = c.args.buffer.now; len = c.args.len.now } in
+    let old : RangeBuffers g.row.Word.Denot g.row.State.Denot = record { encoder = c.args.encoder.now; words = c.args.buffer.now; len = c.args.len.now } in
     let within : c.args.len.now ≤ length c.args.buffer.now = omega (arith, c.if-len-buffer.false) in
     let can : CanEncode number state w s c.args.encoder.now 0 = search rules in
     let first = run_by w s c.in-Some.made in
@@ -30,7 +30,7 @@ returns-in-Ok g c =
     let state = g.State.BitArray.number in
     let w = g.Word.BitArray.BITS in
     let s = g.State.BitArray.BITS in
-    let old : RangeKept g.row.Word.Denot g.row.State.Denot = record { encoder = c.args.encoder.now; words = c.args.buffer.now; len = c.args.len.now } in
+    let old : RangeBuffers g.row.Word.Denot g.row.State.Denot = record { encoder = c.args.encoder.now; words = c.args.buffer.now; len = c.args.len.now } in
     let within : c.args.len.now ≤ length c.args.buffer.now = omega (arith, c.if-len-buffer.false) in
     let can : CanEncode number state w s c.args.encoder.now 0 = search rules in
     let first = run_by w s c.in-Some.made in
@@ -49,7 +49,7 @@ returns-in-Err g c =
     let state = g.State.BitArray.number in
     let w = g.Word.BitArray.BITS in
     let s = g.State.BitArray.BITS in
-    let old : RangeKept g.row.Word.Denot g.row.State.Denot = record { encoder = c.args.encoder.now; words = c.args.buffer.now; len = c.args.len.now } in
+    let old : RangeBuffers g.row.Word.Denot g.row.State.Denot = record { encoder = c.args.encoder.now; words = c.args.buffer.now; len = c.args.len.now } in
     let within : c.args.len.now ≤ length c.args.buffer.now = omega (arith, c.if-len-buffer.false) in
     let can : CanEncode number state w s c.args.encoder.now 0 = search rules in
     let first = run_by w s c.in-Some.made in

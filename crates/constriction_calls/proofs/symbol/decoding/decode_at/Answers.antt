@@ -5,7 +5,7 @@ use Rattle.constriction_symbol.specs.Bits.{bits_of_words}
 use Rattle.constriction_symbol.proofs.Lengths.{length_words}
 use Rattle.constriction_inputs.proofs.Asking.{asked_ok}
 use Rattle.constriction_calls.specs.SymbolBits.{IsBit}
-use Rattle.constriction_calls.specs.SymbolCalls.{IsCutOff, IsWrong, ReadsNone, codeword_in}
+use Rattle.constriction_calls.specs.SymbolCalls.{IsCutOff, IsWrong, SymbolReadFails, codeword_in}
 use Rattle.constriction_calls.proofs.SymbolReads.{none_by, taken_by}
 use Rattle.constriction_calls.proofs.symbol.decoding.decode_at.Goals as goal
 
@@ -22,7 +22,7 @@ returns-in_err-read_symbols g c =
     let invalid = g.C.Decoder.DecoderCodebook.is_invalid made.codebook in
     let wrong : List Bool → Type 0 = λ bs. (v : g.row.C-Wrong.Denot) × invalid bs v in
     let e = c.in_err-read_symbols in
-    let err = subst (λ bs. ReadsNone code cut wrong (length c.args.symbols.now) bs e.field-0.0) c.from-bits.ensures e.ensures.err in
+    let err = subst (λ bs. SymbolReadFails code cut wrong (length c.args.symbols.now) bs e.field-0.0) c.from-bits.ensures e.ensures.err in
     let none = none_by code (codeword_in g.C.Codes.number book) made.ensures.codewords cut wrong (IsCutOff book) (IsWrong book) made.ensures.cut (λ bs h. made.ensures.wrong bs h.0 h.1) (length c.args.symbols.now) _ e.field-0.0 err in
     let told = err_from_is_err_and c.from_residual-in_err-read_symbols.result c.from_residual-in_err-read_symbols.ensures.1 in
     rw (told.1, told.2)

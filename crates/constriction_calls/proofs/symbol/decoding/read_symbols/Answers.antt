@@ -1,5 +1,5 @@
 use Rattle.std.proofs.Common.{sym, subst, arith}
-use Rattle.constriction_calls.specs.SymbolCalls.{AreTakenOff}
+use Rattle.constriction_calls.specs.SymbolCalls.{BeginWithCodewords}
 use Rattle.constriction_calls.proofs.SymbolLists.{read_none, read_one}
 use Rattle.constriction_calls.proofs.symbol.decoding.read_symbols.Goals as goal
 
@@ -19,5 +19,5 @@ loop-done-preserved g c =
     record {
       counted = omega (arith, c.push_reserved.ensures.len, l.invariant.counted);
       capacity = omega (arith, c.push_reserved.ensures.capacity, l.invariant.capacity);
-      so_far = subst (λ xs. AreTakenOff (g.C.Codebook.codeword book) xs (g.R.ReadBitStream.unread c.args.stream.now) (g.R.ReadBitStream.unread c.decode_symbol.new.self)) (sym c.push_reserved.ensures.items) one;
+      so_far = subst (λ xs. BeginWithCodewords (g.C.Codebook.codeword book) xs (g.R.ReadBitStream.unread c.args.stream.now) (g.R.ReadBitStream.unread c.decode_symbol.new.self)) (sym c.push_reserved.ensures.items) one;
     }

@@ -1,6 +1,6 @@
 use Rattle.std.proofs.Common.{◌≡◌, length}
 use Rattle.std.specs.Prelude.{vec_capacity}
-use Rattle.constriction_calls.specs.SymbolCalls.{AreTakenOff}
+use Rattle.constriction_calls.specs.SymbolCalls.{BeginWithCodewords}
 use Rattle.constriction_calls.proofs.symbol.decoding.read_symbols.Given as goal
 
 -- so many symbols were read, and there is room for all
@@ -9,5 +9,5 @@ invariant-loop-done g l =
     record {
       counted : length l.read.items ≡ l._done;
       capacity : vec_capacity l.read ≡ length l.fn.symbols;
-      so_far : AreTakenOff (g.C.Codebook.codeword l.fn.codebook) l.read.items (g.R.ReadBitStream.unread l.fn.stream) (g.R.ReadBitStream.unread l.stream);
+      so_far : BeginWithCodewords (g.C.Codebook.codeword l.fn.codebook) l.read.items (g.R.ReadBitStream.unread l.fn.stream) (g.R.ReadBitStream.unread l.stream);
     }

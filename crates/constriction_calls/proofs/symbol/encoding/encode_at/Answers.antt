@@ -1,7 +1,7 @@
 use Rattle.std.proofs.Common.{◌/◌, ◌+◌, ap, inr, length, map}
 use Rattle.std.proofs.lemmas.Result.{err_from_is_err_and}
 use Rattle.constriction_inputs.proofs.Asking.{room_of}
-use Rattle.constriction_calls.specs.SymbolBits.{LackRoomFrom}
+use Rattle.constriction_calls.specs.SymbolBits.{TooShortFromBit}
 use Rattle.constriction_calls.specs.SymbolCalls.{codeword_in}
 use Rattle.constriction_calls.proofs.SymbolPlaces.{lacks_room}
 use Rattle.constriction_calls.proofs.symbol.encoding.encode_at.Goals as goal
@@ -18,7 +18,7 @@ returns-in_err-append g c =
     let e = c.in_err-append.ensures in
     let why = rw (c.deref.ensures.value, c.BITS.ensures) at e.err in
     let less = rw (c.deref.ensures.value, c.BITS.ensures) at e.full in
-    let needs = LackRoomFrom w code c.args.symbols.now (map number words) bit in
+    let needs = TooShortFromBit w code c.args.symbols.now (map number words) bit in
     let room = room_of needs c.in_err-append.field-0.0 (bit / w + length c.in-Some.added.items) why (lacks_room number w bit words is.0 code c.args.symbols.now made.0 c.in-Some.added.items made.1 made.2 less) in
     let told = err_from_is_err_and c.from_residual.result c.from_residual.ensures.1 in
     rw (told.1, told.2)

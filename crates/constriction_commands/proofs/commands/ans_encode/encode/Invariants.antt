@@ -1,6 +1,6 @@
 use Rattle.std.proofs.Common.{◌≤◌, length, drop, reverse}
 use Rattle.constriction_base.specs.Models.{items_of}
-use Rattle.constriction_stack.specs.Ans.{IsValid, empty}
+use Rattle.constriction_stack.specs.Ans.{IsNormalized, empty}
 use Rattle.constriction_stack.specs.Symbols.{EncodesAll}
 use Rattle.constriction_commands.specs.Coding.{of_24_bits}
 use Rattle.constriction_commands.proofs.commands.ans_encode.encode.Given as goal
@@ -9,7 +9,7 @@ use Rattle.constriction_commands.proofs.commands.ans_encode.encode.Given as goal
 abbrev pub invariant-symbols : goal.invariant-symbols
 invariant-symbols g l = record {
   within : l.left ≤ length l.symbols;
-  valid : IsValid 32 64 l.coder.state;
+  valid : IsNormalized 32 64 l.coder.state;
   encoded : EncodesAll 32 64 (items_of (of_24_bits (g.M.EntropyModel.table l.model)) (reverse (drop l.left l.symbols))) empty l.coder.state;
 }
 

@@ -1,5 +1,5 @@
 use Rattle.std.proofs.Common.{◌≡◌, ℕ, map, sym, subst}
-use Rattle.constriction.specs.stack.Ans.{AnsState, IsValid}
+use Rattle.constriction.specs.stack.Ans.{AnsState, IsNormalized}
 use Rattle.constriction.specs.Models.{Model, IsModel}
 use Rattle.constriction.specs.stack.Symbols.{Encodes, Decodes}
 use Rattle.constriction.specs.Tables.{model_of}
@@ -30,8 +30,8 @@ returns c = record {
       let posterior : model_of c.in_ok-posterior.posterior.now ≡ hides.posterior =
       one_at (map model_of m.posteriors) symbol hidden _ _ symbol_back.0 (looked_up _ model_of _ _ _ _ c.get-2.ensures.lookup c.in_ok-posterior.ensures) hides.of_symbol in
       let posterior_model : IsModel 32 hides.posterior = subst (IsModel 32) posterior (is_model c.in_ok-posterior.posterior.now) in
-      let valid_hidden : IsValid 32 64 hides.without = c.encode_undoes_decode.ensures.valid 32 64 hides.posterior hides.latent before hides.without sizes posterior_model valid hides.latent_off in
-      let valid_without : IsValid 32 64 without = subst (IsValid 32 64) (sym symbol_back.1) valid_hidden in
+      let valid_hidden : IsNormalized 32 64 hides.without = c.encode_undoes_decode.ensures.valid 32 64 hides.posterior hides.latent before hides.without sizes posterior_model valid hides.latent_off in
+      let valid_without : IsNormalized 32 64 without = subst (IsNormalized 32 64) (sym symbol_back.1) valid_hidden in
       let put : Encodes 32 64 (model_of c.in_ok-posterior.posterior.now) latent without new = c.in_ok-put_on.ensures valid_without in
       let put_latent : Encodes 32 64 (model_of c.in_ok-posterior.posterior.now) hides.latent without new =
       subst (λ (x : ℕ). Encodes 32 64 (model_of c.in_ok-posterior.posterior.now) x without new) latent_back.0 put in

@@ -1,5 +1,5 @@
 use Rattle.std.proofs.Common.{◌≡◌, ℕ, List, length, reverse}
-use Rattle.constriction.specs.stack.Ans.{AnsState, IsValid}
+use Rattle.constriction.specs.stack.Ans.{AnsState, IsNormalized}
 use Rattle.constriction.specs.Steps.{InTurn}
 use Rattle.constriction_examples.specs.Hiding.{Hides}
 use Rattle.constriction_examples.proofs.Runs.{Revealed}
@@ -9,6 +9,6 @@ use Rattle.constriction_examples.proofs.bits_back.Mixture.reveal_all.Given as go
 abbrev pub invariant-symbols : goal.invariant-symbols
 invariant-symbols l = record {
   counted : length l.symbols.items ≡ l.counter;
-  revealed : (hidden : List ℕ) (before : AnsState) → length hidden ≡ l.count → IsValid 32 64 before
+  revealed : (hidden : List ℕ) (before : AnsState) → length hidden ≡ l.count → IsNormalized 32 64 before
       → InTurn (Hides l.self) hidden before l.fn.coder.state → Revealed l.self (reverse hidden) l.symbols.items before l.coder.state;
 }

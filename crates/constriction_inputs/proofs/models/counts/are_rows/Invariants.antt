@@ -1,10 +1,10 @@
 use Rattle.std.proofs.Common.{◌≡◌, ◌*◌, ◌<◌, ℕ}
 use Rattle.constriction_models.specs.Categorical.{MakeCategorical}
-use Rattle.constriction_inputs.specs.Mixtures.{row_of_place}
+use Rattle.constriction_inputs.specs.Mixtures.{row_at_index}
 use Rattle.constriction_inputs.proofs.models.counts.are_rows.Given as goal
 
 abbrev pub invariant-loop-done : goal.invariant-loop-done
 invariant-loop-done g l = record {
   begins : l.start ≡ l.width * l._done;
-  done : (place : ℕ) → place < l._done → MakeCategorical g.row.PRECISION (row_of_place l.width place l.counts);
+  done : (place : ℕ) → place < l._done → MakeCategorical g.row.PRECISION (row_at_index l.width place l.counts);
 }

@@ -2,11 +2,11 @@ use Rattle.std.proofs.Common.{ℕ, ◌-◌, ◌≤◌, ◌^◌, List, [], ◌∷
 use Rattle.constriction_base.specs.Steps.{Step, AreWords, IsSizes, IsStep}
 use Rattle.constriction_base.specs.Models.{Model, IsModel}
 use Rattle.constriction_queue.proofs.Seals.{words_of_numbers}
-use Rattle.constriction_stack.specs.Ans.{AnsState, IsValid}
+use Rattle.constriction_stack.specs.Ans.{AnsState, IsNormalized}
 use Rattle.constriction_stack.specs.Symbols.{Decodes, Encodes}
 use Rattle.constriction_stack.proofs.Pushing.{valid_pop}
 use Rattle.constriction_laws.specs.Bounds.{Decode, Encode}
-use Rattle.constriction_laws.specs.Exchanges.{TakenHigh}
+use Rattle.constriction_laws.specs.Exchanges.{HighThroughout}
 use Rattle.constriction_laws.proofs.of_stack.Choosing.{step_of}
 use Rattle.constriction_stack.proofs.StepCalls.{encode_of}
 use Rattle.constriction_laws.proofs.of_stack.ListCalls.{decode_of, refused_decode, refused_encode}
@@ -29,7 +29,7 @@ returns-clause-net g c =
     let sizes : IsSizes w s = c.state.ensures.1.sizes in
     let full : 2 ^ (s - w) ≤ old.head = rw c.state.ensures.0 at c.if-is_low.ensures in
     let coder = c.state.ensures.1 in
-    let valid : IsValid w s old = record {
+    let valid : IsNormalized w s old = record {
       state = record {
         fits = coder.head_fits;
         are_words = subst (λ (ws : List ℕ). AreWords w ws) (sym coder.words_are) (words_of_numbers number w g.met.Word.BitArray.number_law (g.Backend.Holds.words c.args.coder.now.backend));
@@ -41,7 +41,7 @@ returns-clause-net g c =
     (decode_of _ number g.Backend.Holds g.Backend.ReadWords w s off _ _ _ c.in-Ok.ensures.step).0 g.met.Backend.WriteWords.knows_words in
     let out : Step = record { precision = g.row.PRECISION; left = taken.0; p = taken.1 } in
     let out_step : IsStep w out = step_of w s off c.in-Ok.taken taken.0 taken.1 off_lawful taken.2 in
-    let middle_valid : IsValid w s middle = subst (λ (x : AnsState). IsValid w s x) (sym taken.3.1) (valid_pop w s out sizes out_step old valid taken.3.0) in
+    let middle_valid : IsNormalized w s middle = subst (λ (x : AnsState). IsNormalized w s x) (sym taken.3.1) (valid_pop w s out sizes out_step old valid taken.3.0) in
     let given : Encodes w s on c.args.symbol.now middle new =
     encode_of number g.Backend.Holds g.Backend.WriteWords w s _ on _ _ _ middle_valid c.in-Ok-encode_symbol.ensures.step in
     let put : Step = record { precision = g.row.PRECISION; left = given.0; p = given.1 } in
@@ -68,7 +68,7 @@ returns-clause-done g c =
     let full : 2 ^ (s - w) ≤ old.head = rw c.state.ensures.0 at c.if-is_low.ensures in
     let middle_full : 2 ^ (s - w) ≤ middle.head = rw c.state-2.ensures.0 at c.if-is_low-2.ensures in
     let coder = c.state.ensures.1 in
-    let valid : IsValid w s old = record {
+    let valid : IsNormalized w s old = record {
       state = record {
         fits = coder.head_fits;
         are_words = subst (λ (ws : List ℕ). AreWords w ws) (sym coder.words_are) (words_of_numbers number w g.met.Word.BitArray.number_law (g.Backend.Holds.words c.args.coder.now.backend));
@@ -79,7 +79,7 @@ returns-clause-done g c =
     (decode_of _ number g.Backend.Holds g.Backend.ReadWords w s off _ _ _ c.in-Ok.ensures.step).0 g.met.Backend.WriteWords.knows_words in
     let out : Step = record { precision = g.row.PRECISION; left = taken.0; p = taken.1 } in
     let out_step : IsStep w out = step_of w s off c.in-Ok.taken taken.0 taken.1 off_lawful taken.2 in
-    let middle_valid : IsValid w s middle = subst (λ (x : AnsState). IsValid w s x) (sym taken.3.1) (valid_pop w s out sizes out_step old valid taken.3.0) in
+    let middle_valid : IsNormalized w s middle = subst (λ (x : AnsState). IsNormalized w s x) (sym taken.3.1) (valid_pop w s out sizes out_step old valid taken.3.0) in
     let given : Encodes w s on c.args.symbol.now middle c.encode_symbol.new.self.state =
     encode_of number g.Backend.Holds g.Backend.WriteWords w s _ on _ _ _ middle_valid c.in-Ok-encode_symbol.ensures.step in
     (middle, (full, taken, middle_full), given)
@@ -105,5 +105,5 @@ returns-in-Err-Backend-clause-err g c =
     (decode_of _ number g.Backend.Holds g.Backend.ReadWords w s off _ _ _ c.in-Ok.ensures.step).0 g.met.Backend.WriteWords.knows_words in
     let step = rw c.in-Err-Backend.field-0-is at c.in-Err-Backend.ensures.step in
     let kept = refused_encode number g.Backend.Holds g.Backend.WriteWords w s _ g.row.PRECISION (g.E.EntropyModel.table c.args.on.now) c.args.symbol.now c.decode_symbol.new.self c.encode_symbol.new.self c.in-Err-Backend.field-0-0 step in
-    let high = subst (λ (x : AnsState). TakenHigh w s off c.in-Ok.taken old x) (sym kept) (full, taken, middle_full) in
+    let high = subst (λ (x : AnsState). HighThroughout w s off c.in-Ok.taken old x) (sym kept) (full, taken, middle_full) in
     inr (c.in-Ok.taken, c.decode_symbol.new.self, c.in-Err-Backend.field-0-0, high, c.in-Ok.ensures.step, step)

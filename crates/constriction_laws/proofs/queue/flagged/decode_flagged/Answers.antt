@@ -1,6 +1,6 @@
 use Rattle.std.proofs.Common.{Ok, Err, ◌∙◌, ◌==◌, ◌||◌, ℕ, Bool, pow_pos, [], ◌∷◌, ◌++◌, length, length-append, refl, sym, ap, ap₂, subst, arith}
 use Rattle.constriction_base.specs.Models.{Model, IsModel}
-use Rattle.constriction_queue.specs.Flagged.{DecodesUnder, HoldsNone, has_flag, next_model}
+use Rattle.constriction_queue.specs.Flagged.{DecodesUnder, NoSymbolFrom, has_flag, next_model}
 use Rattle.constriction_queue.specs.declared.decoder.symbols.DecoderFrontendError.{DecoderFrontendError}
 use Rattle.constriction_queue.specs.Symbols.{Finds}
 use Rattle.constriction_laws.proofs.of_queue.Flagging.{behind_next, decodes_behind, finds_behind, next_lawful, none_behind, only_invalid, or_none, stands_still, switched_more, taken_none}
@@ -66,7 +66,7 @@ returns-in-Err-clause-err g c = λ known words old at.
     let b : Bool = before || has_flag flag so_far in
     let model : Model ℕ = next_model b first second in
     let quantile = found_quantile w s words model next.0 here.0 next.1 decoder (next_lawful w s words flag first second m n b) (pow_pos s) here.2 next.2 in
-    let halts = subst (λ (b : Bool). HoldsNone s (next_model b first second).precision decoder) inv.switched halt in
+    let halts = subst (λ (b : Bool). NoSymbolFrom s (next_model b first second).precision decoder) inv.switched halt in
     omega (arith, halts, quantile)))
 
 pub returns-in-Err-clause-steps : goal.returns-in-Err-clause-steps

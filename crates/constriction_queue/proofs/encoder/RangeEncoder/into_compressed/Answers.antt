@@ -1,7 +1,7 @@
 use Rattle.std.proofs.Common.{map, refl}
 use Rattle.std.proofs.lemmas.Result.{err_from_is_err_and}
 use Rattle.constriction_base.proofs.Written.{not_written}
-use Rattle.constriction_queue.specs.Encoder.{owed_of}
+use Rattle.constriction_queue.specs.Encoder.{flushed_of}
 use Rattle.constriction_queue.proofs.Encoders.{is_encoder}
 use Rattle.constriction_queue.proofs.Seals.{words_of_numbers}
 use Rattle.constriction_queue.proofs.encoder.RangeEncoder.into_compressed.Goals as goal
@@ -22,7 +22,7 @@ returns-in_err-write_owed-clause-err g c =
     let told = err_from_is_err_and c.from_residual.result c.from_residual.ensures.1 in
     rw (told.1, told.2, ← c.self.view_is) record {
       words_are = refl;
-      owed = owed_of number seal.held seal.point seal.zero;
+      owed = flushed_of number seal.held seal.point seal.zero;
       is = all;
       not_written = not_written number g.Backend.Holds g.Backend.WriteWords _ _ _ _ c.in_err-write_owed.ensures;
     }

@@ -1,6 +1,6 @@
 use Rattle.std.specs.Prelude.{◌++◌, map}
 use Rattle.std.proofs.Common.{ap, ◌∙◌}
-use Rattle.constriction_queue.specs.Encoder.{first_owed}
+use Rattle.constriction_queue.specs.Encoder.{flushed_in_order}
 use Rattle.constriction_queue.proofs.Seals.{words_of_numbers}
 use Rattle.constriction_queue.proofs.Showing.{behind_written, shown_is}
 use Rattle.constriction_queue.proofs.encoder.RangeEncoder.iter_compressed.Goals as goal
@@ -12,8 +12,8 @@ returns g c =
     let seal = c.sealing.result in
     let all = c.sealing.ensures.words (map number words) (words_of_numbers number _ g.met.Word.BitArray.number_law words) in
     rw (← c.self.view_is) record {
-      lent = ap (λ ws. map number ws ++ first_owed number seal.held seal.point seal.zero) c.words.ensures
+      lent = ap (λ ws. map number ws ++ flushed_in_order number seal.held seal.point seal.zero) c.words.ensures
           ∙ ap (λ ws. map number (g.Backend.Words.lent c.self.inside.bulk) ++ ws) (behind_written number seal.held seal.point seal.zero (map number words) _ all);
-      words = λ order. ap (λ ws. map number ws ++ first_owed number seal.held seal.point seal.zero) c.words.ensures
+      words = λ order. ap (λ ws. map number ws ++ flushed_in_order number seal.held seal.point seal.zero) c.words.ensures
           ∙ shown_is number words (g.Backend.Words.lent c.self.inside.bulk) seal.held seal.point seal.zero _ order all;
     }

@@ -1,7 +1,7 @@
 use Rattle.std.specs.Prelude.{◌≡◌, ◌+◌, ◌*◌, ◌/◌, ◌<◌, ◌^◌, length, map}
 use Rattle.std.proofs.Common.{arith, refl}
 use Rattle.std.proofs.lemmas.Bool.{false≢true, leb-true, le-leb}
-use Rattle.constriction_queue.specs.Encoder.{encoder_of, owed_of, sealed_by}
+use Rattle.constriction_queue.specs.Encoder.{encoder_of, flushed_of, sealed_by}
 use Rattle.constriction_queue.proofs.Seals.{words_of_numbers, count_is, words_within}
 use Rattle.constriction_queue.proofs.encoder.RangeEncoder.sizes_fit.Goals as goal
 use Rattle.constriction_base.proofs.Sizes.{fit_by_quotient}
@@ -15,7 +15,7 @@ returns-in_default g c =
     let all = c.sealing-seal.ensures.words (map number held) (words_of_numbers number _ g.met.Word.BitArray.number_law held) in
     let n = length (sealed_by w g.State.BitArray.BITS (encoder_of number g.Backend.Holds w (g.State.BitArray.number c.self.inside.state.lower) (g.State.BitArray.number c.self.inside.state.range) c.self.inside.bulk c.self.inside.situation)) in
     let sum : c.remaining.result + c.owed_count-owed.result ≡ n =
-    omega (arith, c.remaining.ensures, c.owed_count-owed.ensures, count_is number (owed_of number seal.held seal.point seal.zero) held _ all) in
+    omega (arith, c.remaining.ensures, c.owed_count-owed.ensures, count_is number (flushed_of number seal.held seal.point seal.zero) held _ all) in
     let top : 2 ^ 64 ≡ 18446744073709551616 = refl in
     rw (← c.self.view_is) (
       λ is. absurd (false≢true is),
@@ -31,7 +31,7 @@ returns g c =
     let all = c.sealing-seal.ensures.words (map number held) (words_of_numbers number _ g.met.Word.BitArray.number_law held) in
     let n = length (sealed_by w g.State.BitArray.BITS (encoder_of number g.Backend.Holds w (g.State.BitArray.number c.self.inside.state.lower) (g.State.BitArray.number c.self.inside.state.range) c.self.inside.bulk c.self.inside.situation)) in
     let sum : c.remaining.result + c.owed_count-owed.result ≡ n =
-    omega (arith, c.remaining.ensures, c.owed_count-owed.ensures, count_is number (owed_of number seal.held seal.point seal.zero) held _ all) in
+    omega (arith, c.remaining.ensures, c.owed_count-owed.ensures, count_is number (flushed_of number seal.held seal.point seal.zero) held _ all) in
     let added = c.in-Some.ensures in
     let words : c.in-Some.words ≡ n = omega (arith, added.1, sum) in
     let by_quotient = fit_by_quotient w n c.self.invariant.0.some_bits in

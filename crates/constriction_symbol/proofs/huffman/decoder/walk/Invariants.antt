@@ -1,6 +1,6 @@
 use Rattle.std.proofs.Common.{◌+◌, ◌≡◌, Bool, List, Some, length, map}
 use Rattle.std.specs.Iterator.{IsFinite}
-use Rattle.constriction_symbol.specs.Codewords.{GivesBits}
+use Rattle.constriction_symbol.specs.Codewords.{YieldsBits}
 use Rattle.constriction_symbol.specs.DecoderTree.{tree_of_pairs}
 use Rattle.constriction_symbol.specs.Huffman.{IsTreeAt, Tree, subtree}
 use Rattle.constriction_symbol.specs.Merging.{as_pair}
@@ -15,7 +15,7 @@ invariant-walk g l = record {
   taken : List Bool;
   leads : subtree (tree_of_pairs l.nodes) taken ≡ Some tree;
   at : IsTreeAt (length l.nodes + 1) (map as_pair l.nodes) l.index tree;
-  gives : GivesBits g.I.Iterator.next_gives l.fn.source taken l.source;
+  gives : YieldsBits g.I.Iterator.next_gives l.fn.source taken l.source;
 }
 
 abbrev pub decreases-walk : goal.decreases-walk

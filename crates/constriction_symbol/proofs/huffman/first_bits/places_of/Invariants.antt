@@ -1,5 +1,5 @@
 use Rattle.std.proofs.Common.{◌≡◌, ◌≤◌, ◌+◌, ◌^◌, length}
-use Rattle.constriction_symbol.specs.DecoderTree.{HasPlaces}
+use Rattle.constriction_symbol.specs.DecoderTree.{LeadToNodes}
 use Rattle.constriction_symbol.proofs.huffman.first_bits.places_of.Given as goal
 
 -- the numbers so far have their places
@@ -8,5 +8,5 @@ invariant-loop-number l = record {
   len : length l.places.items ≡ l.number;
   some : 2 ≤ l.number;
   within : l.number ≤ 2 ^ (l.most + 1);
-  places : HasPlaces l.nodes l.places.items;
+  places : LeadToNodes l.nodes l.places.items;
 }

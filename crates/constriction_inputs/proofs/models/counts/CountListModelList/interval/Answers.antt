@@ -2,7 +2,7 @@ use Rattle.std.proofs.Common.{◌≡◌, ◌+◌, ◌*◌, ◌<◌, ◌≤◌, �
 use Rattle.constriction_base.specs.Tables.{Impossible}
 use Rattle.constriction_models.specs.Categorical.{MakeCategorical}
 use Rattle.constriction_inputs.specs.Items.{IsEntryOf}
-use Rattle.constriction_inputs.specs.Mixtures.{row_of_place}
+use Rattle.constriction_inputs.specs.Mixtures.{row_at_index}
 use Rattle.constriction_inputs.proofs.CountTables.{table_at, tables_counted}
 use Rattle.constriction_inputs.proofs.MixtureTables.{row_ends}
 use Rattle.constriction_inputs.proofs.models.counts.CountListModelList.interval.Goals as goal
@@ -12,7 +12,7 @@ model_at-model-requires g c =
     let list = c.args.self.now in
     let at : c.args.place < list.count = omega (arith, c.requires, tables_counted g.row.PRECISION list.width list.counts.now list.count) in
     let ends : list.width * c.args.place + list.width ≤ length list.counts.now = omega (arith, list.counted, row_ends list.width c.args.place list.count at) in
-    let row : MakeCategorical g.row.PRECISION (row_of_place list.width c.args.place list.counts.now) = list.rows c.args.place at in
+    let row : MakeCategorical g.row.PRECISION (row_at_index list.width c.args.place list.counts.now) = list.rows c.args.place at in
     search rules
 
 pub returns-in-Some-clause-found : goal.returns-in-Some-clause-found

@@ -1,6 +1,6 @@
 use Rattle.std.proofs.Common.{◌∙◌, ◌*◌, arith, ap, refl, sym}
 use Rattle.constriction_models.specs.Mixtures.{total_weight}
-use Rattle.constriction_inputs.specs.Mixtures.{row_of_place}
+use Rattle.constriction_inputs.specs.Mixtures.{row_at_index}
 use Rattle.constriction_inputs.proofs.MixtureTables.{row_between, row_long, row_scaled, total_of}
 use Rattle.constriction_inputs.proofs.models.mixtures.mixed.fill_from_row.Goals as goal
 
@@ -37,10 +37,10 @@ returns c =
       row_between given.width given.place start given.locations.now refl,
       row_between given.width given.place start given.scales.now refl,
     ) at c.fill.ensures.components in
-    let weights = row_of_place given.width given.place given.weights.now in
+    let weights = row_at_index given.width given.place given.weights.now in
     let long = row_long given.width given.place given.weights.now c.requires.within in
     let total = ap total_weight filled
-    ∙ total_of given.family weights (row_of_place given.width given.place given.locations.now) (row_of_place given.width given.place given.scales.now)
+    ∙ total_of given.family weights (row_at_index given.width given.place given.locations.now) (row_at_index given.width given.place given.scales.now)
     (row_long given.width given.place given.locations.now (omega (arith, c.requires.within, c.requires.counted.0)) ∙ sym long)
     (row_long given.width given.place given.scales.now (omega (arith, c.requires.within, c.requires.counted.1)) ∙ sym long) in
     record {

@@ -6,7 +6,7 @@ use Rattle.std.specs.Slice.Iter.{iter_rest}
 use Rattle.std.proofs.lemmas.List.{map-append}
 use Rattle.std.proofs.lemmas.Result.{MatchResult-weaker}
 use Rattle.constriction_base.specs.Models.{Item, item_of}
-use Rattle.constriction_chain.specs.Symbols.{PutsBackAll}
+use Rattle.constriction_chain.specs.Symbols.{ChainEncodesAll}
 use Rattle.constriction_laws.proofs.of_chain.Ending.{not_encoded}
 use Rattle.constriction_laws.proofs.of_chain.FromBack.{stopped_pairs}
 use Rattle.constriction_laws.proofs.of_chain.ListCalls.{encodes_of}
@@ -34,8 +34,8 @@ returns-clause-encoded g c = λ known.
     let all = ap (λ pairs. map item pairs) given ∙ map-reverse item (zip symbols models) in
     let coded = encodes_of g.Word.BitArray.number g.C.Holds g.C.WriteWords g.R.Holds g.R.ReadWords
     w s _ (λ p. (p.0.now, p.1.now)) item e.2 old e.3 known e.4 in
-    subst (λ items. PutsBackAll w s items old.state new.state) all
-    (subst (λ x. PutsBackAll w s (map item (map (λ p. (p.0.now, p.1.now)) e.2)) old.state x.state) p.0 coded)))
+    subst (λ items. ChainEncodesAll w s items old.state new.state) all
+    (subst (λ x. ChainEncodesAll w s (map item (map (λ p. (p.0.now, p.1.now)) e.2)) old.state x.state) p.0 coded)))
     (λ _ _. tt)
 
 pub returns-clause-err : goal.returns-clause-err

@@ -1,6 +1,6 @@
 use Rattle.std.proofs.Common.{◌≡◌, ◌∙◌, ◌∷◌, ◌++◌, ◌↔◌, ℕ, [], refl, subst, ap, arith, map, pow_pos, List, length}
 use Rattle.constriction_queue.specs.Range.{Run, Within, initial}
-use Rattle.constriction_laws.specs.queue.Outcomes.{GivesNone}
+use Rattle.constriction_laws.specs.queue.Outcomes.{NoListFrom}
 use Rattle.constriction_base.specs.Models.{Item, IsModel, AreModels, pairs_of}
 use Rattle.constriction_base.specs.Steps.{AreWords}
 use Rattle.constriction_base.proofs.WordLists.{words_behind}
@@ -82,7 +82,7 @@ returns-in_err-again-clause-err g c =
     let known = g.met.Words.IntoReadWords.BoundedReadWords.knows_words in
     let items : List g.row.M-Symbol.Denot → List (Item g.row.M-Symbol.Denot) = λ (symbols : List g.row.M-Symbol.Denot). pairs_of g.row.PRECISION g.M.EntropyModel.table symbols c.args.models.now in
     passed _ c.in_err-again.field-0.0 _ c.from_residual.ensures.1
-    (while_reading _ ⊥ ⊥ (GivesNone g.Words.IntoReadWords.Holds.is_list g.Word.BitArray.BITS g.State.BitArray.BITS items (length c.args.models.now) c.in-Ok.decoder) c.in_err-again.field-0.0
+    (while_reading _ ⊥ ⊥ (NoListFrom g.Words.IntoReadWords.Holds.is_list g.Word.BitArray.BITS g.State.BitArray.BITS items (length c.args.models.now) c.in-Ok.decoder) c.in_err-again.field-0.0
     c.in_err-again.ensures.err (λ none. none known _ (initial g.State.BitArray.BITS) (c.in-Ok.ensures.ok known)))
 
 pub returns-clause-within : goal.returns-clause-within

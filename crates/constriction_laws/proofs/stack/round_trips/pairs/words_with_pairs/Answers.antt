@@ -2,7 +2,7 @@ use Rattle.std.proofs.Common.{◌≡◌, length, sym, subst, ap, ◌∙◌, arit
 use Rattle.std.specs.Prelude.{reverse}
 use Rattle.std.proofs.lemmas.List.{length-map}
 use Rattle.constriction_base.specs.Models.{pairs_of}
-use Rattle.constriction_stack.specs.Ans.{AnsState, IsValid, empty, exported}
+use Rattle.constriction_stack.specs.Ans.{AnsState, IsNormalized, empty, exported}
 use Rattle.constriction_stack.specs.Symbols.{EncodesAll}
 use Rattle.constriction_laws.proofs.StepsOfSymbols.{entries_are_steps, steps_of_encodes}
 use Rattle.constriction_laws.proofs.of_stack.ComingBack.{empty_valid}
@@ -21,7 +21,7 @@ returns-in-Ok-clause-few g c = λ new.
     let models = are_turned g.row.PRECISION table w c.args.symbols.now c.args.models.now
     (λ m. (let sized = g.met.M.EntropyModel.sized m in record { some_bits = sized.0; within_word = omega (arith, sized.1, g.met.M.Probability.WordOf.width_law); lawful = g.M.EntropyModel.lawful m })) in
     let last : AnsState = c.encode_pairs_reverse.new.coder.state in
-    let valid = subst (λ (x : AnsState). IsValid w s x) (sym new) (empty_valid w s) in
+    let valid = subst (λ (x : AnsState). IsNormalized w s x) (sym new) (empty_valid w s) in
     let coded : EncodesAll w s items empty last = subst (λ (x : AnsState). EncodesAll w s items x last) new (c.in_ok-encode_pairs_reverse.ensures.coded valid) in
     let steps = steps_of_encodes w s items empty last coded in
     let words = g.Backend.Holds.words c.in-Ok.words in

@@ -1,7 +1,7 @@
 use Rattle.std.proofs.Common.{◌≡◌, sym, subst, arith, map}
 use Rattle.std.specs.Prelude.{false, reverse}
 use Rattle.constriction_laws.specs.Readings.{words_left}
-use Rattle.constriction_laws.specs.stack.Readings.{told}
+use Rattle.constriction_laws.specs.stack.Readings.{state_by_words}
 use Rattle.constriction_stack.specs.Ans.{AnsState, filled}
 use Rattle.constriction_stack.specs.Symbols.{DecodesAll}
 use Rattle.constriction_base.specs.Models.{IsModel, pairs_of}
@@ -17,12 +17,12 @@ returns-clause-read g c = λ words tells.
     let start = c.in-Ok.decoder in
     let last = c.decode_pairs.new.coder in
     let law = c.items_are_words.ensures words tells in
-    let imported : filled w s 0 (map number (words c.args.items)) ≡ told number (words_left words) start =
+    let imported : filled w s 0 (map number (words c.args.items)) ≡ state_by_words number (words_left words) start =
     c.imports_are_words.ensures (words_left words) w s start.state.head (c.args.items, false) start.backend c.requires.sizes c.in-Ok.ensures.coder.head_fits law c.in-Ok.ensures.reads in
     ok_weaker c.decode_pairs.result c.decode_pairs.ensures.read
     (λ again read. (let items = pairs_of g.row.PRECISION g.M.EntropyModel.table again.items c.args.models.now in (
-      told number (words_left words) last,
-      subst (λ (x : AnsState). DecodesAll w s items x (told number (words_left words) last)) (sym imported)
+      state_by_words number (words_left words) last,
+      subst (λ (x : AnsState). DecodesAll w s items x (state_by_words number (words_left words) last)) (sym imported)
           (c.decodes_are_words.ensures.all (words_left words) w s items start last law read),
     )))
 

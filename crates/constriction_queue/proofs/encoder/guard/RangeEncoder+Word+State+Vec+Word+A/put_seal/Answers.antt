@@ -1,7 +1,7 @@
 use Rattle.std.proofs.Common.{map, reverse, drop, length, arith, ap, ◌∙◌}
 use Rattle.std.proofs.lemmas.Result.{err_from_is_err_and}
 use Rattle.std.proofs.lemmas.List.{length-map}
-use Rattle.constriction_queue.specs.Encoder.{owed_of}
+use Rattle.constriction_queue.specs.Encoder.{flushed_of}
 use Rattle.constriction_queue.proofs.Seals.{words_of_numbers, count_is}
 use Rattle.constriction_queue.proofs.Encoders.{is_encoder}
 use Rattle.constriction_queue.proofs.encoder.guard.RangeEncoder+Word+State+Vec+Word+A.put_seal.Goals as goal
@@ -18,7 +18,7 @@ returns-clause-back g c =
     let number = g.Word.BitArray.number in
     let words = reverse c.self.inside.bulk.items in
     let seal = c.sealing-seal.result in
-    let owed = owed_of number seal.held seal.point seal.zero in
+    let owed = flushed_of number seal.held seal.point seal.zero in
     rw (← c.self.view_is, c.owed_count-count.ensures) (ap (drop (length owed)) c.in_ok-write_owed.ensures.words ∙ drop-append_seam owed (map number words))
 
 pub returns-in_err-write_owed-clause-room : goal.returns-in_err-write_owed-clause-room
@@ -26,7 +26,7 @@ returns-in_err-write_owed-clause-room g c =
     let number = g.Word.BitArray.number in
     let words = reverse c.self.inside.bulk.items in
     let seal = c.sealing-seal.result in
-    let owed = owed_of number seal.held seal.point seal.zero in
+    let owed = flushed_of number seal.held seal.point seal.zero in
     let all = c.sealing-seal.ensures.words (map number words) (words_of_numbers number _ g.met.Word.BitArray.number_law words) in
     let count = count_is number owed words _ all in
     let len = length-map words number in

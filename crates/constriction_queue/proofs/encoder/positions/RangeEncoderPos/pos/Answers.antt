@@ -1,6 +1,6 @@
 use Rattle.std.specs.Prelude.{◌≡◌, ◌++◌, length, map}
 use Rattle.std.proofs.Common.{arith, refl}
-use Rattle.constriction_queue.specs.Encoder.{held_of}
+use Rattle.constriction_queue.specs.Encoder.{pending_of}
 use Rattle.constriction_queue.proofs.Encoders.{is_encoder, low_is, moves_are}
 use Rattle.constriction_queue.proofs.encoder.positions.RangeEncoderPos.pos.Goals as goal
 
@@ -8,7 +8,7 @@ pub returns : goal.returns
 returns g c =
     let number = g.Word.BitArray.number in
     let words = g.Backend.Holds.words c.self.inside.bulk in
-    let held = held_of number g.Word.BitArray.BITS c.self.inside.situation in
+    let held = pending_of number g.Word.BitArray.BITS c.self.inside.situation in
     let place = g.met.Backend.CountsWords.count_law c.self.inside.bulk c.pos.result c.pos.ensures in
     let count : c.held.result ≡ length held = rw (← c.self.view_is) at c.held.ensures in
     rw (← c.self.view_is) (

@@ -2,11 +2,11 @@ use Rattle.std.specs.Prelude.{◌≡◌, []}
 use Rattle.std.proofs.Common.{◌∙◌, sym, inl, inr}
 use Rattle.constriction_stream.proofs.Outcomes.{room_unless}
 use Rattle.constriction_queue.specs.Calls.{EncodeCall}
-use Rattle.constriction_queue.specs.Encoder.{encoder_of, held_of}
+use Rattle.constriction_queue.specs.Encoder.{encoder_of, pending_of}
 use Rattle.constriction_queue.proofs.encoder.symbols.RangeEncoderEncode.maybe_full.Goals as goal
 
 pub returns-clause-room : goal.returns-clause-room
-returns-clause-room g c = rw (← c.self.view_is) (room_unless _ c.maybe_full.result (held_of g.Word.BitArray.number g.Word.BitArray.BITS c.self.inside.situation ≡ [])
+returns-clause-room g c = rw (← c.self.view_is) (room_unless _ c.maybe_full.result (pending_of g.Word.BitArray.number g.Word.BitArray.BITS c.self.inside.situation ≡ [])
     (EncodeCall g.Word.BitArray.number g.Backend.Holds g.Backend.WriteWords g.Word.BitArray.BITS g.State.BitArray.BITS)
     g.Backend.WriteWords.is_lack_of_room
     (encoder_of g.Word.BitArray.number g.Backend.Holds g.Word.BitArray.BITS (g.State.BitArray.number c.self.inside.state.lower) (g.State.BitArray.number c.self.inside.state.range) c.self.inside.bulk c.self.inside.situation)

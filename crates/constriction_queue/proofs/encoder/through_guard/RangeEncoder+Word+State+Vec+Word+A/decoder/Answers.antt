@@ -5,10 +5,10 @@ use Rattle.constriction_queue.proofs.Distances.{from_zero}
 use Rattle.constriction_queue.proofs.Showing.{queue_is}
 use Rattle.std.specs.declared.convert.Infallible.{Infallible}
 use Rattle.constriction_queue.specs.Guarded.{lent_by}
-use Rattle.constriction_base.specs.Backends.{Place}
+use Rattle.constriction_base.specs.Backends.{BufferPosition}
 use Rattle.constriction_queue.proofs.encoder.through_guard.RangeEncoder+Word+State+Vec+Word+A.decoder.Goals as goal
 
-abbrev buffer : {B : Type 0} → Place B → B
+abbrev buffer : {B : Type 0} → BufferPosition B → B
 buffer place = place.buf
 
 pub returns-clause-same_reference : goal.returns-clause-same_reference
