@@ -1,6 +1,6 @@
 //! The two steps of a coder whose words are the first words of a slice, without a branch on the head.
 
-ghost use Rattle.std.specs.Prelude.{◌≡◌, ◌+◌, ◌-◌, ◌^◌, ◌<◌, ◌≤◌, length, map, reverse, take, IfSome};
+ghost use Rattle.std.specs.Prelude.{◌≡◌, ◌+◌, ◌-◌, ◌^◌, ◌<◌, ◌≤◌, drop, length, map, reverse, take, IfSome};
 ghost use Rattle.constriction_base.specs.Steps.{IsSizes, IsStep};
 ghost use Rattle.constriction_words.specs.Reciprocals.{IsReciprocalOf};
 ghost use Rattle.constriction_stack.specs.Ans.{IsPush, IsNormalized, refilled};
@@ -83,7 +83,7 @@ fn refilled_from<Word: WordOf<State>, State: BitArray>(
 ///
 /// The caller proves that `words` has room for one word behind the first `len`, that the interval is a step at
 /// `precision` bits, and that `reciprocal`, if there is one, is the reciprocal of `p`. The call writes `words[len]`
-/// even if the head owes no word.
+/// even if no word moves out of the head, and no other word.
 #[inline(always)]
 pub fn encode_onto<Word: WordOf<State>, State: BitArray>(
     head: State,
@@ -103,6 +103,7 @@ pub fn encode_onto<Word: WordOf<State>, State: BitArray>(
         (lane Word.number State.number head words.old len)
         (lane Word.number State.number result.0 words.new result.1) }
     ensures more { (len ≤ result.1) × (result.1 ≤ len + 1) }
+    ensures kept { (take len words.new ≡ take len words.old) × (drop (len + 1) words.new ≡ drop (len + 1) words.old) }
 {
     words[len] = Word::narrow(head);
     let (base, end) = room_made::<Word, State>(head, len, p, precision);

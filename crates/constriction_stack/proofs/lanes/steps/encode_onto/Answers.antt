@@ -1,4 +1,5 @@
-use Rattle.std.proofs.Common.{arith, inl, inr, ◌-◌}
+use Rattle.std.proofs.Common.{arith, drop-set-lt, inl, inr, ◌+◌, ◌-◌}
+use Rattle.std.proofs.lemmas.List.{take-set-le}
 use Rattle.constriction_base.specs.Steps.{Step}
 use Rattle.constriction_base.proofs.Heads.{no_room_of_high, room_after_word, room_of_low}
 use Rattle.constriction_base.proofs.Sizes.{above_table}
@@ -25,3 +26,9 @@ returns-clause-encoded g c = λ valid.
       | inr above ↦ rw (c.pushed.ensures, above.1, above.2, more_in g.Word.BitArray.number c.args.words.now c.args.len c.narrow.result c.requires.room, c.narrow.ensures)
           (push_written w s e c.requires.sizes c.requires.step old valid (rw (← above_table w s e c.requires.sizes c.requires.step) (no_room_of_high _ _ _ (λ less. omega (arith, above.0, less)))))
     ]
+
+pub returns-clause-kept : goal.returns-clause-kept
+returns-clause-kept g c =
+    let words = c.args.words.now in
+    let len = c.args.len in
+    (take-set-le len words len c.narrow.result (omega arith), drop-set-lt (len + 1) words len c.narrow.result (omega arith))
