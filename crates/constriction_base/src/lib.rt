@@ -16,6 +16,8 @@
 //! - [`weights`]: `WeightTable`, a model built from the weights of its symbols, with a fast search for a quantile.
 //! - [`errors`]: the errors of coders and backends.
 //! - [`head_words`]: functions that move words between a coder's head (the number above its words) and a backend.
+//!
+//! `docs/CONTRACTS.md` has the contract of each call that the crate `constriction` exports.
 #![tactic(auto)]
 
 pub mod backends;

@@ -7,6 +7,8 @@
 //! ([`codes::code_of`]). If the result is the error `NoSpace`, the function also sets `needed` to the number of words
 //! that the buffer has to hold. For any other result the function leaves `needed` unchanged. The contract of the
 //! function (`ReturnsCodeOf`) is the contract of the call, applied to the result that the returned code stands for.
+//!
+//! `docs/CONTRACTS.md` has the contract of each C function.
 #![tactic(auto)]
 
 pub mod ans;

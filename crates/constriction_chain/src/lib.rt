@@ -36,6 +36,8 @@
 //!
 //! The laws of `constriction_laws` also cite `specs/Symbols.antt`, `specs/Imports.antt` and `specs/Runs.antt`.
 //! Definitions describe words by natural numbers and list them in reading order.
+//!
+//! `docs/CONTRACTS.md` has the contract of each call that the crate `constriction` exports.
 #![tactic(auto)]
 
 pub mod coder;

@@ -17,6 +17,8 @@
 //! - [`queue`]: the range coder.
 //! - [`stack`]: the stack coder (asymmetric numeral systems).
 //! - [`symbol`]: bit coders and codebooks.
+//!
+//! `docs/CONTRACTS.md` has the contract of each law and function that the crate `constriction` exports.
 #![tactic(auto)]
 
 pub mod bounds;

@@ -21,6 +21,8 @@
 //! - [`counts`]: `weights_of_counts`, which computes weights in proportion to counts.
 //! - [`lookup`]: `ContiguousLookupDecoderModel`, which finds a quantile's symbol with one look-up.
 //! - [`errors`]: `SupportError`, the error for too few symbols, or too many for the precision.
+//!
+//! `docs/CONTRACTS.md` has the contract of each call that the crate `constriction` exports.
 #![tactic(auto)]
 
 pub mod bernoulli;

@@ -33,6 +33,8 @@
 //! possible results of a call over a backend). A run describes an encoder's interval by a range and an unbounded lower
 //! end. A run has no pending words and no carries. `specs/Encoder.antt` and `specs/Decoder.antt` relate coders to runs.
 //! `specs/Flagged.antt` states which of two models encodes each symbol.
+//!
+//! `docs/CONTRACTS.md` has the contract of each call that the crate `constriction` exports.
 #![tactic(auto)]
 
 pub mod as_written;

@@ -32,6 +32,8 @@
 //! Contracts cite the definitions of `specs/Ans.antt`: states, pop and push, the words of a state, and the possible
 //! results of a step over a backend. Contracts describe words and heads as natural numbers. They describe the words
 //! below the head as a list in reading order, top word first.
+//!
+//! `docs/CONTRACTS.md` has the contract of each call that the crate `constriction` exports.
 #![tactic(auto)]
 
 pub mod coder;

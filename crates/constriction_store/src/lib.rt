@@ -10,6 +10,8 @@
 //! - [`looking_up`]: decoding one chunk.
 //! - [`parts`]: taking a store apart, and building a store from its parts.
 //! - [`laws`]: theorems about the words at an entry, and about looking up chunks in any order.
+//!
+//! `docs/CONTRACTS.md` has the contract of each call that the crate `constriction` exports.
 #![tactic(auto)]
 
 pub mod building;

@@ -34,6 +34,8 @@
 //!     coder.encode_iid_symbols(symbols, model)
 //! }
 //! ```
+//!
+//! `docs/CONTRACTS.md` has the contract of each call that the crate `constriction` exports.
 #![tactic(auto)]
 
 pub mod coder;

@@ -36,6 +36,8 @@
 //! - `specs/Golomb.antt`: Exp-Golomb codewords.
 //! - `specs/Huffman.antt`: the tree that results from merging the weights, and the tree's codewords.
 //! - `specs/Merging.antt`: the weights from which a tree can be built, and the errors for other weights.
+//!
+//! `docs/CONTRACTS.md` has the contract of each call that the crate `constriction` exports.
 #![tactic(auto)]
 
 pub mod codebooks;

@@ -28,6 +28,8 @@
 //!
 //! No method of `BitArray` or `WordOf` shares its name with a method of `num_traits`. Code that needs `BitArray` and a
 //! trait of `num_traits` writes both bounds, as in `Word: BitArray + PrimInt`, and calls every method by its bare name.
+//!
+//! `docs/CONTRACTS.md` has the contract of each call that the crate `constriction` exports.
 #![tactic(auto)]
 
 pub mod bit_array;
