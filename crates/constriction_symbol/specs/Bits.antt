@@ -1,11 +1,7 @@
 -- The words that hold the bits of a queue or a stack, and reads and writes of bits.
 use Rattle.std.specs.Prelude.{◌≡◌, ℕ, zero, suc, ◌/◌, ◌%◌, ◌^◌, ◌<◌, ◌≤◌, ◌+◌, ◌-◌, Bool, true, false, List, [], ◌∷◌, ◌++◌, ◌==◌, ◌⊎◌, flat_map, map, replicate, reverse, length, if◌then◌else◌, Result, Ok, Err, Option, Some, None}
 use Rattle.constriction_base.specs.Backends.{IsWrite}
-
--- The n lowest bits of a number, lowest first.
-abbrev pub bits_of : ℕ → ℕ → List Bool
-bits_of zero x = []
-bits_of (suc n) x = (x % 2 == 1) ∷ bits_of n (x / 2)
+pub use Rattle.constriction_words.specs.Bits.{bits_of}
 
 -- The bits of words of w bits, word by word.
 abbrev pub bits_of_words : ℕ → List ℕ → List Bool

@@ -3,7 +3,8 @@
 //! The six impls are written out, one file each, because the gate (continuous integration) refuses impls that a macro
 //! of this repository writes. The impls call methods of `num_traits`, so the methods of `BitArray` have other names.
 
-ghost use Rattle.std.specs.Prelude.{◌≡◌, ◌↔◌, ◌+◌, ◌-◌, ◌*◌, ◌/◌, ◌%◌, ◌^◌, ◌<◌, ◌≤◌, ℕ, IsTrue, MatchOption};
+ghost use Rattle.std.specs.Prelude.{◌≡◌, ◌↔◌, ◌+◌, ◌-◌, ◌*◌, ◌/◌, ◌%◌, ◌^◌, ◌<◌, ◌≤◌, ℕ, IsTrue, MatchOption, reverse};
+ghost use Rattle.constriction_words.specs.Bits.{bits_of};
 ghost use Rattle.constriction_words.specs.Reciprocals.{IsReciprocalOf};
 
 use crate::reciprocal::Reciprocal;
@@ -142,6 +143,10 @@ pub trait BitArray: Copy + Drop {
     fn low_bits(self, count: u32) -> Self
         requires { count < BITS }
         ensures { number result ≡ number self % 2 ^ count };
+
+    /// Returns the word whose `BITS` bits are the bits of `self` in reverse order.
+    fn reversed_bits(self) -> Self
+        ensures { bits_of BITS (number result) ≡ reverse (bits_of BITS (number self)) };
 
     /// Returns the number of bits of `self`, not counting leading zero bits: 0 for 0, `BITS` for the greatest number.
     fn bit_length(self) -> u32

@@ -13,6 +13,8 @@ pub struct Single<W> {
     /// `number` shifted right by `by` bits, and the lowest `by` bits of `number`.
     pub right_and_low: (W, W),
     pub length: u32,
+    /// `number` with its bits in reverse order.
+    pub reversed: W,
 }
 
 /// Returns whether the methods return the results of `single`.
@@ -23,6 +25,7 @@ fn is_single<W: BitArray + PartialEq>(single: &Single<W>) -> bool {
         && number.shifted_right(single.by) == single.right_and_low.0
         && number.low_bits(single.by) == single.right_and_low.1
         && number.bit_length() == single.length
+        && number.reversed_bits() == single.reversed
         && number.is_nothing() == (single.length == 0)
         && through_nonzero(number) == number
         && number.to_nonzero().is_none() == (single.length == 0)
@@ -56,13 +59,21 @@ pub fn are_indices<W: BitArray>(words: &[W], indices: &[Option<usize>]) -> bool 
 }
 
 /// Makes the `Single` of a byte from its fields.
-fn byte(number: u8, by: u32, left: Option<u8>, right_and_low: (u8, u8), length: u32) -> Single<u8> {
+fn byte(
+    number: u8,
+    by: u32,
+    left: Option<u8>,
+    right_and_low: (u8, u8),
+    length: u32,
+    reversed: u8,
+) -> Single<u8> {
     Single {
         number,
         by,
         left,
         right_and_low,
         length,
+        reversed,
     }
 }
 
@@ -73,13 +84,13 @@ fn singles_of_u8(rt: HostRuntime) {
             8,
             (0, 1, 255),
             &[
-                byte(0, 7, Some(0), (0, 0), 0),
-                byte(1, 7, Some(128), (0, 1), 1),
-                byte(255, 1, None, (127, 1), 8),
-                byte(255, 0, Some(255), (255, 0), 8),
-                byte(254, 7, None, (1, 126), 8),
-                byte(16, 3, Some(128), (2, 0), 5),
-                byte(16, 4, None, (1, 0), 5),
+                byte(0, 7, Some(0), (0, 0), 0, 0),
+                byte(1, 7, Some(128), (0, 1), 1, 128),
+                byte(255, 1, None, (127, 1), 8, 255),
+                byte(255, 0, Some(255), (255, 0), 8, 255),
+                byte(254, 7, None, (1, 126), 8, 127),
+                byte(16, 3, Some(128), (2, 0), 5, 8),
+                byte(16, 4, None, (1, 0), 5, 8),
             ]
         )
     );

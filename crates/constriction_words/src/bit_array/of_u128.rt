@@ -72,6 +72,10 @@ impl BitArray for u128 {
         self & ((1 << count) - 1)
     }
 
+    fn reversed_bits(self) -> u128 {
+        u128::reverse_bits(self)
+    }
+
     fn bit_length(self) -> u32 {
         u128::BITS - PrimInt::leading_zeros(self)
     }

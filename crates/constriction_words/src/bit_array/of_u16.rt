@@ -77,6 +77,10 @@ impl BitArray for u16 {
         self & ((1 << count) - 1)
     }
 
+    fn reversed_bits(self) -> u16 {
+        u16::reverse_bits(self)
+    }
+
     fn bit_length(self) -> u32 {
         u16::BITS - PrimInt::leading_zeros(self)
     }

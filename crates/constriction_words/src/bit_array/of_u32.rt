@@ -89,6 +89,10 @@ impl BitArray for u32 {
         self & ((1 << count) - 1)
     }
 
+    fn reversed_bits(self) -> u32 {
+        u32::reverse_bits(self)
+    }
+
     fn bit_length(self) -> u32 {
         u32::BITS - PrimInt::leading_zeros(self)
     }

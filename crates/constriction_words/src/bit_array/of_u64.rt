@@ -82,6 +82,10 @@ impl BitArray for u64 {
         self & ((1 << count) - 1)
     }
 
+    fn reversed_bits(self) -> u64 {
+        u64::reverse_bits(self)
+    }
+
     fn bit_length(self) -> u32 {
         u64::BITS - PrimInt::leading_zeros(self)
     }

@@ -77,6 +77,10 @@ impl BitArray for u8 {
         self & ((1 << count) - 1)
     }
 
+    fn reversed_bits(self) -> u8 {
+        u8::reverse_bits(self)
+    }
+
     fn bit_length(self) -> u32 {
         u8::BITS - PrimInt::leading_zeros(self)
     }

@@ -83,6 +83,10 @@ impl BitArray for usize {
         self & ((1 << count) - 1)
     }
 
+    fn reversed_bits(self) -> usize {
+        usize::reverse_bits(self)
+    }
+
     fn bit_length(self) -> u32 {
         usize::BITS - PrimInt::leading_zeros(self)
     }
