@@ -1,5 +1,5 @@
 pub mod ChainRefusals
-pub mod InTurn
+pub mod Trace
 pub mod Lists
 pub mod Outcomes
 pub mod Refusals

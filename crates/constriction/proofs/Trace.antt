@@ -1,2 +1,2 @@
 -- Steps taken one after the other.
-pub use Rattle.constriction_base.proofs.InTurn.{InTurn-append, InTurn-more, InTurn-symbol, InTurn-map, InTurn-turned, InTurn-back}
+pub use Rattle.constriction_base.proofs.Trace.{Trace-append, Trace-more, Trace-symbol, Trace-map, Trace-turned, Trace-back}

@@ -1,2 +1,2 @@
 -- Writing all words that a call has to write to a backend, and the state of the backend after a refused write.
-pub use Rattle.constriction_base.specs.Writing.{IsBegun, WrittenInTurn, StopsAtWrite, IsPrepared, RefusesWrite, RefusedWrite, WritesAll, Appends, NotWritten, IsOneAbove}
+pub use Rattle.constriction_base.specs.Writing.{IsBegun, WriteTrace, StopsAtWrite, IsPrepared, RefusesWrite, RefusedWrite, WritesAll, Appends, NotWritten, IsOneAbove}

@@ -1,5 +1,5 @@
 pub mod Entries
-pub mod InTurn
+pub mod Trace
 pub mod Ends
 pub mod Sums
 pub mod Turns

@@ -4,7 +4,7 @@ use Rattle.std.proofs.Common.{◌∙◌, refl, sym, ap, subst, arith, inl, inr, 
 use Rattle.std.proofs.lemmas.Bool.{cases_lt}
 use Rattle.std.proofs.lemmas.Nat.{div-mul-add, mod-mul-add}
 use Rattle.constriction_base.specs.Digits.{fixed_digits}
-use Rattle.constriction_base.specs.Writing.{Appends, IsBegun, IsPrepared, NotWritten, RefusesWrite, StopsAtWrite, WritesAll, WrittenInTurn}
+use Rattle.constriction_base.specs.Writing.{Appends, IsBegun, IsPrepared, NotWritten, RefusesWrite, StopsAtWrite, WritesAll, WriteTrace}
 use Rattle.constriction_base.specs.declared.backends.reading.Holds as holding
 use Rattle.constriction_base.specs.declared.backends.writing.WriteWords as writing
 
@@ -58,13 +58,13 @@ module _ {W B E S : Type 0} (number : W → ℕ) (holds : holding.Ghosts B W S) 
       }
 
   -- writes after other writes
-  pub written_then : (later first : List ℕ) (old between new : B) → WrittenInTurn number writes first old between → WrittenInTurn number writes later between new
-      → WrittenInTurn number writes (later ++ first) old new
-  written_then [] first old between new h k = subst (λ (b : B). WrittenInTurn number writes first old b) (sym k) h
+  pub written_then : (later first : List ℕ) (old between new : B) → WriteTrace number writes first old between → WriteTrace number writes later between new
+      → WriteTrace number writes (later ++ first) old new
+  written_then [] first old between new h k = subst (λ (b : B). WriteTrace number writes first old b) (sym k) h
   written_then (n ∷ later) first old between new h k = (k.0, written_then later first old between k.0 h k.1, k.2)
 
   -- one write
-  pub written_one : (word : W) (old new : B) → writes.writes old word (Ok tt) new → WrittenInTurn number writes (number word ∷ []) old new
+  pub written_one : (word : W) (old new : B) → writes.writes old word (Ok tt) new → WriteTrace number writes (number word ∷ []) old new
   written_one word old new wrote = (old, refl, (word, refl, wrote))
 
   -- a write is refused at once
@@ -74,7 +74,7 @@ module _ {W B E S : Type 0} (number : W → ℕ) (holds : holding.Ghosts B W S) 
       record { later = []; word = word; written = []; parts = refl; last = old; led = refl; refused = refused; fails = fails; kept = sym same }
 
   -- the refused write is that of a word of the later ones
-  pub stops_later : (later first : List ℕ) (old between new : B) (e : E) → WrittenInTurn number writes first old between → StopsAtWrite number holds writes later between e new
+  pub stops_later : (later first : List ℕ) (old between new : B) (e : E) → WriteTrace number writes first old between → StopsAtWrite number holds writes later between e new
       → StopsAtWrite number holds writes (later ++ first) old e new
   stops_later later first old between new e h i =
       record {

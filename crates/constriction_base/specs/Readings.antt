@@ -2,7 +2,7 @@
 use Rattle.std.specs.Prelude.{◌≡◌, ℕ, zero, suc, ◌<◌, ◌≤◌, ◌^◌, ⊤, Bool, List, [], ◌∷◌, ◌++◌, Option, None, Some, Result, Ok, Err, MatchBool, MatchResult, map}
 use Rattle.std.specs.Int.Digits.{number_from_digits, number_from_digits_after}
 use Rattle.constriction_base.specs.Backends.{Reads}
-use Rattle.constriction_base.specs.Steps.{InTurn}
+use Rattle.constriction_base.specs.Steps.{Trace}
 use Rattle.constriction_base.specs.declared.backends.reading.Holds as holding
 use Rattle.constriction_base.specs.declared.backends.reading.ReadWords as reading
 
@@ -25,7 +25,7 @@ BeginsHigh (v ∷ vs) = 0 < v
 
 -- Reads return these words one after another, and lead from the old backend to the new one.
 abbrev pub ReadsReturn : {W E B : Type 0} → (B → Result (Option W) E → B → Type 0) → B → List W → B → Type 0
-ReadsReturn reads old words new = InTurn (λ word before after. reads before (Ok (Some word)) after) words old new
+ReadsReturn reads old words new = Trace (λ word before after. reads before (Ok (Some word)) after) words old new
 
 -- Reads return words, the first of them not 0, and the head is the number that they form.
 pub record Imports {W E B : Type 0} (number : W → ℕ) (reads : B → Result (Option W) E → B → Type 0) (w : ℕ) (old : B) (head : ℕ) (new : B) : Type 0 where

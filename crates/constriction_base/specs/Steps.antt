@@ -22,9 +22,9 @@ abbrev pub AreSteps : ℕ → List Step → Type 0
 AreSteps w es = AllByRecursion (IsStep w) es
 
 -- Steps of any kind, taken one after another, lead from the old state to the new one.
-abbrev pub InTurn : {E S : Type 0} → (E → S → S → Type 0) → List E → S → S → Type 0
-InTurn leads [] old new = new ≡ old
-InTurn {E} {S} leads (e ∷ es) old new = (between : S) × leads e old between × InTurn leads es between new
+abbrev pub Trace : {E S : Type 0} → (E → S → S → Type 0) → List E → S → S → Type 0
+Trace leads [] old new = new ≡ old
+Trace {E} {S} leads (e ∷ es) old new = (between : S) × leads e old between × Trace leads es between new
 
 -- Sizes that a coder can have: a state of s bits is a whole number of words of w bits, and at least two.
 pub record IsSizes (w s : ℕ) : Type 0 where

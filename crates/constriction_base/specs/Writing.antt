@@ -14,10 +14,10 @@ pub record IsBegun (owed old new : List ℕ) : Type 0 where
   pub is : new ≡ written ++ old
 
 -- Successful writes of words with these numbers, the last of the list first, lead from the old backend to the new one.
-abbrev pub WrittenInTurn : {W B E : Type 0} → (W → ℕ) → writing.Ghosts B W E → List ℕ → B → B → Type 0
-WrittenInTurn number writes [] old new = new ≡ old
-WrittenInTurn {W = W} {B = B} number writes (n ∷ ns) old new =
-    (between : B) × WrittenInTurn number writes ns old between × ((word : W) × (number word ≡ n) × writes.writes between word (Ok tt) new)
+abbrev pub WriteTrace : {W B E : Type 0} → (W → ℕ) → writing.Ghosts B W E → List ℕ → B → B → Type 0
+WriteTrace number writes [] old new = new ≡ old
+WriteTrace {W = W} {B = B} number writes (n ∷ ns) old new =
+    (between : B) × WriteTrace number writes ns old between × ((word : W) × (number word ≡ n) × writes.writes between word (Ok tt) new)
 
 -- Writes of the owed words stop at a word whose write is refused. The writes before it lead from the old backend to
 -- `last`, and the refused write leads from there to the new one.
@@ -27,7 +27,7 @@ pub record StopsAtWrite {W B E S : Type 0} (number : W → ℕ) (holds : holding
   pub written : List ℕ
   pub parts : owed ≡ later ++ (number word ∷ written)
   pub last : B
-  pub led : WrittenInTurn number writes written old last
+  pub led : WriteTrace number writes written old last
   pub refused : writes.writes last word (Err e) new
   -- The backend's `write_fails` allows the error for that write, and the words stay.
   pub fails : writes.write_fails last e
@@ -57,7 +57,7 @@ pub record WritesAll {W B E S : Type 0} (number : W → ℕ) (holds : holding.Gh
   -- All owed words lie on the old ones.
   pub words : OnOk answer (map number (holds.words new) ≡ owed ++ map number (holds.words old))
   -- Each owed word is written by its own write.
-  pub in_turn : OnOk answer (WrittenInTurn number writes owed old new)
+  pub in_turn : OnOk answer (WriteTrace number writes owed old new)
   -- The room shrinks by at most the number of owed words.
   pub room_used : OnOk answer (writes.room old ≤ writes.room new + length owed)
   -- After an error, the owed words written so far lie on the old ones. The old room is below the number of owed words.
@@ -70,7 +70,7 @@ pub record WritesAll {W B E S : Type 0} (number : W → ℕ) (holds : holding.Gh
 pub record Appends {W B E S : Type 0} (number : W → ℕ) (holds : holding.Ghosts B W S) (writes : writing.Ghosts B W E) (owed : List ℕ) (old : B) (answer : Result (Unit {0}) E) (new : B) : Type 0 where
   pub words : OnOk answer (map number (holds.words new) ≡ owed ++ map number (holds.words old))
   -- Each owed word is written by its own write, after one request for room.
-  pub in_turn : OnOk answer (0 < length owed → (ready : B) × IsPrepared holds writes (length owed) old ready × WrittenInTurn number writes owed ready new)
+  pub in_turn : OnOk answer (0 < length owed → (ready : B) × IsPrepared holds writes (length owed) old ready × WriteTrace number writes owed ready new)
   pub room_used : OnOk answer (writes.room old ≤ writes.room new + length owed)
   -- If no word is owed, the call succeeds and the backend is unchanged.
   pub untouched : owed ≡ [] → IsOk answer × (new ≡ old)

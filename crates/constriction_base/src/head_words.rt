@@ -30,7 +30,7 @@ pub fn count_of_words<Word: WordOf<State>, State: BitArray>(head: State) -> usiz
     let mut rest = head;
     'words: while !rest.is_nothing() {
         count += 1;
-        rest = rest.shifted_right(Word::BITS);
+        rest = rest.shift_right(Word::BITS);
     }
     count
 }
@@ -79,7 +79,7 @@ pub fn write_words<Word: WordOf<State>, State: BitArray, Backend: WriteWords<Wor
             Ok(()) => {}
             Err(refusal) => return Err((count - left, refusal)),
         }
-        rest = rest.shifted_right(Word::BITS);
+        rest = rest.shift_right(Word::BITS);
         left -= 1;
     }
     Ok(())
@@ -141,9 +141,9 @@ pub fn fill<Word: WordOf<State>, State: BitArray, Backend: ReadWords<Word, Stack
     ensures untouched { 2 ^ bits ≤ State.number head → (result ≡ Ok (head, true)) × (bulk.new ≡ bulk.old) }
 {
     let mut full = head;
-    'words: while full.shifted_right(bits).is_nothing() {
+    'words: while full.shift_right(bits).is_nothing() {
         match bulk.read() {
-            Ok(Some(word)) => full = full.shifted_left(Word::BITS).plus(word.widen()),
+            Ok(Some(word)) => full = full.shift_left(Word::BITS).plus(word.widen()),
             Ok(None) => return Ok((full, false)),
             Err(error) => return Err(error),
         }

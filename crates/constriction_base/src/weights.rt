@@ -207,7 +207,7 @@ impl<Probability: BitArray, const PRECISION: usize> WeightTable<Probability, PRE
         if PRECISION > 63 {
             return Ok(self);
         }
-        self.reciprocals = self.made_reciprocals(alloc)?;
+        self.reciprocals = self.make_reciprocals(alloc)?;
         Ok(self)
     }
 
@@ -215,7 +215,7 @@ impl<Probability: BitArray, const PRECISION: usize> WeightTable<Probability, PRE
     ///
     /// The caller proves that the precision is at most 63 bits. The call returns `Err(AllocError)` if there is no
     /// memory for the reciprocals.
-    fn made_reciprocals(&self, alloc: Global) -> Result<Vec<Reciprocal>, AllocError>
+    fn make_reciprocals(&self, alloc: Global) -> Result<Vec<Reciprocal>, AllocError>
         requires { PRECISION ≤ 63 }
         ensures count { IfOk result (λ made. length made.items ≡ length self.now.starts.items) }
         ensures reciprocals { IfOk result (λ made.
@@ -240,7 +240,7 @@ impl<Probability: BitArray, const PRECISION: usize> WeightTable<Probability, PRE
         ensures above { result * 2 ^ self.now.shift ≤ Probability.number quantile }
         ensures below { Probability.number quantile < (result + 1) * 2 ^ self.now.shift }
     {
-        quantile.shifted_right(self.shift).to_index()
+        quantile.shift_right(self.shift).to_index()
     }
 
     /// Returns the start of the interval of `symbol`, which is the sum of the weights of all lower symbols.

@@ -36,7 +36,7 @@ impl<Probability: WordOf<u32>, const PRECISION: usize> Flat<Probability, PRECISI
             return None;
         }
         let shift = PRECISION as u32 - bits;
-        let weight = Probability::narrow(1).shifted_left(shift);
+        let weight = Probability::narrow(1).shift_left(shift);
         Some(Flat {
             weight: weight.to_nonzero().unwrap(),
             shift,
@@ -70,7 +70,7 @@ impl<Probability: WordOf<u32>, const PRECISION: usize> EncoderModel<PRECISION>
         if *symbol >> self.bits != 0 {
             return None;
         }
-        let left = Probability::narrow(*symbol as u32).shifted_left(self.shift);
+        let left = Probability::narrow(*symbol as u32).shift_left(self.shift);
         Some((left, self.weight))
     }
 }
@@ -82,10 +82,10 @@ impl<Probability: WordOf<u32>, const PRECISION: usize> DecoderModel<PRECISION>
         &self,
         quantile: Probability,
     ) -> (usize, Probability, <Probability as BitArray>::NonZero) {
-        let symbol = quantile.shifted_right(self.shift);
+        let symbol = quantile.shift_right(self.shift);
         (
             symbol.widen() as usize,
-            symbol.shifted_left(self.shift),
+            symbol.shift_left(self.shift),
             self.weight,
         )
     }

@@ -4,7 +4,7 @@ use Rattle.std.specs.Prelude.{reverse}
 use Rattle.std.proofs.lemmas.List.{reverse-append}
 use Rattle.constriction_base.specs.Models.{Item}
 use Rattle.constriction_base.specs.Steps.{Step}
-use Rattle.constriction_base.proofs.InTurn.{InTurn-more}
+use Rattle.constriction_base.proofs.Trace.{Trace-more}
 use Rattle.constriction_stack.specs.Ans.{AnsState, IsPush}
 use Rattle.constriction_stack.specs.Symbols.{Encodes, EncodesAll}
 use Rattle.constriction_inputs.specs.Items.{HasAt, HasInterval}
@@ -24,4 +24,4 @@ module _ (w s precision bits : ℕ) (items : List (Item ℕ)) (left : ℕ) (some
   pub codes_more : (a b c : AnsState) → EncodesAll w s (reverse (drop left items)) a b → IsPush w s step b c → EncodesAll w s (reverse (drop (left - 1) items)) a c
   codes_more a b c all push =
       subst (λ (xs : List (Item ℕ)). EncodesAll w s xs a c) (sym (ap reverse found.1 ∙ reverse-append (found.0 ∷ []) (drop left items)))
-      (InTurn-more (λ item. Encodes w s item.model item.symbol) (reverse (drop left items)) found.0 a b c all (encodes_at b c push))
+      (Trace-more (λ item. Encodes w s item.model item.symbol) (reverse (drop left items)) found.0 a b c all (encodes_at b c push))

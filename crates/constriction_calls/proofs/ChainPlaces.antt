@@ -5,7 +5,7 @@ use Rattle.std.proofs.lemmas.List.{drop_all, reverse-append}
 use Rattle.constriction_base.specs.Models.{AreKnown, Item, Knows}
 use Rattle.constriction_base.specs.Steps.{IsStep}
 use Rattle.constriction_base.proofs.Entering.{entry_is_step}
-use Rattle.constriction_base.proofs.InTurn.{InTurn-more}
+use Rattle.constriction_base.proofs.Trace.{Trace-more}
 use Rattle.constriction_base.proofs.Turns.{reverse_at}
 use Rattle.constriction_chain.specs.Chain.{ChainState, IsEncode, least}
 use Rattle.constriction_chain.specs.Symbols.{ChainEncodesOne, ChainEncodesAll}
@@ -64,7 +64,7 @@ module _ (w s : ℕ) (items : List (Item ℕ)) (left : ℕ) (some : 0 < left) wh
   put_more a b c all at =
       let found = last_at items left (λ item. ChainEncodesOne w s item.model item.symbol b c) some at in
       subst (λ (xs : List (Item ℕ)). ChainEncodesAll w s xs a c) (sym (turned found.0 found.1))
-      (InTurn-more (λ item. ChainEncodesOne w s item.model item.symbol) (reverse (drop left items)) found.0 a b c all found.2)
+      (Trace-more (λ item. ChainEncodesOne w s item.model item.symbol) (reverse (drop left items)) found.0 a b c all found.2)
 
   -- the remainders end
   lacks_more : (a b : ChainState) → ChainEncodesAll w s (reverse (drop left items)) a b → HasAt items (left - 1) (NeedsRemainders w s b) → b.remainders ≡ [] → LacksRemainders w s (reverse items) a

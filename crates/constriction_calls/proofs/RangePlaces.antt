@@ -3,7 +3,7 @@ use Rattle.std.proofs.Common.{◌≡◌, ℕ, zero, suc, ◌+◌, ◌≤◌, Lis
 use Rattle.constriction_base.specs.Models.{Item}
 use Rattle.constriction_base.specs.Steps.{IsStep, Step}
 use Rattle.constriction_base.proofs.Entering.{entry_is_step}
-use Rattle.constriction_base.proofs.InTurn.{InTurn-more}
+use Rattle.constriction_base.proofs.Trace.{Trace-more}
 use Rattle.constriction_queue.specs.Range.{Run, narrowed_by}
 use Rattle.constriction_queue.specs.Symbols.{Narrows, NarrowsAll}
 use Rattle.constriction_inputs.specs.Items.{HasAt, HasInterval}
@@ -28,4 +28,4 @@ module _ (w s precision bits : ℕ) (items : List (Item ℕ)) (k l p : ℕ) (at 
   -- one encode more
   pub narrows_more : (first a b : Run) → NarrowsAll w s (take k items) first a → b ≡ narrowed_by w s step a → NarrowsAll w s (take (k + 1) items) first b
   narrows_more first a b all is =
-      rw (add-one, found.1) (InTurn-more (λ item. Narrows w s item.model item.symbol) (take k items) found.0 first a b all (l, p, found.2.1.has, rw found.2.0 is))
+      rw (add-one, found.1) (Trace-more (λ item. Narrows w s item.model item.symbol) (take k items) found.0 first a b all (l, p, found.2.1.has, rw found.2.0 is))

@@ -9,7 +9,7 @@ use Rattle.constriction_base.specs.declared.errors.CoderError.{CoderError}
 use Rattle.constriction_base.specs.Steps.{IsSizes, AreWords, Step}
 use Rattle.constriction_base.specs.Tables.{AtEntry}
 use Rattle.constriction_base.specs.Models.{Model, Item, IsModel, item_of}
-use Rattle.constriction_base.proofs.InTurn.{InTurn-more}
+use Rattle.constriction_base.proofs.Trace.{Trace-more}
 use Rattle.constriction_stream.specs.Symbols.{ByBackend}
 use Rattle.constriction_queue.specs.Range.{Run, IsAt, cut, narrowed_by, number_of_first, initial}
 use Rattle.constriction_queue.specs.Decoder.{Decoder, distance, quantile_read, StandsAt}
@@ -98,7 +98,7 @@ module _ {W B E Q : Type 0} (F : Type 0) (number : W → ℕ) (holds : holding.G
       → (last : Run) × FindsAll w s words (items ++ item_of model x ∷ []) old last × StandsAt w s words last new
   one_more items x old mid d new all at given =
       let got = decode_of F number holds reads w s words known model x mid d new at given in
-      (got.0, InTurn-more (λ item. Finds w s words item.model item.symbol) items (item_of model x) old mid got.0 all got.1, got.2)
+      (got.0, Trace-more (λ item. Finds w s words item.model item.symbol) items (item_of model x) old mid got.0 all got.1, got.2)
 
 -- ---- where words may have ended
 -- as a number

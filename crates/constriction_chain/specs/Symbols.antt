@@ -1,7 +1,7 @@
 -- The effect of encoding and decoding symbols, each under its own model, on a chain coder's state.
 use Rattle.std.specs.Prelude.{◌≡◌, ℕ, List}
 use Rattle.std.specs.List.{AllByRecursion}
-use Rattle.constriction_base.specs.Steps.{InTurn}
+use Rattle.constriction_base.specs.Steps.{Trace}
 use Rattle.constriction_base.specs.Tables.{AtEntry, IsTable}
 use Rattle.constriction_base.specs.Models.{Model, Item}
 use Rattle.constriction_chain.specs.Chain.{ChainState, IsDecode, IsEncode}
@@ -16,11 +16,11 @@ ChainEncodesOne w s model symbol old new = AtEntry model.precision model.table s
 
 -- Decoding the items in order leads from the old state to the new state.
 abbrev pub ChainDecodesAll : {S : Type 0} → ℕ → ℕ → List (Item S) → ChainState → ChainState → Type 0
-ChainDecodesAll w s items old new = InTurn (λ item. ChainDecodesOne w s item.model item.symbol) items old new
+ChainDecodesAll w s items old new = Trace (λ item. ChainDecodesOne w s item.model item.symbol) items old new
 
 -- Encoding the items in order leads from the old state to the new state.
 abbrev pub ChainEncodesAll : {S : Type 0} → ℕ → ℕ → List (Item S) → ChainState → ChainState → Type 0
-ChainEncodesAll w s items old new = InTurn (λ item. ChainEncodesOne w s item.model item.symbol) items old new
+ChainEncodesAll w s items old new = Trace (λ item. ChainEncodesOne w s item.model item.symbol) items old new
 
 -- The model has the precision P, and its table partitions the numbers below 2 ^ P.
 pub record IsModelAt {S : Type 0} (P : ℕ) (model : Model S) : Type 0 where

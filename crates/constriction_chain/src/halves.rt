@@ -80,9 +80,9 @@ pub fn keep<Word: WordOf<State>, State: BitArray, R: WriteWords<Word>>(
 /// Returns the quotient and the remainder of `number` divided by `p`.
 ///
 /// If there is a reciprocal, the call multiplies by it instead of dividing. `length` is a bound of the quotient's
-/// length in bits, as for [`BitArray::divided`].
+/// length in bits, as for [`BitArray::div_rem`].
 #[inline(always)]
-fn divided<State: BitArray>(
+fn div_rem<State: BitArray>(
     number: State,
     p: State,
     reciprocal: Option<Reciprocal>,
@@ -98,7 +98,7 @@ fn divided<State: BitArray>(
             let quotient = number.quotient_by(p, reciprocal);
             (quotient, number.minus(quotient.times(p)))
         }
-        None => number.divided(p, length),
+        None => number.div_rem(p, length),
     }
 }
 
@@ -139,7 +139,7 @@ fn give_at<Word: WordOf<State>, State: BitArray, C: WriteWords<Word>, R: ReadWor
         Ok(None) => return Err(CoderError::Frontend(EncoderFrontendError::OutOfRemainders)),
         Err(error) => return Err(CoderError::Backend(BackendError::Remainders(error))),
     };
-    let (quotient, rest) = divided(v, p, reciprocal, State::BITS - precision);
+    let (quotient, rest) = div_rem(v, p, reciprocal, State::BITS - precision);
     let quantile = left.plus(Word::narrow(rest));
     match give_quantile(compressed, *h, quantile, precision) {
         Ok(next) => {

@@ -18,7 +18,7 @@ pub fn is_below_power<State: BitArray>(r: State, less: u32) -> bool
     requires { (0 < less) × (less ≤ State.BITS) }
     ensures { MatchBool result (State.number r < 2 ^ (State.BITS - less)) (2 ^ (State.BITS - less) ≤ State.number r) }
 {
-    r.shifted_right(State::BITS - less).is_nothing()
+    r.shift_right(State::BITS - less).is_nothing()
 }
 
 /// Reads words of `source` into a new remainders head until the head is in its window, and returns the head.

@@ -24,7 +24,7 @@ fn needs_word<Word: BitArray>(h: Word, precision: u32) -> bool
     ensures { MatchBool result (NeedsWord Word.BITS precision (Word.number h))
         ((precision < Word.BITS) × (2 ^ precision ≤ Word.number h)) }
 {
-    precision == Word::BITS || h.shifted_right(precision).is_nothing()
+    precision == Word::BITS || h.shift_right(precision).is_nothing()
 }
 
 /// Returns the low `precision` bits of `word` as a quantile, and the head `h` with the word's other bits appended.
@@ -39,10 +39,10 @@ fn from_word<Word: BitArray>(h: Word, word: Word, precision: u32) -> (Word, Word
     if precision == Word::BITS {
         return (word, h);
     }
-    let others = word.shifted_right(precision);
+    let others = word.shift_right(precision);
     (
         word.low_bits(precision),
-        h.shifted_left(Word::BITS - precision).plus(others),
+        h.shift_left(Word::BITS - precision).plus(others),
     )
 }
 
@@ -79,7 +79,7 @@ pub fn take_quantile<Word: BitArray, C: ReadWords<Word, Stack>, R: WriteWords<Wo
 {
     if !needs_word(*h, precision) {
         let quantile = h.low_bits(precision);
-        *h = h.shifted_right(precision);
+        *h = h.shift_right(precision);
         return Ok(quantile);
     }
     if let Err(error) = remainders.prepare(1) {
@@ -116,11 +116,11 @@ pub fn gain<Word: WordOf<State>, State: BitArray, R: WriteWords<Word>>(
         (State.number r * State.number p + State.number t) remainders.old result remainders.new }
 {
     let gained = r.times(p).plus(t);
-    if gained.shifted_right(State::BITS - precision).is_nothing() {
+    if gained.shift_right(State::BITS - precision).is_nothing() {
         return Ok(gained);
     }
     match remainders.write(Word::narrow(gained)) {
-        Ok(()) => Ok(gained.shifted_right(Word::BITS)),
+        Ok(()) => Ok(gained.shift_right(Word::BITS)),
         Err(error) => Err(error),
     }
 }
@@ -134,7 +134,7 @@ fn owes_word<Word: BitArray>(h: Word, precision: u32) -> bool
     ensures { MatchBool result (OwesWord Word.BITS precision (Word.number h))
         ((precision < Word.BITS) × (Word.number h < 2 ^ (Word.BITS - precision))) }
 {
-    precision == Word::BITS || !h.shifted_right(Word::BITS - precision).is_nothing()
+    precision == Word::BITS || !h.shift_right(Word::BITS - precision).is_nothing()
 }
 
 /// Asks `compressed` for room for one word if putting back a quantile of `precision` bits will write a word.
@@ -184,16 +184,16 @@ pub fn give_quantile<Word: BitArray, C: WriteWords<Word>>(
     ensures kept { OnErr result (C.words compressed.new ≡ C.words compressed.old) }
 {
     if !owes_word(h, precision) {
-        return Ok(h.shifted_left(precision).plus(quantile));
+        return Ok(h.shift_left(precision).plus(quantile));
     }
     if precision == Word::BITS {
         compressed.write(quantile)?;
         return Ok(h);
     }
     let others = h.low_bits(Word::BITS - precision);
-    let word = others.shifted_left(precision).plus(quantile);
+    let word = others.shift_left(precision).plus(quantile);
     compressed.write(word)?;
-    Ok(h.shifted_right(Word::BITS - precision))
+    Ok(h.shift_right(Word::BITS - precision))
 }
 
 /// Returns whether the remainders head `r` is below `p * 2^(State::BITS - Word::BITS - precision)`.
@@ -206,7 +206,7 @@ fn is_short<Word: BitArray, State: BitArray>(r: State, p: State, precision: u32)
     ensures { MatchBool result (State.number r < State.number p * least Word.BITS State.BITS precision)
         (State.number p * least Word.BITS State.BITS precision ≤ State.number r) }
 {
-    r.shifted_right(State::BITS - Word::BITS - precision)
+    r.shift_right(State::BITS - Word::BITS - precision)
         .is_below(p)
 }
 
@@ -239,7 +239,7 @@ pub fn regain<Word: WordOf<State>, State: BitArray, R: ReadWords<Word, Stack>>(
         return Ok(Some(r));
     }
     match remainders.read() {
-        Ok(Some(word)) => Ok(Some(r.shifted_left(Word::BITS).plus(word.widen()))),
+        Ok(Some(word)) => Ok(Some(r.shift_left(Word::BITS).plus(word.widen()))),
         Ok(None) => Ok(None),
         Err(error) => Err(error),
     }

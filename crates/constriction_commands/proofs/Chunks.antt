@@ -10,7 +10,7 @@ use Rattle.constriction_queue.specs.Range.{Run}
 use Rattle.constriction_queue.specs.Symbols.{Narrows, NarrowsAll}
 use Rattle.constriction_store.specs.Chunks.{lists_of, chunk_in, IsFirstUnknownOf}
 use Rattle.constriction_store.specs.Stores.{Entry, Indexes}
-use Rattle.constriction_base.proofs.InTurn.{InTurn-append}
+use Rattle.constriction_base.proofs.Trace.{Trace-append}
 use Rattle.constriction_commands.specs.Inputs.{ChunksAre, TextHasChunks, NoChunks, SymbolsAre, WeightsAre}
 use Rattle.constriction_commands.specs.Lines.{line_of}
 use Rattle.constriction_commands.specs.commands.Store.{joined, AreThere, AreWordsOf, StoringFails, LookingUpFails, StoreFails, lines_at}
@@ -42,7 +42,7 @@ joined_run model [] (entry ∷ entries) old new all = absurd all
 joined_run model (chunk ∷ chunks) [] old new all = absurd all
 joined_run model (chunk ∷ chunks) (entry ∷ entries) old new all =
     subst (λ (items : List (Item ℕ)). NarrowsAll 32 64 items old new) (sym (map-append (item_of model) chunk (joined chunks)))
-    (InTurn-append (λ (i : Item ℕ). Narrows 32 64 i.model i.symbol) (items_of model chunk) (items_of model (joined chunks)) old all.2.0 new all.2.1
+    (Trace-append (λ (i : Item ℕ). Narrows 32 64 i.model i.symbol) (items_of model chunk) (items_of model (joined chunks)) old all.2.0 new all.2.1
     (joined_run model chunks entries all.2.0 new all.2.2))
 
 -- the first symbol that the model does not know is one of them

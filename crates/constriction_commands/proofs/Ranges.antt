@@ -4,7 +4,7 @@ use Rattle.std.proofs.lemmas.List.{take_more, reverse-reverse}
 use Rattle.constriction_base.specs.Models.{Model, items_of}
 use Rattle.constriction_queue.specs.Range.{Run, initial, offset, number_read, IsAt}
 use Rattle.constriction_queue.specs.Decoder.{Decoder, quantile_read}
-use Rattle.constriction_base.proofs.InTurn.{InTurn-symbol}
+use Rattle.constriction_base.proofs.Trace.{Trace-symbol}
 use Rattle.constriction_queue.specs.Symbols.{Narrows, NarrowsAll}
 use Rattle.constriction_base.proofs.Turns.{map-reverse}
 
@@ -16,7 +16,7 @@ pub narrowed-more : (model : Model ℕ) (symbols : List ℕ) (place : ℕ) (old 
     → NarrowsAll 32 64 (items_of model (take (place + 1) symbols)) (initial 64) new
 narrowed-more model symbols place old new inside before one =
     subst (λ (xs : List ℕ). NarrowsAll 32 64 (items_of model xs) (initial 64) new) (sym (take_more symbols place 0 inside))
-    (InTurn-symbol (λ item. Narrows 32 64 item.model item.symbol) model (take place symbols) (get_or symbols place 0) (initial 64) old new before one)
+    (Trace-symbol (λ item. Narrows 32 64 item.model item.symbol) model (take place symbols) (get_or symbols place 0) (initial 64) old new before one)
 
 -- words in the order in which they were written
 pub in_order : (f : ℕ → ℕ) (words : List ℕ) → map f words ≡ reverse (map f (reverse words))

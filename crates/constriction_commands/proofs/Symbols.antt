@@ -6,7 +6,7 @@ use Rattle.constriction_base.specs.Models.{Model, items_of}
 use Rattle.constriction_base.specs.Tables.{Impossible}
 use Rattle.constriction_stack.specs.Ans.{AnsState, IsNormalized, empty}
 use Rattle.constriction_stack.specs.Symbols.{Encodes, EncodesAll}
-use Rattle.constriction_base.proofs.InTurn.{InTurn-symbol}
+use Rattle.constriction_base.proofs.Trace.{Trace-symbol}
 
 -- a coder that holds nothing is valid
 pub empty_valid : IsNormalized 32 64 empty
@@ -25,7 +25,7 @@ encoded-more model symbols place behind old new inside next encoded one =
     let cut : drop place symbols ≡ symbol ∷ drop behind symbols = rw (next, add-one, drop-cons symbols place 0) refl in
     let turned : reverse (drop place symbols) ≡ reverse (drop behind symbols) ++ symbol ∷ [] = ap reverse cut ∙ reverse-append (symbol ∷ []) (drop behind symbols) in
     subst (λ (xs : List ℕ). EncodesAll 32 64 (items_of model xs) empty new) (sym turned)
-    (InTurn-symbol (λ item. Encodes 32 64 item.model item.symbol) model (reverse (drop behind symbols)) symbol empty old new encoded one)
+    (Trace-symbol (λ item. Encodes 32 64 item.model item.symbol) model (reverse (drop behind symbols)) symbol empty old new encoded one)
 
 -- an impossible symbol at a place
 pub impossible_at : (table : List (ℕ × ℕ × ℕ)) (symbols : List ℕ) (place : ℕ) → place < length symbols → Impossible table (get_or symbols place 0) → Any (Impossible table) symbols

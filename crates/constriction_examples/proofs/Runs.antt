@@ -1,14 +1,14 @@
 -- Symbols that are hidden one after the other, and come back.
 use Rattle.std.proofs.Common.{◌≡◌, ℕ, ◌<◌, List, [], ◌∷◌, ◌++◌, length, sym, ap, subst, ◌∙◌, arith}
 use Rattle.std.proofs.lemmas.List.{length-append, append_assoc, append-nil}
-use Rattle.constriction.specs.Steps.{InTurn}
+use Rattle.constriction.specs.Steps.{Trace}
 use Rattle.constriction.specs.stack.Ans.{AnsState, IsNormalized}
 use Rattle.constriction_examples.specs.declared.bits_back.Mixture.{Mixture}
 use Rattle.constriction_examples.specs.Hiding.{Hides}
 
 -- these are hidden in the state, the last one first, seen from it back
 abbrev pub Hidden : Mixture → List ℕ → AnsState → AnsState → Type 0
-Hidden m hidden before now = InTurn (λ symbol after prior. Hides m symbol prior after) hidden now before
+Hidden m hidden before now = Trace (λ symbol after prior. Hides m symbol prior after) hidden now before
 
 -- hidden symbols leave a valid state
 valid_all : (m : Mixture) (hidden : List ℕ) (before now : AnsState) → IsNormalized 32 64 before → Hidden m hidden before now → IsNormalized 32 64 now

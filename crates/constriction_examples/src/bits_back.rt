@@ -71,7 +71,7 @@ struct Mixture {
 }
 
 impl Mixture {
-    ghost use Rattle.constriction.specs.Steps.{InTurn};
+    ghost use Rattle.constriction.specs.Steps.{Trace};
     ghost use Rattle.constriction_examples.specs.Hiding.{Hides};
 
     fn new(alloc: Global) -> Result<Mixture> {
@@ -138,7 +138,7 @@ impl Mixture {
     /// Hides symbols one after the other, in order. Fails at the first symbol for which `hide` fails.
     fn hide_all(&self, coder: &mut Coder, symbols: &[usize]) -> Result<()>
         ensures hides { IsNormalized 32 64 coder.old.state
-            → OnOk result (InTurn (Hides self.now) symbols.now coder.old.state coder.new.state) }
+            → OnOk result (Trace (Hides self.now) symbols.now coder.old.state coder.new.state) }
     {
         'symbols: for symbol in symbols {
             self.hide(coder, *symbol)?;
@@ -151,7 +151,7 @@ impl Mixture {
     /// Fails at the first symbol for which `reveal` fails, or if there is no memory for the list.
     fn reveal_all(&self, alloc: Global, coder: &mut Coder, count: usize) -> Result<Vec<usize>>
         ensures reveals { (hidden : List ℕ) (before : AnsState) → length hidden ≡ count → IsNormalized 32 64 before
-            → InTurn (Hides self.now) hidden before coder.old.state
+            → Trace (Hides self.now) hidden before coder.old.state
             → IfOk result (λ symbols. (symbols.items ≡ reverse hidden) × (coder.new.state ≡ before)) }
     {
         let mut symbols = Vec::new(alloc);

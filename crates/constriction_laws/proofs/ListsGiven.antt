@@ -2,14 +2,14 @@
 use Rattle.std.proofs.Common.{◌≡◌, ℕ, List, [], ◌∷◌, ◌++◌, Result, Ok, Err, length, sym, ap, subst}
 use Rattle.std.specs.Prelude.{drop, IfOk}
 use Rattle.std.specs.List.{zip}
-use Rattle.constriction_base.specs.Steps.{Step, InTurn}
-use Rattle.constriction_base.proofs.InTurn.{InTurn-more}
+use Rattle.constriction_base.specs.Steps.{Step, Trace}
+use Rattle.constriction_base.proofs.Trace.{Trace-more}
 use Rattle.constriction_stream.specs.Symbols.{DecodesSymbol, DecodesByModel}
 
 -- ---- any decoder
 
 abbrev pub GavePairs : {C S M E : Type 0} → (C → Step → Result (Unit {0}) E → C → Type 0) → (C → E → C → Type 0) → ℕ → (M → List (S × ℕ × ℕ)) → List (S × M) → C → C → Type 0
-GavePairs decodes halts precision table = InTurn (λ pair old new. DecodesByModel decodes halts precision table old pair.1 (Ok pair.0) new)
+GavePairs decodes halts precision table = Trace (λ pair old new. DecodesByModel decodes halts precision table old pair.1 (Ok pair.0) new)
 
 -- the same where each has a model of its own
 pub zip_more : {S M : Type 0} (xs : List S) (ms : List M) (x : S) (m : M) (rest : List M) → drop (length xs) ms ≡ m ∷ rest → zip (xs ++ x ∷ []) ms ≡ zip xs ms ++ (x, m) ∷ []
@@ -31,7 +31,7 @@ pub pairs_more : {C S M E : Type 0} (decodes : C → Step → Result (Unit {0}) 
 pairs_more {C} {S} {M} {E} decodes halts precision table ms old xs mid x m rest answer new all next given step =
     let one : DecodesSymbol decodes halts precision (table m) mid (Ok x) new = subst (λ (r : Result S E). DecodesSymbol decodes halts precision (table m) mid r new) given step in
     subst (λ (ps : List (S × M)). GavePairs decodes halts precision table ps old new) (sym (zip_more xs ms x m rest next))
-    (InTurn-more (λ (pair : S × M) (old new : C). DecodesByModel decodes halts precision table old pair.1 (Ok pair.0) new) (zip xs ms) (x, m) old mid new all one)
+    (Trace-more (λ (pair : S × M) (old new : C). DecodesByModel decodes halts precision table old pair.1 (Ok pair.0) new) (zip xs ms) (x, m) old mid new all one)
 
 -- ---- answers that may be missing
 

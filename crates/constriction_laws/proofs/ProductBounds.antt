@@ -4,7 +4,7 @@ use native.Mathlib.Nat.{pow-suc, pow-zero, le-max_left, le-max_right, one-le-pow
 use Rattle.std.proofs.lemmas.Bool.{cases_lt, cases_eq}
 use Rattle.std.proofs.lemmas.Int.Digits.{length-digits_of-le, number_lt, number_digits_of, all_below_base_digits_of}
 use Rattle.std.specs.Int.Digits.{digits_of, number_from_digits}
-use Rattle.constriction_base.specs.Steps.{Step, IsStep, AreSteps, InTurn, IsSizes, AreWords}
+use Rattle.constriction_base.specs.Steps.{Step, IsStep, AreSteps, Trace, IsSizes, AreWords}
 use Rattle.constriction_base.specs.Digits.{fixed_digits}
 use Rattle.constriction_stack.specs.Ans.{AnsState, IsNormalized, refilled, popped_head, IsNext, pop, IsPush, empty, exported}
 use Rattle.constriction_queue.specs.Range.{Run, initial, scale, cut, narrowed_by, run, IsInterval, sealed, seal_number}
@@ -93,7 +93,7 @@ chain new next old a b c d h1 h2 =
     let m2 : next * a * d ≤ old * b * d = mul-le-mul_right d h2 in
     omega (arith, m1, m2)
 
-pub pushes_bound : (w s : ℕ) (es : List Step) (x y : AnsState) → IsSizes w s → AreSteps w es → IsNormalized w s x → InTurn (IsPush w s) es x y →
+pub pushes_bound : (w s : ℕ) (es : List Step) (x y : AnsState) → IsSizes w s → AreSteps w es → IsNormalized w s x → Trace (IsPush w s) es x y →
     potential w s y * product (share w s) es ≤ potential w s x * product (rounded_whole w s) es
 pushes_bound w s [] x y z hs v i = rw i (omega arith)
 pushes_bound w s (e ∷ es) x y z hs v i =
@@ -127,7 +127,7 @@ exported_bound w s x z =
     let all : (2 ^ w) ^ (j - 1) * (2 ^ w) ^ l ≤ m * (2 ^ w) ^ l = mul-le-mul_right ((2 ^ w) ^ l) top in
     omega (arith, more, all, pow-add (2 ^ w) (j - 1) l)
 
-pub ans_words : (w s : ℕ) (es : List Step) (x : AnsState) → IsSizes w s → AreSteps w es → InTurn (IsPush w s) es empty x →
+pub ans_words : (w s : ℕ) (es : List Step) (x : AnsState) → IsSizes w s → AreSteps w es → Trace (IsPush w s) es empty x →
     2 ^ (w * (length (exported w x) - 1)) * product (share w s) es ≤ 2 ^ (s - w) * product (rounded_whole w s) es
 ans_words w s es x z hs i =
     let n : ℕ = length (exported w x) - 1 in
@@ -282,7 +282,7 @@ module _ (w s : ℕ) (e : Step) (z : IsSizes w s) (h : IsStep w e) where
       potential w s (pop w s e x) * decoded_share w s e ≤ potential w s x * decoded_whole w s e
   pop_step x v i full = pop_words x x.words refl v.state.are_words i full
 
-acts_bound : (w s : ℕ) (acts : List Act) (x y : AnsState) → IsSizes w s → AreAllowed w acts → IsNormalized w s x → InTurn (Acts w s) acts x y →
+acts_bound : (w s : ℕ) (acts : List Act) (x y : AnsState) → IsSizes w s → AreAllowed w acts → IsNormalized w s x → Trace (Acts w s) acts x y →
     potential w s y * product (net_share w s) acts ≤ potential w s x * product (net_whole w s) acts
 acts_bound w s [] x y z hs v i = rw i (omega arith)
 acts_bound w s (Encode e ∷ acts) x y z hs v i =
@@ -312,7 +312,7 @@ potential_below w s x z full =
     let all : x.head * b ^ length x.words < b ^ length ds * b ^ length x.words = mul-lt-mul_of_pos_right head (one-le-pow (length x.words) b (pow_pos w)) in
     rw (max-eq_left full, length-append ds x.words, pow-add b (length ds) (length x.words)) all
 
-pub net_words : (w s : ℕ) (acts : List Act) (x y : AnsState) → IsSizes w s → AreAllowed w acts → IsNormalized w s x → 2 ^ (s - w) ≤ x.head → InTurn (Acts w s) acts x y →
+pub net_words : (w s : ℕ) (acts : List Act) (x y : AnsState) → IsSizes w s → AreAllowed w acts → IsNormalized w s x → 2 ^ (s - w) ≤ x.head → Trace (Acts w s) acts x y →
     2 ^ (w * (length (exported w y) - 1)) * product (net_share w s) acts < 2 ^ (w * length (exported w x)) * product (net_whole w s) acts
 net_words w s acts x y z hs v full i =
     let b : ℕ = 2 ^ w in

@@ -2,7 +2,7 @@
 use Rattle.std.proofs.Common.{◌≡◌, ℕ, ◌+◌, ◌-◌, ◌*◌, ◌^◌, List, [], ◌∷◌, length, refl, subst, arith}
 use native.Mathlib.Nat.{pow-suc, pow-zero}
 use Rattle.std.specs.List.{AllByRecursion}
-use Rattle.constriction_base.specs.Steps.{Step, IsStep, AreSteps, InTurn}
+use Rattle.constriction_base.specs.Steps.{Step, IsStep, AreSteps, Trace}
 use Rattle.constriction_base.specs.Models.{Item, AreModels}
 use Rattle.constriction_stack.specs.Ans.{AnsState, IsPush}
 use Rattle.constriction_stack.specs.Symbols.{EncodesAll}
@@ -13,7 +13,7 @@ use Rattle.constriction_laws.specs.Bounds.{AreEntries, product, share, rounded_w
 use Rattle.constriction_laws.proofs.of_stack.Choosing.{step_of}
 
 pub steps_of_encodes : {S : Type 0} (w s : ℕ) (items : List (Item S)) (old new : AnsState) → EncodesAll w s items old new
-    → (steps : List Step) × AreEntries items steps × InTurn (IsPush w s) steps old new
+    → (steps : List Step) × AreEntries items steps × Trace (IsPush w s) steps old new
 steps_of_encodes w s [] old new h = ([], tt, h)
 steps_of_encodes w s (item ∷ items) old new h =
     let rest = steps_of_encodes w s items h.0 new h.2 in

@@ -1,7 +1,7 @@
 -- The outcomes of encoding and decoding lists of symbols: the symbols returned, or the reason for an error.
 use Rattle.std.specs.Prelude.{◌≡◌, ℕ, ◌<◌, ◌≤◌, ⊤, List, ◌∷◌, ◌++◌, Result, Ok, Err, IfOk, Vec, length, drop}
 use Rattle.std.specs.List.{zip}
-use Rattle.constriction_base.specs.Steps.{Step, InTurn}
+use Rattle.constriction_base.specs.Steps.{Step, Trace}
 use Rattle.constriction_base.specs.Tables.{Impossible}
 use Rattle.constriction_base.specs.Models.{Item, Model, pairs_of}
 use Rattle.constriction_stream.specs.Symbols.{DecodesByModel}
@@ -14,7 +14,7 @@ use Rattle.constriction_laws.specs.declared.errors.RoundTripError.TheVariants as
 abbrev pub DecodesPairs : {C S M E : Type 0} → (C → Step → Result (Unit {0}) E → C → Type 0) → (C → E → C → Type 0) → ℕ
     → (M → List (S × ℕ × ℕ)) → List S → List M → C → C → Type 0
 DecodesPairs {S = S} {M = M} decodes halts precision table symbols models old new =
-    InTurn (λ (pair : S × M) old new. DecodesByModel decodes halts precision table old pair.1 (Ok pair.0) new)
+    Trace (λ (pair : S × M) old new. DecodesByModel decodes halts precision table old pair.1 (Ok pair.0) new)
     (zip symbols models) old new
 
 -- A list of decodes, one for each model, stops early on any decoder. `Refused(e)`: the first `taken` models gave
@@ -23,10 +23,10 @@ DecodesPairs {S = S} {M = M} decodes halts precision table symbols models old ne
 abbrev pub StopsAmong : {C S M E : Type 0} → (C → Step → Result (Unit {0}) E → C → Type 0) → (C → E → C → Type 0) → ℕ → (M → List (S × ℕ × ℕ)) → List M → ℕ → C → Stopped E → C → Type 0
 StopsAmong {C} {S} {M} {E} decodes halts precision table models taken old (Refused e) new = (given : List S) × (mid : C) × (model : M) × (rest : List M)
     × (length given ≡ taken) × (taken < length models) × (drop (length given) models ≡ model ∷ rest)
-    × InTurn (λ (pair : S × M) old new. DecodesByModel decodes halts precision table old pair.1 (Ok pair.0) new) (zip given models) old mid
+    × Trace (λ (pair : S × M) old new. DecodesByModel decodes halts precision table old pair.1 (Ok pair.0) new) (zip given models) old mid
     × DecodesByModel {S = S} decodes halts precision table mid model (Err e) new
 StopsAmong {C} {S} {M} decodes halts precision table models taken old NoMemory new = (taken ≡ 0) × (given : List S) × (length given ≤ length models)
-    × InTurn (λ (pair : S × M) old new. DecodesByModel decodes halts precision table old pair.1 (Ok pair.0) new) (zip given models) old new
+    × Trace (λ (pair : S × M) old new. DecodesByModel decodes halts precision table old pair.1 (Ok pair.0) new) (zip given models) old new
 
 -- At least one item has an impossible symbol: the table of the item's model has no entry for the symbol.
 abbrev pub HasImpossibleItem : {S : Type 0} → List (Item S) → Type 0

@@ -13,7 +13,7 @@ pub mod words;
 
 ghost use Rattle.std.specs.Prelude.{◌≡◌, ℕ, ◌-◌, ◌/◌, ◌≤◌, ◌^◌, List};
 ghost use Rattle.std.specs.List.{AllByRecursion};
-ghost use Rattle.constriction_base.specs.Steps.{Step, IsSizes, AreSteps, InTurn};
+ghost use Rattle.constriction_base.specs.Steps.{Step, IsSizes, AreSteps, Trace};
 ghost use Rattle.constriction_stack.specs.Ans.{AnsState, IsNormalized, empty, exported};
 ghost use Rattle.constriction_laws.specs.Bounds.{Act, Acts, AreAllowed, IsNetBounded, IsRangeBounded, IsStackBounded};
 ghost use Rattle.constriction_laws.specs.Bounds.{IsStackBoundedAt};
@@ -54,7 +54,7 @@ pub fn stack_bound_at_one_precision()
 pub fn stack_net_bound()
     ensures { (w s : ℕ) (acts : List Act) (old new : AnsState) → IsSizes w s → AreAllowed w acts → IsNormalized w s old
         →
-        2 ^ (s - w) ≤ old.head → InTurn (Acts w s) acts old new →
+        2 ^ (s - w) ≤ old.head → Trace (Acts w s) acts old new →
         IsNetBounded w s acts old new }
 {}
 

@@ -2,7 +2,7 @@
 
 ghost use Rattle.std.specs.Prelude.{List, reverse};
 ghost use Rattle.std.specs.List.{AllByRecursion};
-ghost use Rattle.constriction_base.specs.Steps.{InTurn};
+ghost use Rattle.constriction_base.specs.Steps.{Trace};
 
 /// Steps of a coder, such as encodes, and the inverse steps that undo them, such as decodes.
 ///
@@ -45,8 +45,8 @@ pub trait StepsUndo {
 pub fn lists_undo<C: StepsUndo>()
     ensures undone { (g : C.setting) (steps : List C.step) (old new : C.state) →
         AllByRecursion (C.allowed g) steps → C.valid g old →
-        InTurn (C.does g) steps old new → InTurn (C.undoes g) (reverse steps) new old }
+        Trace (C.does g) steps old new → Trace (C.undoes g) (reverse steps) new old }
     ensures valid { (g : C.setting) (steps : List C.step) (old new : C.state) →
         AllByRecursion (C.allowed g) steps → C.valid g old →
-        InTurn (C.does g) steps old new → C.valid g new }
+        Trace (C.does g) steps old new → C.valid g new }
 {}

@@ -4,8 +4,8 @@ use Rattle.std.proofs.Common.{◌≡◌, ◌∙◌, ◌<◌, ◌+◌, ◌==◌, 
 use Rattle.std.proofs.Math.Seq.{drop-cons}
 use Rattle.std.proofs.lemmas.List.{map-append, take-append-drop, take_more}
 use Rattle.constriction_base.specs.Models.{Model, Item, item_of, items_of}
-use Rattle.constriction_base.specs.Steps.{InTurn}
-use Rattle.constriction_base.proofs.InTurn.{InTurn-more}
+use Rattle.constriction_base.specs.Steps.{Trace}
+use Rattle.constriction_base.proofs.Trace.{Trace-more}
 use Rattle.constriction_queue.specs.Flagged.{flagged, has_flag, next_model, StepsToFault}
 
 module _ (flag : ℕ) (first second : Model ℕ) where
@@ -59,14 +59,14 @@ flag_at flag symbols k switched inside is =
 
 module _ {C E : Type 0} (step : C → Item ℕ → Result (Unit {0}) E → C → Type 0) (flag : ℕ) (first second : Model ℕ) (symbols : List ℕ) (k : ℕ) (old mid new : C) (switched : Bool)
     (inside : k < length symbols) (is : switched ≡ has_flag flag (take k symbols))
-    (coded : InTurn (λ item before after. step before item (Ok tt) after) (flagged flag first second (take k symbols)) old mid) where
+    (coded : Trace (λ item before after. step before item (Ok tt) after) (flagged flag first second (take k symbols)) old mid) where
   pub coded_more : step mid (item_of (next_model switched first second) (get_or symbols k 0)) (Ok tt) new
-      → InTurn (λ item before after. step before item (Ok tt) after) (flagged flag first second (take (k + 1) symbols)) old new
+      → Trace (λ item before after. step before item (Ok tt) after) (flagged flag first second (take (k + 1) symbols)) old new
   coded_more next =
       let one = subst (λ (b : Bool). step mid (item_of (next_model b first second) (get_or symbols k 0)) (Ok tt) new) is next in
-      subst (λ (items : List (Item ℕ)). InTurn (λ item before after. step before item (Ok tt) after) items old new)
+      subst (λ (items : List (Item ℕ)). Trace (λ item before after. step before item (Ok tt) after) items old new)
       (sym (flagged_more flag first second (take k symbols) (get_or symbols k 0)) ∙ ap (flagged flag first second) (sym (take_more symbols k 0 inside)))
-      (InTurn-more (λ (item : Item ℕ) (before after : C). step before item (Ok tt) after) (flagged flag first second (take k symbols))
+      (Trace-more (λ (item : Item ℕ) (before after : C). step before item (Ok tt) after) (flagged flag first second (take k symbols))
       (item_of (next_model (has_flag flag (take k symbols)) first second) (get_or symbols k 0)) old mid new coded one)
 
   pub fault_at : (e : E) → step mid (item_of (next_model switched first second) (get_or symbols k 0)) (Err e) new

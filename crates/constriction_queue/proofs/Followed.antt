@@ -3,7 +3,7 @@ use Rattle.std.proofs.Common.{◌≡◌, ℕ, suc, ◌+◌, ◌-◌, ◌*◌, �
 use Rattle.constriction_base.specs.Digits.{fixed_digits}
 use Rattle.constriction_base.specs.Steps.{AreWords, IsSizes}
 use Rattle.constriction_base.specs.Models.{Item, IsModel, AreModels}
-use Rattle.constriction_base.proofs.InTurn.{InTurn-append}
+use Rattle.constriction_base.proofs.Trace.{Trace-append}
 use Rattle.constriction_base.proofs.Sizes.{Facts, facts}
 use Rattle.constriction_queue.specs.Range.{Run, IsInterval, Within, number_read, offset, seal_number, sealed, initial}
 use Rattle.constriction_queue.specs.SelfDelimiting.{AreLeast, SelfDelimits}
@@ -33,7 +33,7 @@ module _ {S : Type 0} (w s : ℕ) (z : IsSizes w s) where
       within_all item since last words rest ss (subst (λ (r : Run). NarrowsAll w s (item ∷ since) r last) h k) are fit
   within_since (first ∷ before) item since middle last words rest bs ss h k are fit =
       within_all first (before ++ item ∷ since) last words rest (all-append (λ (i : Item S). IsModel w i.model) (first ∷ before) (item ∷ since) bs ss)
-      (InTurn-append (λ (i : Item S). Narrows w s i.model i.symbol) (first ∷ before) (item ∷ since) (initial s) middle last h k) are fit
+      (Trace-append (λ (i : Item S). Narrows w s i.model i.symbol) (first ∷ before) (item ∷ since) (initial s) middle last h k) are fit
 
   -- what holds of the decodes of symbols whose words lie within their run holds of these
   pub read_whatever_follows : (before since : List (Item S)) (middle last : Run) (words rest : List ℕ) → AreModels w before → AreModels w since

@@ -1,6 +1,6 @@
 -- The effect of encoding and decoding symbols, each under its own model, on a range coder's run.
 use Rattle.std.specs.Prelude.{◌≡◌, ℕ, ◌+◌, ◌-◌, ◌*◌, ◌/◌, ◌<◌, ◌^◌, ◌⊎◌, List, [], drop}
-use Rattle.constriction_base.specs.Steps.{InTurn}
+use Rattle.constriction_base.specs.Steps.{Trace}
 use Rattle.constriction_base.specs.Tables.{AtEntry}
 use Rattle.constriction_base.specs.Models.{Model, Item}
 use Rattle.constriction_queue.specs.Range.{Run, QuantileInInterval, narrowed_by, offset}
@@ -20,11 +20,11 @@ Finds w s words model symbol old new = AtEntry model.precision model.table symbo
 
 -- Encoding the items in order leads from the old run to the new run.
 abbrev pub NarrowsAll : {S : Type 0} → ℕ → ℕ → List (Item S) → Run → Run → Type 0
-NarrowsAll w s items old new = InTurn (λ item. Narrows w s item.model item.symbol) items old new
+NarrowsAll w s items old new = Trace (λ item. Narrows w s item.model item.symbol) items old new
 
 -- Decoding the items from these words, in order, leads from the old run to the new run.
 abbrev pub FindsAll : {S : Type 0} → ℕ → ℕ → List ℕ → List (Item S) → Run → Run → Type 0
-FindsAll w s words items old new = InTurn (λ item. Finds w s words item.model item.symbol) items old new
+FindsAll w s words items old new = Trace (λ item. Finds w s words item.model item.symbol) items old new
 
 -- No symbol was coded, or the number read is as close to the low end of the interval as after a seal.
 abbrev pub NearsEnd : ℕ → ℕ → List ℕ → Run → Type 0

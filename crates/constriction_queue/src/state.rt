@@ -78,7 +78,7 @@ impl<Word: WordOf<State>, State: BitArray> RangeCoderState<Word, State> {
         ensures lower { IfOk result (λ state. lower_of state ≡ State.number lower) }
         ensures range { IfOk result (λ state. range_of state ≡ State.number range) }
     {
-        if range.shifted_right(State::BITS - Word::BITS).is_nothing() {
+        if range.shift_right(State::BITS - Word::BITS).is_nothing() {
             return Err(());
         }
         Ok(RangeCoderState {

@@ -82,7 +82,7 @@ pub fn narrowed<Word: WordOf<State>, State: BitArray>(
     ensures run { CutsRun Word.number State.number Word.BITS State.BITS
         (step_of precision (State.number left) (State.number p)) situation lower range result }
 {
-    let scale = range.shifted_right(precision);
+    let scale = range.shift_right(precision);
     let part = scale.times(p);
     let start = lower.wrapping_plus(scale.times(left));
     match situation {
@@ -141,7 +141,7 @@ pub fn grow<Word: WordOf<State>, State: BitArray>(
     ensures run { GrowsRun Word.number State.number Word.BITS State.BITS situation lower range result }
 {
     let below = State::BITS - Word::BITS;
-    if !range.shifted_right(below).is_nothing() {
+    if !range.shift_right(below).is_nothing() {
         return Shifted {
             lower,
             range,
@@ -149,9 +149,9 @@ pub fn grow<Word: WordOf<State>, State: BitArray>(
             top: None,
         };
     }
-    let top = Word::narrow(lower.shifted_right(below));
-    let lower = lower.low_bits(below).shifted_left(Word::BITS);
-    let range = range.shifted_left(Word::BITS);
+    let top = Word::narrow(lower.shift_right(below));
+    let lower = lower.low_bits(below).shift_left(Word::BITS);
+    let range = range.shift_left(Word::BITS);
     match situation {
         EncoderSituation::Inverted(count, first) => Shifted {
             lower,

@@ -1,6 +1,6 @@
 -- The definitions compute: worked values.
 use Rattle.std.proofs.Common.{◌≡◌, ℕ, ◌%◌, ◌^◌, ◌<◌, ◌≤◌, List, [], ◌∷◌, refl, inl, inr, lit<, lit≤}
-use Rattle.constriction_base.specs.Steps.{Step, InTurn}
+use Rattle.constriction_base.specs.Steps.{Step, Trace}
 use Rattle.constriction_stack.specs.Ans.{AnsState, IsNext, IsPop, IsPush, exported, filled, pop, words_after}
 
 -- an interval of a table of 8 bits
@@ -23,7 +23,7 @@ first_comes_off = refl
 abbrev is_next : (head : ℕ) (words : List ℕ) → 255 ≤ head % 2 ^ 8 → head % 2 ^ 8 < 256 → IsNext (part 255 1) (state head words)
 is_next head words from below = record { from = from; below = below }
 
-all_come_off : InTurn (IsPop 8 16) (part 255 1 ∷ part 255 1 ∷ part 255 1 ∷ []) (state 65535 (255 ∷ [])) (state 0 [])
+all_come_off : Trace (IsPop 8 16) (part 255 1 ∷ part 255 1 ∷ part 255 1 ∷ []) (state 65535 (255 ∷ [])) (state 0 [])
 all_come_off = (
   state 65535 [],
   (is_next 65535 (255 ∷ []) (lit≤ tt) (lit< tt), refl),

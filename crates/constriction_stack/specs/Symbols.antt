@@ -1,6 +1,6 @@
 -- The effect of encoding and decoding symbols, each under its own model, on a stack coder's state.
 use Rattle.std.specs.Prelude.{ℕ, List}
-use Rattle.constriction_base.specs.Steps.{InTurn}
+use Rattle.constriction_base.specs.Steps.{Trace}
 use Rattle.constriction_base.specs.Tables.{AtEntry}
 use Rattle.constriction_base.specs.Models.{Model, Item}
 use Rattle.constriction_stack.specs.Ans.{AnsState, IsPush, IsPop}
@@ -16,8 +16,8 @@ Decodes w s model symbol old new = AtEntry model.precision model.table symbol (�
 
 -- Encoding the items in order leads from the old state to the new state.
 abbrev pub EncodesAll : {S : Type 0} → ℕ → ℕ → List (Item S) → AnsState → AnsState → Type 0
-EncodesAll w s items old new = InTurn (λ item. Encodes w s item.model item.symbol) items old new
+EncodesAll w s items old new = Trace (λ item. Encodes w s item.model item.symbol) items old new
 
 -- Decoding the items in order leads from the old state to the new state.
 abbrev pub DecodesAll : {S : Type 0} → ℕ → ℕ → List (Item S) → AnsState → AnsState → Type 0
-DecodesAll w s items old new = InTurn (λ item. Decodes w s item.model item.symbol) items old new
+DecodesAll w s items old new = Trace (λ item. Decodes w s item.model item.symbol) items old new

@@ -30,7 +30,7 @@ pub fn popped_head<State: BitArray>(
         ≡ State.number head / 2 ^ precision * State.number p
         + (State.number head % 2 ^ precision - State.number left) }
 {
-    head.shifted_right(precision)
+    head.shift_right(precision)
         .times(p)
         .plus(quantile)
         .minus(left)
@@ -54,7 +54,7 @@ pub fn refilled<Word: WordOf<State>, State: BitArray, Backend: ReadWords<Word, S
     ensures low { IfOk result (λ new. Word.number low.new ≡ State.number new % 2 ^ Word.BITS) }
     ensures kept { OnErr result (low.new ≡ low.old) }
 {
-    if !head.shifted_right(State::BITS - Word::BITS).is_nothing() {
+    if !head.shift_right(State::BITS - Word::BITS).is_nothing() {
         *low = Word::narrow(head);
         return Ok(head);
     }
@@ -67,7 +67,7 @@ pub fn refilled<Word: WordOf<State>, State: BitArray, Backend: ReadWords<Word, S
         Ok(Some(word)) => word,
     };
     *low = word;
-    Ok(head.shifted_left(Word::BITS).plus(word.widen()))
+    Ok(head.shift_left(Word::BITS).plus(word.widen()))
 }
 
 /// Encodes the symbol of the interval `[left, left + p)` onto `head`, and returns the new head.
@@ -90,7 +90,7 @@ pub fn pushed_onto<Word: WordOf<State>, State: BitArray, Backend: WriteWords<Wor
     ensures { PushesOnto Word.number State.number Backend.Holds Backend.WriteWords.own Word.BITS State.BITS
         precision left p head bulk.old result bulk.new }
 {
-    if head.shifted_right(State::BITS - precision).is_below(p) {
+    if head.shift_right(State::BITS - precision).is_below(p) {
         return Ok(pushed(head, left, p, reciprocal, precision));
     }
     match bulk.prepare(1) {
@@ -102,7 +102,7 @@ pub fn pushed_onto<Word: WordOf<State>, State: BitArray, Backend: WriteWords<Wor
         Err(refusal) => return Err(refusal),
     }
     Ok(pushed(
-        head.shifted_right(Word::BITS),
+        head.shift_right(Word::BITS),
         left,
         p,
         reciprocal,
@@ -136,13 +136,13 @@ pub(crate) fn pushed<State: BitArray>(
 {
     match reciprocal {
         Some(reciprocal) => {
-            let beside = State::unit().shifted_left(precision).minus(p);
+            let beside = State::unit().shift_left(precision).minus(p);
             let quotient = head.quotient_by(p, reciprocal);
             quotient.times(beside).plus(head.plus(left))
         }
         None => {
-            let (quotient, rest) = head.divided(p, State::BITS - precision);
-            let prefix = quotient.shifted_left(precision);
+            let (quotient, rest) = head.div_rem(p, State::BITS - precision);
+            let prefix = quotient.shift_left(precision);
             prefix.plus(left.plus(rest))
         }
     }

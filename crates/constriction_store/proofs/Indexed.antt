@@ -6,8 +6,8 @@ use Rattle.std.proofs.lemmas.Bool.{cases_lt}
 use Rattle.std.proofs.lemmas.List.{length-reverse}
 use Rattle.std.proofs.lemmas.Nat.{mul-mod_first}
 use Rattle.constriction_base.specs.Models.{Model, Item, IsModel, AreModels, items_of}
-use Rattle.constriction_base.specs.Steps.{Step, InTurn, IsSizes}
-use Rattle.constriction_base.proofs.InTurn.{InTurn-append}
+use Rattle.constriction_base.specs.Steps.{Step, Trace, IsSizes}
+use Rattle.constriction_base.proofs.Trace.{Trace-append}
 use Rattle.constriction_base.specs.Digits.{fixed_digits}
 use Rattle.constriction_queue.specs.Range.{Run, QuantileInInterval, cut, grown, narrowed_by, offset, seal_number, initial}
 use Rattle.constriction_queue.specs.SelfDelimiting.{SelfDelimits}
@@ -110,10 +110,10 @@ joined_run w s model [] [] old new all = all
 joined_run w s model [] (e ∷ es) old new all = absurd all
 joined_run w s model (c ∷ cs) [] old new all = absurd all
 joined_run w s model (c ∷ cs) (e ∷ es) old new all =
-    InTurn-append (λ (i : Item ℕ). Narrows w s i.model i.symbol) (items_of model c) (joined model cs) old all.2.0 new all.2.1 (joined_run w s model cs es all.2.0 new all.2.2)
+    Trace-append (λ (i : Item ℕ). Narrows w s i.model i.symbol) (items_of model c) (joined model cs) old all.2.0 new all.2.1 (joined_run w s model cs es all.2.0 new all.2.2)
 
 -- steps of two lists, in two parts
-first_part : {E S : Type 0} (leads : E → S → S → Type 0) (xs ys : List E) (a c : S) → InTurn leads (xs ++ ys) a c → (b : S) × InTurn leads xs a b
+first_part : {E S : Type 0} (leads : E → S → S → Type 0) (xs ys : List E) (a c : S) → Trace leads (xs ++ ys) a c → (b : S) × Trace leads xs a b
 first_part leads [] ys a c all = (a, refl)
 first_part leads (x ∷ xs) ys a c all =
     let rest = first_part leads xs ys all.0 c all.2 in
@@ -187,7 +187,7 @@ module _ (w s : ℕ) (model : Model ℕ) (words : List ℕ) (z : IsSizes w s) (m
       (old, all.0, all.1, first_part (λ (i : Item ℕ). Finds w s words i.model i.symbol) (items_of model c) (joined model cs) old last found)
   held_at (c ∷ cs) (e ∷ es) before old last bs coded are all (suc i) less =
       held_at cs es (before ++ items_of model c) all.2.0 last (all-append (λ (i : Item ℕ). IsModel w i.model) before (items_of model c) bs (are_models w model c m))
-      (InTurn-append (λ (i : Item ℕ). Narrows w s i.model i.symbol) before (items_of model c) (initial s) old all.2.0 coded all.2.1) are all.2.2 i (omega arith)
+      (Trace-append (λ (i : Item ℕ). Narrows w s i.model i.symbol) before (items_of model c) (initial s) old all.2.0 coded all.2.1) are all.2.2 i (omega arith)
 
   -- and so at each entry
   pub held_chunks : (chunks : List (List ℕ)) (entries : List Entry) (last : Run) → SelfDelimits w s last words → Indexes w s model chunks entries (initial s) last

@@ -3,7 +3,7 @@ use Rattle.std.proofs.Common.{◌≡◌, ◌∙◌, ℕ, ◌+◌, ◌/◌, ◌^�
 use Rattle.std.proofs.lemmas.List.{take_more}
 use Rattle.constriction_base.specs.Models.{Model, Item, IsModel, Knows, items_of}
 use Rattle.constriction_base.specs.Steps.{Step, IsStep}
-use Rattle.constriction_base.proofs.InTurn.{InTurn-symbol}
+use Rattle.constriction_base.proofs.Trace.{Trace-symbol}
 use Rattle.constriction_queue.specs.Range.{Run, offset, narrowed_by, cut}
 use Rattle.constriction_queue.proofs.Narrowing.{by_growth}
 use Rattle.constriction_queue.specs.Decoder.{Decoder, quantile_read, StandsAt}
@@ -20,7 +20,7 @@ pub narrowed_more : (w s : ℕ) (model : Model ℕ) (symbols : List ℕ) (k : �
     → NarrowsAll w s (items_of model (take (k + 1) symbols)) old new
 narrowed_more w s model symbols k old mid new inside before one =
     subst (λ (xs : List ℕ). NarrowsAll w s (items_of model xs) old new) (sym (take_more symbols k 0 inside))
-    (InTurn-symbol (λ item. Narrows w s item.model item.symbol) model (take k symbols) (get_or symbols k 0) old mid new before one)
+    (Trace-symbol (λ item. Narrows w s item.model item.symbol) model (take k symbols) (get_or symbols k 0) old mid new before one)
 
 known_append : (model : Model ℕ) (xs : List ℕ) (y : ℕ) → AllKnown model xs → Knows model y → AllKnown model (xs ++ y ∷ [])
 known_append model [] y all one = (one, tt)
@@ -57,7 +57,7 @@ moves_most w s model (x ∷ xs) old new all =
 -- ---- reading
 pub found_more : (w s : ℕ) (words : List ℕ) (model : Model ℕ) (xs : List ℕ) (x : ℕ) (old mid new : Run) → FindsAll w s words (items_of model xs) old mid → Finds w s words model x mid new
     → FindsAll w s words (items_of model (xs ++ x ∷ [])) old new
-found_more w s words model xs x old mid new all one = InTurn-symbol (λ item. Finds w s words item.model item.symbol) model xs x old mid new all one
+found_more w s words model xs x old mid new all one = Trace-symbol (λ item. Finds w s words item.model item.symbol) model xs x old mid new all one
 
 -- symbols that are read are no others
 pub one_reading : (w s : ℕ) (words : List ℕ) (model : Model ℕ) (xs ys : List ℕ) (old new last : Run) → IsModel w model → length ys ≡ length xs

@@ -3,20 +3,20 @@ use Rattle.std.specs.Iterator.{Yields}
 use Rattle.std.specs.Iterator.Adapters.{rev_source, rev_steps}
 use Rattle.std.specs.declared.iter.Rev.{Rev}
 use Rattle.std.proofs.Common.{◌≡◌, ◌∙◌, ap, Option, Some, List, [], ◌∷◌, ◌++◌, Result, Ok, map}
-use Rattle.constriction_base.proofs.InTurn.{InTurn-more, InTurn-map}
+use Rattle.constriction_base.proofs.Trace.{Trace-more, Trace-map}
 use Rattle.constriction_stream.specs.Lists.{StepsAll}
 
 -- one step more, at the end
 pub StepsAll-more : {C A E : Type 0} (step : C → A → Result (Unit {0}) E → C → Type 0) (old : C) (xs : List A) (mid : C) (x : A) (new : C)
     → StepsAll step old xs mid → step mid x (Ok tt) new → StepsAll step old (xs ++ x ∷ []) new
-StepsAll-more step old xs mid x new all last = InTurn-more (λ item before after. step before item (Ok tt) after) xs x old mid new all last
+StepsAll-more step old xs mid x new all last = Trace-more (λ item before after. step before item (Ok tt) after) xs x old mid new all last
 
 -- steps at items are steps at what the items stand for
 pub StepsAll-map : {C A B E : Type 0} (f : A → B) (step : C → A → Result (Unit {0}) E → C → Type 0) (other : C → B → Result (Unit {0}) E → C → Type 0)
     → ((old new : C) (x : A) → step old x (Ok tt) new → other old (f x) (Ok tt) new)
     → (old : C) (xs : List A) (new : C) → StepsAll step old xs new → StepsAll other old (map f xs) new
 StepsAll-map {C = C} f step other each old xs new all =
-    InTurn-map f (λ (coder : C). coder) (λ item before after. step before item (Ok tt) after) (λ item before after. other before item (Ok tt) after)
+    Trace-map f (λ (coder : C). coder) (λ item before after. step before item (Ok tt) after) (λ item before after. other before item (Ok tt) after)
     (λ item before after one. each before after item one) xs old new all
 
 -- what an iterator over a list has given is the front of the list

@@ -2,13 +2,13 @@
 -- of a decoding iterator's `next`, and bounds on the number of items and on the number of symbols left.
 use Rattle.std.specs.Prelude.{◌≡◌, ℕ, ◌+◌, ◌≤◌, List, Option, None, Some, Result, Ok, Err, MatchOption, MatchResult}
 use Rattle.std.specs.Iterator.{Count, IsFinite, size, Drains, YieldsThen}
-use Rattle.constriction_base.specs.Steps.{InTurn}
+use Rattle.constriction_base.specs.Steps.{Trace}
 use Rattle.constriction_stream.specs.declared.errors.TryCodingError.{TryCodingError}
 use Rattle.constriction_stream.specs.declared.errors.TryCodingError.TheVariants.{InvalidEntropyModel, CodingError}
 
 -- The coder makes the step of each item, in order. No step is refused, and the steps lead from `old` to `new`.
 abbrev pub StepsAll : {C A E : Type 0} → (C → A → Result (Unit {0}) E → C → Type 0) → C → List A → C → Type 0
-StepsAll step old items new = InTurn (λ item before after. step before item (Ok tt) after) items old new
+StepsAll step old items new = Trace (λ item before after. step before item (Ok tt) after) items old new
 
 -- The coder makes the step of each item of an iterator, in order, and stops at the first refused step. The result is
 -- the error of this step, and exactly the items before it are coded. Without a refusal, all items are coded.

@@ -3,8 +3,8 @@ use Rattle.std.proofs.Common.{◌≡◌, ◌<◌, ℕ, Bool, true, false, replic
 use Rattle.std.specs.List.{zip}
 use Rattle.std.proofs.lemmas.List.{reverse-append, reverse-reverse}
 use Rattle.constriction_base.specs.declared.errors.CoderError.{CoderError}
-use Rattle.constriction_base.specs.Steps.{InTurn}
-use Rattle.constriction_base.proofs.InTurn.{InTurn-more}
+use Rattle.constriction_base.specs.Steps.{Trace}
+use Rattle.constriction_base.proofs.Trace.{Trace-more}
 use Rattle.constriction_stream.specs.Lists.{StepsAll}
 use Rattle.constriction_symbol.specs.Bits.{HasStackWords, IsStackWords}
 use Rattle.constriction_symbol.specs.Codewords.{ReadsSymbol, WritesCodeword, formed}
@@ -58,7 +58,7 @@ module _ {C E A : Type 0} (bits : C → List Bool) (puts : C → Bool → Result
 -- items that were read one after the other, where one that is read of bits that begin with the codeword of another is the same
 module _ {I A : Type 0} (unread : I → List Bool) (code : A → Option (List Bool)) (reads : A → I → I → Type 0) (same alike : A → A → Type 0)
     (one_back : (x y : A) (first rest : List Bool) (old new : I) → alike x y → code y ≡ Some first → unread old ≡ first ++ rest → reads x old new → same x y × (unread new ≡ rest)) where
-  pub all_back : (xs ys : List A) (all rest : List Bool) (old new : I) → AreEach alike xs ys → AreCodewords code ys all → unread old ≡ all ++ rest → InTurn reads xs old new
+  pub all_back : (xs ys : List A) (all rest : List Bool) (old new : I) → AreEach alike xs ys → AreCodewords code ys all → unread old ≡ all ++ rest → Trace reads xs old new
       → AreEach same xs ys × (unread new ≡ rest)
   all_back [] [] all rest old new each coded is h = (tt, ap unread h ∙ (is ∙ ap (λ bs. bs ++ rest) coded))
   all_back [] (y ∷ ys) all rest old new each coded is h = absurd each
@@ -71,7 +71,7 @@ module _ {I A : Type 0} (unread : I → List Bool) (code : A → Option (List Bo
   -- where the codewords of more items are there, no read is refused
   pub none_stops : (refuses : I → I → Type 0) → ((x y : A) → alike x y)
       → ((y : A) (first rest : List Bool) (old new : I) → code y ≡ Some first → unread old ≡ first ++ rest → refuses old new → ⊥)
-      → (xs ys : List A) (all rest : List Bool) (old mid new : I) → length xs < length ys → AreCodewords code ys all → unread old ≡ all ++ rest → InTurn reads xs old mid → refuses mid new → ⊥
+      → (xs ys : List A) (all rest : List Bool) (old mid new : I) → length xs < length ys → AreCodewords code ys all → unread old ≡ all ++ rest → Trace reads xs old mid → refuses mid new → ⊥
   none_stops refuses free never [] [] all rest old mid new less coded is h refused = omega (arith, less)
   none_stops refuses free never [] (y ∷ ys) all rest old mid new less coded is h refused =
       never y coded.0 (coded.1 ++ rest) mid new coded.2 (ap unread h ∙ (is ∙ (ap (λ bs. bs ++ rest) coded.3 ∙ append_assoc coded.0 coded.1 rest))) refused
@@ -104,7 +104,7 @@ pub reads_more : {I S K V E : Type 0} (next : I → Option (Result Bool E) → I
 reads_more {I} {S} {K} {V} {E} next codeword reads_on is_invalid book other old xs mid x answer new all is given step =
     let at : ReadsSymbol next (codeword book) (reads_on book) (is_invalid book) mid answer new = subst (λ (k : K). ReadsSymbol next (codeword k) (reads_on k) (is_invalid k) mid answer new) is step in
     let one : ReadsSymbol next (codeword book) (reads_on book) (is_invalid book) mid (Ok x) new = subst (λ (r : Result S (CoderError (SymbolCodeError V) E)). ReadsSymbol next (codeword book) (reads_on book) (is_invalid book) mid r new) given at in
-    InTurn-more (λ (symbol : S) (before after : I). ReadsSymbol next (codeword book) (reads_on book) (is_invalid book) before (Ok symbol) after) xs x old mid new all one
+    Trace-more (λ (symbol : S) (before after : I). ReadsSymbol next (codeword book) (reads_on book) (is_invalid book) before (Ok symbol) after) xs x old mid new all one
 
 -- ---- words of a stack
 no_end : (bits tail : List Bool) → [] ≡ bits ++ true ∷ tail → ⊥

@@ -2,7 +2,7 @@
 use Rattle.std.proofs.Common.{◌≡◌, ◌<◌, ◌≤◌, ◌+◌, ℕ, zero, suc, ◌/◌, ◌%◌, ◌==◌, Bool, List, [], ◌∷◌, ◌++◌, length, map, reverse, Option, Some, Result, Ok, Err, ap, sym, subst, refl, inl, inr, ◌∙◌, arith, append-nil, append_assoc, length-append}
 use Rattle.constriction_base.specs.Backends.{IsWrite}
 use Rattle.constriction_base.specs.declared.errors.CoderError.TheVariants.{Backend}
-use Rattle.constriction_base.proofs.InTurn.{InTurn-append}
+use Rattle.constriction_base.proofs.Trace.{Trace-append}
 use Rattle.constriction_stream.specs.Lists.{StepsAll}
 use Rattle.constriction_symbol.specs.Bits.{BitsValue, PutsBits, PutsOnto, bits_above, bits_of, bits_of_words}
 use Rattle.constriction_symbol.specs.Codewords.{WritesCodeword, formed}
@@ -45,7 +45,7 @@ module _ {W B E : Type 0} (w : ℕ) (number : W → ℕ) (words : B → List W) 
       let next : StepsAll puts_in (coder_of (last ++ front) backend) (bit ∷ back) (coder_of (bit ∷ back) backend') =
       (coder_of (bit ∷ []) backend', inr (full, refl, (word, has, (more, left, by))), room_steps back (bit ∷ []) backend' (omega (arith, short))) in
       let all : StepsAll puts_in (coder_of last backend) (front ++ bit ∷ back) (coder_of (bit ∷ back) backend') =
-      InTurn-append (λ b before after. puts_in before b (Ok tt) after) front (bit ∷ back) (coder_of last backend) (coder_of (last ++ front) backend) (coder_of (bit ∷ back) backend') filled next in (
+      Trace-append (λ b before after. puts_in before b (Ok tt) after) front (bit ∷ back) (coder_of last backend) (coder_of (last ++ front) backend) (coder_of (bit ∷ back) backend') filled next in (
         across w number (words backend) (words backend') word last (last ++ front) last' front (bit ∷ back) bits more whole full refl begun parts,
         rw (parts, begun) all,
       )

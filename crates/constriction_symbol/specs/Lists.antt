@@ -1,7 +1,7 @@
 -- Lists of symbols as concatenated codewords, and the decoding of such lists.
 use Rattle.std.specs.Prelude.{◌≡◌, Bool, List, [], ◌∷◌, ◌++◌, Option, Some, Result, Ok, ⊤}
 use Rattle.std.specs.List.{zip}
-use Rattle.constriction_base.specs.Steps.{InTurn}
+use Rattle.constriction_base.specs.Steps.{Trace}
 use Rattle.constriction_symbol.specs.Codewords.{ReadsSymbol}
 
 -- Each item has a codeword, and the bits are these codewords, concatenated.
@@ -30,13 +30,13 @@ AreEach holds (x ∷ xs) (y ∷ ys) = holds x y × AreEach holds xs ys
 abbrev pub ReadsAll : {I S V E : Type 0} → (I → Option (Result Bool E) → I → Type 0) → (S → Option (List Bool))
     → (List Bool → Type 0) → (List Bool → V → Type 0) → List S → I → I → Type 0
 ReadsAll {E = E} next codeword reads_on is_invalid =
-    InTurn (λ symbol old new. ReadsSymbol {E = E} next codeword reads_on is_invalid old (Ok symbol) new)
+    Trace (λ symbol old new. ReadsSymbol {E = E} next codeword reads_on is_invalid old (Ok symbol) new)
 
 -- The symbols are decoded one after another, each with the codebook beside it.
 abbrev pub ReadsPairs : {I K S V E : Type 0} → (I → Option (Result Bool E) → I → Type 0) → (K → S → Option (List Bool))
     → (K → List Bool → Type 0) → (K → List Bool → V → Type 0) → List (S × K) → I → I → Type 0
 ReadsPairs {E = E} next codeword reads_on is_invalid =
-    InTurn (λ pair old new. ReadsSymbol {E = E} next (codeword pair.1) (reads_on pair.1) (is_invalid pair.1) old (Ok pair.0) new)
+    Trace (λ pair old new. ReadsSymbol {E = E} next (codeword pair.1) (reads_on pair.1) (is_invalid pair.1) old (Ok pair.0) new)
 
 -- The symbols of two pairs mean the same in the second pair's codebook.
 abbrev pub IsSamePair : {K S : Type 0} → (K → S → S → Type 0) → S × K → S × K → Type 0

@@ -44,7 +44,7 @@ pub fn emit_down<Word: BitArray, E, F: FnMut(bool) -> Result<(), E>>(
     let mut left = count;
     'bits: while left > 0 {
         left -= 1;
-        match emit(!word.shifted_right(left).low_bits(1).is_nothing()) {
+        match emit(!word.shift_right(left).low_bits(1).is_nothing()) {
             Ok(()) => {}
             Err(error) => return Err(CoderError::Backend(error)),
         }
@@ -71,7 +71,7 @@ pub fn emit_up<Word: BitArray, E, F: FnMut(bool) -> Result<(), E>>(
             Ok(()) => {}
             Err(error) => return Err(CoderError::Backend(error)),
         }
-        rest = rest.shifted_right(1);
+        rest = rest.shift_right(1);
     }
     Ok(())
 }

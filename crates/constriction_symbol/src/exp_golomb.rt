@@ -229,7 +229,7 @@ impl<N: BitArray> DecoderCodebook for ExpGolomb<N> {
         if length >= count || zeros >= N::BITS {
             return None;
         }
-        let after: N = same_number(bits.shifted_right(Word::BITS - length));
+        let after: N = same_number(bits.shift_right(Word::BITS - length));
         Some((after.minus(N::unit()), length))
     }
 }

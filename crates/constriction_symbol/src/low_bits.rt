@@ -45,9 +45,9 @@ impl<Word: BitArray> LowBits<Word> {
     pub fn after_first(word: Word) -> Self
         ensures { result ≡ bits_of (Word.BITS - 1) (Word.number word / 2) }
     {
-        let end = Word::unit().shifted_left(Word::BITS - 1);
+        let end = Word::unit().shift_left(Word::BITS - 1);
         LowBits {
-            word: word.shifted_right(1).plus(end),
+            word: word.shift_right(1).plus(end),
         }
     }
 
@@ -83,7 +83,7 @@ impl<Word: BitArray> LowBits<Word> {
         ensures { self.old ≡ result ∷ self.new }
     {
         let bit = !self.word.low_bits(1).is_nothing();
-        self.word = self.word.shifted_right(1);
+        self.word = self.word.shift_right(1);
         bit
     }
 

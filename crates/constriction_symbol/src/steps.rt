@@ -90,7 +90,7 @@ fn put_across<Word: BitArray, B: WriteWords<Word>>(
         Err(error) => return Err(error),
     }
     *last = TopBits::none();
-    last.push_all(bits.shifted_right(room), count - room);
+    last.push_all(bits.shift_right(room), count - room);
     Ok(())
 }
 

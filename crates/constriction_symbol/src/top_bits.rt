@@ -126,7 +126,7 @@ impl<Word: BitArray> TopBits<Word> {
     {
         let room = self.room as u32;
         if room < Word::BITS {
-            self.word.shifted_right(room)
+            self.word.shift_right(room)
         } else {
             Word::nothing()
         }
@@ -149,7 +149,7 @@ impl<Word: BitArray> TopBits<Word> {
         requires { length self.old < Word.BITS }
         ensures { self.new ≡ self.old ++ bit ∷ [] }
     {
-        self.word = self.word.shifted_right(1).plus(highest(bit));
+        self.word = self.word.shift_right(1).plus(highest(bit));
         self.room -= 1;
     }
 
@@ -159,7 +159,7 @@ impl<Word: BitArray> TopBits<Word> {
         requires { 0 < length self.old }
         ensures { self.old ≡ self.new ++ result ∷ [] }
     {
-        let bit = !self.word.shifted_right(Word::BITS - 1).is_nothing();
+        let bit = !self.word.shift_right(Word::BITS - 1).is_nothing();
         let rest = self.word.low_bits(Word::BITS - 1);
         self.word = rest.plus(rest);
         self.room += 1;
@@ -186,8 +186,8 @@ impl<Word: BitArray> TopBits<Word> {
         requires fits { length self.old + count ≤ Word.BITS }
         ensures { self.new ≡ self.old ++ bits_of count (Word.number bits) }
     {
-        let above = bits.shifted_left(Word::BITS - count);
-        self.word = self.word.shifted_right(count).plus(above);
+        let above = bits.shift_left(Word::BITS - count);
+        self.word = self.word.shift_right(count).plus(above);
         self.room -= count as usize;
     }
 
@@ -212,7 +212,7 @@ impl<Word: BitArray> TopBits<Word> {
         requires within { count < length self.old }
         ensures { self.new ≡ take (length self.old - count) self.old }
     {
-        self.word = self.word.low_bits(Word::BITS - count).shifted_left(count);
+        self.word = self.word.low_bits(Word::BITS - count).shift_left(count);
         // As a `usize`, `count` would have to be widened first, by one more instruction for each codeword read.
         self.room = (self.room as u32 + count) as usize;
     }
@@ -229,7 +229,7 @@ fn at_top<Word: BitArray>(word: Word, count: u32) -> Word
     if count == 0 {
         return word;
     }
-    word.shifted_left(Word::BITS - count)
+    word.shift_left(Word::BITS - count)
 }
 
 /// Returns a word with `bit` as the highest bit. All other bits are 0.
@@ -238,7 +238,7 @@ fn highest<Word: BitArray>(bit: bool) -> Word
     ensures { Word.number result ≡ (if bit then 2 ^ (Word.BITS - 1) else 0) }
 {
     if bit {
-        Word::unit().shifted_left(Word::BITS - 1)
+        Word::unit().shift_left(Word::BITS - 1)
     } else {
         Word::nothing()
     }

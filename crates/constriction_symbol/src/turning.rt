@@ -36,7 +36,7 @@ pub fn first_lowest<Word: BitArray>(bits: Word, count: u32) -> Word
     if count == 0 {
         return bits;
     }
-    turned(bits).shifted_right(Word::BITS - count)
+    turned(bits).shift_right(Word::BITS - count)
 }
 
 /// Returns the lowest `to` bits of `word` in reverse order, given the result `done` for the lowest `from` bits.
@@ -53,7 +53,7 @@ fn turned_to<Word: BitArray>(word: Word, done: Word, from: u32, to: u32) -> Word
     let mut turned = done;
     let mut place = from;
     'bits: while place < to {
-        turned = doubled(turned, !word.shifted_right(place).low_bits(1).is_nothing());
+        turned = doubled(turned, !word.shift_right(place).low_bits(1).is_nothing());
         place += 1;
     }
     turned
@@ -93,7 +93,7 @@ fn same_down_to<From: BitArray, To: BitArray>(number: From, done: To, from: u32,
     let mut left = from;
     'bits: while left > to {
         left -= 1;
-        same = doubled(same, !number.shifted_right(left).low_bits(1).is_nothing());
+        same = doubled(same, !number.shift_right(left).low_bits(1).is_nothing());
     }
     same
 }

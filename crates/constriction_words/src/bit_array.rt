@@ -23,7 +23,7 @@ mod of_usize;
 /// every word. Generic code may rely on this law, and its callers don't have to prove it.
 ///
 /// Some methods have a condition, for example that a sum fits the type. The caller proves the condition. The compiler
-/// inlines each method as one or a few machine instructions, except [`BitArray::divided`], which takes about twenty.
+/// inlines each method as one or a few machine instructions, except [`BitArray::div_rem`], which takes about twenty.
 /// Quotients and remainders of `u128` call a function, because most machines have no instruction for them.
 ///
 /// An implementor proves the contract of each method and three laws:
@@ -118,7 +118,7 @@ pub trait BitArray: Copy + Drop {
     /// The caller proves that `other` is above 0. If the caller knows `other` some time before `self`, this call is
     /// faster than [`BitArray::quotient`] for `u32`, `u64` and `usize`. For the latter two, `length` should be a bound
     /// of the quotient's length in bits. The results don't depend on it: a longer quotient only takes longer.
-    fn divided(self, other: Self, length: u32) -> (Self, Self)
+    fn div_rem(self, other: Self, length: u32) -> (Self, Self)
         requires { 0 < number other }
         ensures quotient { number result.0 ≡ number self / number other }
         ensures rest { number result.1 ≡ number self % number other }
@@ -129,13 +129,13 @@ pub trait BitArray: Copy + Drop {
     /// Returns `self` times `2 ^ by`.
     ///
     /// The caller proves that the product fits the type and that `by` is below `BITS`.
-    fn shifted_left(self, by: u32) -> Self
+    fn shift_left(self, by: u32) -> Self
         requires within { by < BITS }
         requires fits { number self * 2 ^ by < 2 ^ BITS }
         ensures { number result ≡ number self * 2 ^ by };
 
     /// Returns `self` divided by `2 ^ by`, rounded down. The caller proves that `by` is below `BITS`.
-    fn shifted_right(self, by: u32) -> Self
+    fn shift_right(self, by: u32) -> Self
         requires { by < BITS }
         ensures { number result ≡ number self / 2 ^ by };
 

@@ -21,7 +21,7 @@ const LONGEST: u32 = 50;
 /// `length` is a bound of the quotient's length in bits, as far as the caller knows one. The results don't depend on
 /// it. Above 50, the call divides at once, because an estimate would rarely be exact.
 #[inline(always)]
-pub(crate) fn divided(dividend: u64, divisor: u64, length: u32) -> (u64, u64)
+pub(crate) fn div_rem(dividend: u64, divisor: u64, length: u32) -> (u64, u64)
     requires { 0 < divisor }
     ensures quotient { result.0 ≡ dividend / divisor }
     ensures rest { result.1 ≡ dividend % divisor }
@@ -39,13 +39,13 @@ pub(crate) fn divided(dividend: u64, divisor: u64, length: u32) -> (u64, u64)
     if beyond < divisor {
         return (quotient + 1, beyond);
     }
-    divided_slowly(dividend, divisor)
+    div_rem_slowly(dividend, divisor)
 }
 
 /// Returns the quotient, rounded down, and the remainder, both by division.
 #[cold]
 #[inline(never)]
-fn divided_slowly(dividend: u64, divisor: u64) -> (u64, u64)
+fn div_rem_slowly(dividend: u64, divisor: u64) -> (u64, u64)
     requires { 0 < divisor }
     ensures quotient { result.0 ≡ dividend / divisor }
     ensures rest { result.1 ≡ dividend % divisor }
@@ -57,7 +57,7 @@ fn divided_slowly(dividend: u64, divisor: u64) -> (u64, u64)
 ///
 /// The caller proves that the quotient fits 64 bits. If `divisor` is below `2^32`, the call divides two 64-bit numbers
 /// instead, as in long division with digits of 32 bits.
-pub(crate) fn divided_wide(dividend: u128, divisor: u64) -> (u64, u64)
+pub(crate) fn div_rem_wide(dividend: u128, divisor: u64) -> (u64, u64)
     requires some { 0 < divisor }
     requires fits { dividend < divisor * 2 ^ 64 }
     ensures quotient { result.0 ≡ dividend / divisor }
@@ -68,8 +68,8 @@ pub(crate) fn divided_wide(dividend: u128, divisor: u64) -> (u64, u64)
         return (quotient as u64, (dividend % divisor as u128) as u64);
     }
     let low = (dividend % 0x1_0000_0000) as u64;
-    let (first, left) = divided((dividend >> 32) as u64, divisor, 32);
-    let (second, rest) = divided((left << 32) + low, divisor, 32);
+    let (first, left) = div_rem((dividend >> 32) as u64, divisor, 32);
+    let (second, rest) = div_rem((left << 32) + low, divisor, 32);
     ((first << 32) + second, rest)
 }
 

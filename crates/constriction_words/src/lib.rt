@@ -22,7 +22,7 @@
 //!     ensures { Word.number result ≡ (Word.number first + Word.number second) / 2 }
 //! {
 //!     let odd = first.low_bits(1).times(second.low_bits(1));
-//!     first.shifted_right(1).plus(second.shifted_right(1)).plus(odd)
+//!     first.shift_right(1).plus(second.shift_right(1)).plus(odd)
 //! }
 //! ```
 //!

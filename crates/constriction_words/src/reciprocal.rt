@@ -13,7 +13,7 @@
 
 ghost use Rattle.std.specs.Prelude.{◌≡◌, ◌+◌, ◌*◌, ◌/◌, ◌<◌, ℕ};
 
-use crate::division::divided_wide;
+use crate::division::div_rem_wide;
 
 /// The reciprocal of a divisor above 0, for exact quotients (rounded down) of numbers below `2^64`.
 ///
@@ -56,7 +56,7 @@ impl Reciprocal {
         let shift = 63 - divisor.leading_zeros();
         let power = 1u64 << shift;
         let below = ((power as u128) << 64) - 1;
-        let (quotient, rest) = divided_wide(below, divisor);
+        let (quotient, rest) = div_rem_wide(below, divisor);
         if rest < power {
             Reciprocal {
                 multiplier: quotient,

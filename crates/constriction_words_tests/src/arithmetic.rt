@@ -69,12 +69,12 @@ pub fn remainder<W: BitArray>(first: W, second: W) -> Option<W> {
 
 /// Returns the quotient and the remainder of `first` divided by `second`, or twice `None` if `second` is 0.
 ///
-/// `length` is the expected length of the quotient in bits, as for the method `divided`.
-pub fn divided<W: BitArray>(first: W, second: W, length: u32) -> (Option<W>, Option<W>) {
+/// `length` is the expected length of the quotient in bits, as for the method `div_rem`.
+pub fn div_rem<W: BitArray>(first: W, second: W, length: u32) -> (Option<W>, Option<W>) {
     if second.is_nothing() {
         return (None, None);
     }
-    let (quotient, rest) = first.divided(second, length);
+    let (quotient, rest) = first.div_rem(second, length);
     (Some(quotient), Some(rest))
 }
 
@@ -85,10 +85,10 @@ pub fn divided<W: BitArray>(first: W, second: W, length: u32) -> (Option<W>, Opt
 pub fn shifted<W: BitArray>(number: W, by: u32) -> Option<W>
     requires { by < W.BITS }
 {
-    if W::greatest().shifted_right(by).is_below(number) {
+    if W::greatest().shift_right(by).is_below(number) {
         return None;
     }
-    Some(number.shifted_left(by))
+    Some(number.shift_left(by))
 }
 
 /// Converts `number` to its nonzero form and back. Returns 0 for 0, which has no nonzero form.

@@ -13,8 +13,8 @@ fn mean<Word: BitArray>(first: Word, second: Word) -> Word
 {
     let odd = first.low_bits(1).times(second.low_bits(1));
     first
-        .shifted_right(1)
-        .plus(second.shifted_right(1))
+        .shift_right(1)
+        .plus(second.shift_right(1))
         .plus(odd)
 }
 

@@ -1,6 +1,6 @@
 //! Tests of the methods that take two words.
 
-use crate::arithmetic::{difference, divided, product, quotient, quotient_by, remainder, sum};
+use crate::arithmetic::{difference, div_rem, product, quotient, quotient_by, remainder, sum};
 use constriction_words::BitArray;
 
 /// Two words, and the results that the methods of [`BitArray`] should return for them.
@@ -18,8 +18,8 @@ pub struct Pair<W> {
 fn is_pair<W: BitArray + PartialEq>(pair: &Pair<W>) -> bool {
     let (first, second) = pair.numbers;
     let [added, taken, times, ratio, left] = pair.exact;
-    let (quickly, rest) = divided(first, second, 8);
-    let (slowly, same_rest) = divided(first, second, W::BITS);
+    let (quickly, rest) = div_rem(first, second, 8);
+    let (slowly, same_rest) = div_rem(first, second, W::BITS);
     sum(first, second) == added
         && difference(first, second) == taken
         && product(first, second) == times

@@ -22,7 +22,7 @@ fn is_single<W: BitArray + PartialEq>(single: &Single<W>) -> bool {
     let number = single.number;
     single.by < W::BITS
         && shifted(number, single.by) == single.left
-        && number.shifted_right(single.by) == single.right_and_low.0
+        && number.shift_right(single.by) == single.right_and_low.0
         && number.low_bits(single.by) == single.right_and_low.1
         && number.bit_length() == single.length
         && number.reversed_bits() == single.reversed

@@ -82,17 +82,17 @@ pub trait AsSeekReadWords<'a, Word, S: Semantics>: Holds<Word, S> {
 
 /// A value that can reverse its buffer in place and still hold the same stack.
 ///
-/// An implementor chooses the relation `turns` between the value and the new value. It proves that the new value holds
-/// the same stack. For cursors, `turns` states the buffer and the position of the new cursor.
+/// An implementor chooses the relation `reverses` between the value and the new value. It proves that the new value
+/// holds the same stack. For cursors, `reverses` states the buffer and the position of the new cursor.
 pub trait IntoReversed<Word>: Holds<Word, Stack> {
     /// The value over the reversed buffer.
     type IntoReversed: Holds<Word, Stack> + Drop;
 
     /// Relates the value to the new value over the reversed buffer.
-    ghost turns: { Self → Self.IntoReversed → Type 0 };
+    ghost reverses: { Self → Self.IntoReversed → Type 0 };
 
     /// Reverses the buffer and returns a value over it that holds the same stack of words.
     fn into_reversed_stack(self) -> Self::IntoReversed
         ensures stack { ⟦<Self::IntoReversed as Holds<Word, Stack>>⟧.words result ≡ Self.words self }
-        ensures turned { turns self result };
+        ensures turned { reverses self result };
 }

@@ -10,7 +10,7 @@ use std::marker::PhantomData;
 
 impl<Word: BitArray, Buf: WordsMut<Word> + Drop> Cursor<Word, Buf> {
     /// Reverses the buffer and keeps the position between the same words, so that stack and queue swap.
-    fn turned_round(self) -> Self
+    fn reverse_buffer(self) -> Self
         ensures buffer { Buf.lent result.buf ≡ reverse (Buf.lent self.buf) }
         ensures place { result.pos ≡ length (Buf.lent self.buf) - self.pos }
         ensures stack { drop result.pos (Buf.lent result.buf) ≡ reverse (take self.pos (Buf.lent self.buf)) }
@@ -49,7 +49,7 @@ impl<Word: BitArray, Buf: WordsMut<Word> + Drop> Cursor<Word, Buf> {
         ensures buffer { Buf.lent result.0.buf ≡ reverse (Buf.lent self.buf) }
         ensures place { result.0.pos ≡ length (Buf.lent self.buf) - self.pos }
     {
-        Reverse(self.turned_round())
+        Reverse(self.reverse_buffer())
     }
 }
 
@@ -66,14 +66,14 @@ impl<Word: BitArray, Buf: WordsMut<Word> + Drop> Reverse<Cursor<Word, Buf>> {
         ensures place { result.pos ≡ length (Buf.lent self.0.buf) - self.0.pos }
     {
         let Reverse(cursor) = self;
-        cursor.turned_round()
+        cursor.reverse_buffer()
     }
 }
 
 impl<Word: BitArray, Buf: WordsMut<Word> + Drop> IntoReversed<Word> for Cursor<Word, Buf> {
     type IntoReversed = Reverse<Cursor<Word, Buf>>;
 
-    ghost turns = { λ old new. (Buf.lent new.0.buf ≡ reverse (Buf.lent old.buf))
+    ghost reverses = { λ old new. (Buf.lent new.0.buf ≡ reverse (Buf.lent old.buf))
         × (new.0.pos ≡ length (Buf.lent old.buf) - old.pos) };
 
     fn into_reversed_stack(self) -> Reverse<Cursor<Word, Buf>> {
@@ -84,7 +84,7 @@ impl<Word: BitArray, Buf: WordsMut<Word> + Drop> IntoReversed<Word> for Cursor<W
 impl<Word: BitArray, Buf: WordsMut<Word> + Drop> IntoReversed<Word> for Reverse<Cursor<Word, Buf>> {
     type IntoReversed = Cursor<Word, Buf>;
 
-    ghost turns = { λ old new. (Buf.lent new.buf ≡ reverse (Buf.lent old.0.buf))
+    ghost reverses = { λ old new. (Buf.lent new.buf ≡ reverse (Buf.lent old.0.buf))
         × (new.pos ≡ length (Buf.lent old.0.buf) - old.0.pos) };
 
     fn into_reversed_stack(self) -> Cursor<Word, Buf> {

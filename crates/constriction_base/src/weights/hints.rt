@@ -76,7 +76,7 @@ pub fn hints_of<Probability: BitArray, const PRECISION: usize>(
         AreHints (map Probability.number starts.now) (2 ^ PRECISION) (2 ^ shift) hints.items) }
 {
     let count = 1usize << (PRECISION as u32 - shift);
-    let width = Probability::unit().shifted_left(shift);
+    let width = Probability::unit().shift_left(shift);
     let mut first = Probability::nothing();
     let mut symbol = 0;
     let mut hints = Vec::with_capacity(alloc, count + 1)?;

@@ -11,7 +11,7 @@ pub fn ones<Word: BitArray>(count: usize) -> Word
     requires { (1 ≤ count) × (count ≤ Word.BITS) }
     ensures { Word.number result + 1 ≡ 2 ^ count }
 {
-    Word::greatest().shifted_right(Word::BITS - count as u32)
+    Word::greatest().shift_right(Word::BITS - count as u32)
 }
 
 /// Returns the number of weights up to and including the last nonzero weight.

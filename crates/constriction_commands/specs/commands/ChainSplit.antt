@@ -2,7 +2,7 @@
 use Rattle.std.specs.Prelude.{◌≡◌, ℕ, ◌^◌, ◌<◌, ◌⊎◌, List, [], ◌∷◌, ◌++◌, length, reverse, ⊤}
 use Rattle.std.specs.Int.Digits.{digits_of}
 use Rattle.constriction_base.specs.Tables.{AtEntry}
-use Rattle.constriction_base.specs.Steps.{InTurn}
+use Rattle.constriction_base.specs.Steps.{Trace}
 use Rattle.constriction_chain.specs.Chain.{ChainState, IsChain, IsDecode}
 use Rattle.constriction_chain.specs.Walk.{NeedsWord}
 use Rattle.constriction_chain.specs.Words.{remainder_words}
@@ -26,7 +26,7 @@ IsNoChain words = EndsWithZero words ⊎ (words ≡ []) ⊎ ((word : ℕ) × (wo
 
 -- Decodes of the symbols, one after the other, lead from the old state to the new one.
 abbrev pub ChainDecodes : List (ℕ × ℕ × ℕ) → List ℕ → ChainState → ChainState → Type 0
-ChainDecodes table symbols old new = InTurn (λ symbol from to. AtEntry 24 table symbol (λ step. IsDecode 32 64 step from to)) symbols old new
+ChainDecodes table symbols old new = Trace (λ symbol from to. AtEntry 24 table symbol (λ step. IsDecode 32 64 step from to)) symbols old new
 
 -- The answer is three lines: the symbols, the words left, and the remainders with both heads on top.
 pub record IsChainSplit (text answer : List ℕ) : Type 0 where

@@ -2,7 +2,7 @@
 use Rattle.std.proofs.Common.{ℕ, List, [], ◌∷◌, Ok, map, ap}
 use Rattle.constriction_base.specs.declared.errors.CoderError.{CoderError}
 use Rattle.constriction_base.specs.Models.{Model, Item, pairs_of}
-use Rattle.constriction_base.specs.Steps.{InTurn}
+use Rattle.constriction_base.specs.Steps.{Trace}
 use Rattle.constriction_base.specs.Tables.{AtEntry}
 use Rattle.constriction_base.specs.declared.backends.reading.Holds as holding
 use Rattle.constriction_base.specs.declared.backends.reading.ReadWords as reading
@@ -40,7 +40,7 @@ module _ {S W C R O E F : Type 0} (number : W → ℕ) (compressed_holds : holdi
   decode_of model symbol old new list (left, p, has, call) = (left, p, has, call.outcome.decoded list)
 
   -- so is a list of them, each at the item that stands for what was given
-  pub decodes_of : {T : Type 0} (item : T → Item S) (xs : List T) (old new : ChainValue C R) → compressed_holds.is_list → InTurn (λ x. Given (item x).model (item x).symbol) xs old new
+  pub decodes_of : {T : Type 0} (item : T → Item S) (xs : List T) (old new : ChainValue C R) → compressed_holds.is_list → Trace (λ x. Given (item x).model (item x).symbol) xs old new
       → ChainDecodesAll w s (map item xs) old.state new.state
   decodes_of item [] old new list all = ap (λ (c : ChainValue C R). c.state) all
   decodes_of item (x ∷ xs) old new list all =

@@ -6,8 +6,8 @@ use Rattle.constriction_base.specs.declared.backends.reading.ReadWords as readin
 use Rattle.constriction_base.specs.declared.errors.CoderError.{CoderError}
 use Rattle.constriction_base.specs.declared.errors.CoderError.TheVariants.{Backend, Frontend}
 use Rattle.constriction_base.specs.Models.{Model, Item, IsModel, AreModels, item_of, items_of}
-use Rattle.constriction_base.specs.Steps.{InTurn}
-use Rattle.constriction_base.proofs.InTurn.{InTurn-more}
+use Rattle.constriction_base.specs.Steps.{Trace}
+use Rattle.constriction_base.proofs.Trace.{Trace-more}
 use Rattle.constriction_queue.specs.Decoder.{Decoder, StandsAt}
 use Rattle.constriction_queue.specs.Flagged.{DecodesUnder, NoSymbolFrom, flagged, has_flag, next_model}
 use Rattle.constriction_laws.specs.queue.Flagging.{flagged_behind}
@@ -64,17 +64,17 @@ pub finds_behind : (w s flag : ℕ) (first second : Model ℕ) (words : List ℕ
     → Finds w s words (next_model (b || has_flag flag xs) first second) x mid new → FindsAll w s words (flagged_behind b flag first second (xs ++ x ∷ [])) old new
 finds_behind w s flag first second words b xs x old mid new all one =
     subst (λ (items : List (Item ℕ)). FindsAll w s words items old new) (sym (behind_more flag first second b xs x))
-    (InTurn-more (λ (item : Item ℕ). Finds w s words item.model item.symbol) (flagged_behind b flag first second xs) (item_of (next_model (b || has_flag flag xs) first second) x) old mid new all one)
+    (Trace-more (λ (item : Item ℕ). Finds w s words item.model item.symbol) (flagged_behind b flag first second xs) (item_of (next_model (b || has_flag flag xs) first second) x) old mid new all one)
 
 -- so are decodes of a switch
 pub decodes_behind : {W B E Q : Type 0} (number : W → ℕ) (holds : holding.Ghosts B W Q) (reads : reading.Ghosts B W Q E) (w s flag : ℕ) (first second : Model ℕ) (b : Bool) (xs : List ℕ) (x : ℕ) (old mid new : Decoder B)
-    → InTurn (λ (item : Item ℕ) (before after : Decoder B). DecodesUnder number holds reads w s item.model before (Ok item.symbol) after) (flagged_behind b flag first second xs) old mid
+    → Trace (λ (item : Item ℕ) (before after : Decoder B). DecodesUnder number holds reads w s item.model before (Ok item.symbol) after) (flagged_behind b flag first second xs) old mid
     → DecodesUnder number holds reads w s (next_model (b || has_flag flag xs) first second) mid (Ok x) new
-    → InTurn (λ (item : Item ℕ) (before after : Decoder B). DecodesUnder number holds reads w s item.model before (Ok item.symbol) after) (flagged_behind b flag first second (xs ++ x ∷ [])) old new
+    → Trace (λ (item : Item ℕ) (before after : Decoder B). DecodesUnder number holds reads w s item.model before (Ok item.symbol) after) (flagged_behind b flag first second (xs ++ x ∷ [])) old new
 decodes_behind {B = B} number holds reads w s flag first second b xs x old mid new all one =
     let Gives : Item ℕ → Decoder B → Decoder B → Type 0 = λ item before after. DecodesUnder number holds reads w s item.model before (Ok item.symbol) after in
-    subst (λ (items : List (Item ℕ)). InTurn Gives items old new) (sym (behind_more flag first second b xs x))
-    (InTurn-more Gives (flagged_behind b flag first second xs) (item_of (next_model (b || has_flag flag xs) first second) x) old mid new all one)
+    subst (λ (items : List (Item ℕ)). Trace Gives items old new) (sym (behind_more flag first second b xs x))
+    (Trace-more Gives (flagged_behind b flag first second xs) (item_of (next_model (b || has_flag flag xs) first second) x) old mid new all one)
 
 -- a decode that is refused leaves a decoder where it stands
 pub stands_still : {W B E Q : Type 0} (number : W → ℕ) (holds : holding.Ghosts B W Q) (reads : reading.Ghosts B W Q E) (w s : ℕ) (model : Model ℕ) (words : List ℕ) (r : Run) (old new : Decoder B) (e : CoderError DecoderFrontendError E)
@@ -89,7 +89,7 @@ none_behind w s words flag first second true old = refl
 none_behind w s words flag first second false old = refl
 
 pub taken_none : {W B E Q : Type 0} (number : W → ℕ) (holds : holding.Ghosts B W Q) (reads : reading.Ghosts B W Q E) (w s flag : ℕ) (first second : Model ℕ) (b : Bool) (d : Decoder B)
-    → InTurn (λ (item : Item ℕ) (before after : Decoder B). DecodesUnder number holds reads w s item.model before (Ok item.symbol) after) (flagged_behind b flag first second []) d d
+    → Trace (λ (item : Item ℕ) (before after : Decoder B). DecodesUnder number holds reads w s item.model before (Ok item.symbol) after) (flagged_behind b flag first second []) d d
 taken_none number holds reads w s flag first second true d = refl
 taken_none number holds reads w s flag first second false d = refl
 

@@ -4,7 +4,7 @@ use Rattle.constriction_base.specs.declared.backends.reading.Holds as holding
 use Rattle.constriction_base.specs.declared.backends.reading.ReadWords as reading
 use Rattle.constriction_base.specs.declared.backends.writing.WriteWords as writing
 use Rattle.constriction_base.specs.declared.errors.CoderError.{CoderError}
-use Rattle.constriction_base.specs.Steps.{InTurn}
+use Rattle.constriction_base.specs.Steps.{Trace}
 use Rattle.constriction_base.specs.Models.{Item, IsModel, pairs_of}
 use Rattle.constriction_stream.specs.Lists.{StepsAll}
 use Rattle.constriction_stream.specs.Symbols.{EncodesSymbol, ByBackend}
@@ -33,7 +33,7 @@ module _ {S W B E F Q : Type 0} (number : W → ℕ) (holds : holding.Ghosts B W
 -- ---- decodes
 module _ {S W B E Q : Type 0} (F : Type 0) (number : W → ℕ) (holds : holding.Ghosts B W Q) (reads : reading.Ghosts B W Q E) (w s : ℕ) (words : List ℕ) (known : holds.is_list) where
   -- so is a list of them, each at the item that stands for what was given
-  pub decodes_of : {T : Type 0} (item : T → Item S) (xs : List T) (r : Run) (old new : Decoder B) → StandsAt w s words r old → InTurn (λ x. Given F number holds reads w s words known (item x).model (item x).symbol) xs old new
+  pub decodes_of : {T : Type 0} (item : T → Item S) (xs : List T) (r : Run) (old new : Decoder B) → StandsAt w s words r old → Trace (λ x. Given F number holds reads w s words known (item x).model (item x).symbol) xs old new
       → ReadTo w s words (map item xs) r new
   decodes_of item [] r old new at all = (r, refl, subst (λ (d : Decoder B). StandsAt w s words r d) (sym all) at)
   decodes_of item (x ∷ xs) r old new at all =

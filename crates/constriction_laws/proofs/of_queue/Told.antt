@@ -19,7 +19,7 @@ use Rattle.constriction_laws.specs.Outcomes.{HasImpossibleItem, Reasons, StopsAm
 use Rattle.constriction_laws.specs.declared.errors.RoundTripError.{RoundTripError}
 use Rattle.constriction_laws.specs.declared.errors.RoundTripError.TheVariants as trip
 use Rattle.constriction_laws.specs.declared.errors.Stopped.TheVariants.{Refused}
-use Rattle.constriction_base.specs.Steps.{InTurn}
+use Rattle.constriction_base.specs.Steps.{Trace}
 use Rattle.constriction_base.specs.Tables.{AtEntry}
 use Rattle.constriction_base.specs.Models.{Model, Item, IsModel, item_of, pairs_of}
 use Rattle.constriction_base.proofs.Entries.{in_range}
@@ -48,7 +48,7 @@ module _ {S M W B E Q : Type 0} (F : Type 0) (number : W → ℕ) (holds : holdi
     (precision : ℕ) (table : M → List (S × ℕ × ℕ)) (lawful : (m : M) → IsModel w (record { precision = precision; table = table m })) where
   pub more_by_models : 0 < 2 ^ s → (given symbols : List S) (models : List M) (model : M) (rest : List M) (r last : Run) (old mid : Decoder B)
       → drop (length given) models ≡ model ∷ rest → length symbols ≡ length models → StandsAt w s words r old
-      → InTurn (λ (pair : S × M) old new. AtEntry precision (table pair.1) pair.0 (λ step. ByBackend {F = F} (calls.DecodeCall number holds reads w s) old step (Ok tt) new)) (zip given models) old mid
+      → Trace (λ (pair : S × M) old new. AtEntry precision (table pair.1) pair.0 (λ step. ByBackend {F = F} (calls.DecodeCall number holds reads w s) old step (Ok tt) new)) (zip given models) old mid
       → FindsAll w s words (pairs_of precision table symbols models) r last → quantile_read s precision mid < 2 ^ precision
   more_by_models some [] symbols [] model rest r last old mid next count at all found = absurd cc
   more_by_models some [] [] (m ∷ ms) model rest r last old mid next count at all found = absurd (omega (arith, count))

@@ -2,7 +2,7 @@
 use Rattle.std.proofs.Common.{◌≡◌, ℕ, List, [], ◌∷◌, Ok, Err, inl, inr, map, ap}
 use Rattle.constriction_base.specs.declared.errors.CoderError.{CoderError}
 use Rattle.constriction_base.specs.declared.errors.CoderError.TheVariants.{Backend}
-use Rattle.constriction_base.specs.Steps.{InTurn}
+use Rattle.constriction_base.specs.Steps.{Trace}
 use Rattle.constriction_base.specs.declared.backends.reading.Holds as holding
 use Rattle.constriction_base.specs.declared.backends.reading.ReadWords as reading
 use Rattle.constriction_base.specs.declared.backends.writing.WriteWords as writing
@@ -40,7 +40,7 @@ module _ {S W B E K : Type 0} (F : Type 0) (number : W → ℕ) (holds : holding
   decode_of model symbol old new (left, p, has, (Err e, d, is)) = absurd cc
 
   -- so is a list of them, each at the item that stands for what was given
-  pub decodes_of : {T : Type 0} (item : T → Item S) (xs : List T) (old new : AnsValue B) → InTurn (λ x. Given (item x).model (item x).symbol) xs old new
+  pub decodes_of : {T : Type 0} (item : T → Item S) (xs : List T) (old new : AnsValue B) → Trace (λ x. Given (item x).model (item x).symbol) xs old new
       → (holds.is_list → DecodesAll w s (map item xs) old.state new.state) × DecodesAllBy number reads.reads w s (map item xs) old new
   decodes_of item [] old new all = ((λ known. ap (λ (c : AnsValue B). c.state) all), all)
   decodes_of item (x ∷ xs) old new all =

@@ -2,7 +2,7 @@
 use Rattle.std.specs.Prelude.{◌≡◌, ◌≤◌, ◌<◌, ◌||◌, ℕ, Bool, List, Result, Ok, Err, Vec, IfOk, IfErr, MatchResult}
 use Rattle.std.specs.Prelude.{length, if◌then◌else◌}
 use Rattle.constriction_base.specs.Models.{Model, Item, items_of}
-use Rattle.constriction_base.specs.Steps.{InTurn}
+use Rattle.constriction_base.specs.Steps.{Trace}
 use Rattle.constriction_base.specs.declared.backends.reading.Holds as holding
 use Rattle.constriction_base.specs.declared.backends.reading.ReadWords as reading
 use Rattle.constriction_base.specs.declared.errors.CoderError.{CoderError}
@@ -24,7 +24,7 @@ module _ {W B E Q : Type 0} (number : W → ℕ) (holds : holding.Ghosts B W Q) 
   pub record ReturnsFlagged (amt : ℕ) (old : Switch B) (given : List ℕ) (mid : Decoder B) (new : Switch B) : Type 0 where
     pub most : length given ≤ amt
     -- The decodes lead to the decoder `mid`. Each decode uses the model that applies at its symbol.
-    pub taken : InTurn (λ item before after. DecodesUnder number holds reads w s item.model before (Ok item.symbol) after)
+    pub taken : Trace (λ item before after. DecodesUnder number holds reads w s item.model before (Ok item.symbol) after)
         (flagged_behind old.switched old.flag first second given) old.decoder mid
     -- The switch has switched if and only if it had switched before, or the flag is among the symbols.
     pub switched : new.switched ≡ (old.switched || has_flag old.flag given)

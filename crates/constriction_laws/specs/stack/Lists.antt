@@ -2,7 +2,7 @@
 -- `holds` is what a law concludes from the premises.
 use Rattle.std.specs.Prelude.{◌≡◌, ◌⊎◌, ℕ, ◌%◌, ◌^◌, List, ◌∷◌, reverse}
 use Rattle.constriction_base.specs.Models.{Item, Model, IsModel, AreModels, models}
-use Rattle.constriction_base.specs.Steps.{Step, InTurn, AreSteps, AreWords, IsSizes}
+use Rattle.constriction_base.specs.Steps.{Step, Trace, AreSteps, AreWords, IsSizes}
 use Rattle.constriction_base.specs.Tables.{IsTable}
 use Rattle.constriction_base.specs.Writing.{IsOneAbove}
 use Rattle.constriction_stack.specs.Ans.{AnsState, AnsValue, IsPush, IsNormalized, empty, filled}
@@ -95,4 +95,4 @@ AddsOneAtMost w old new = (new.words ≡ old.words) ⊎ (new.words ≡ old.head 
 
 -- Pushes of the steps, one after the other, lead from the old state to the new one.
 abbrev pub Pushes : ℕ → ℕ → List Step → AnsState → AnsState → Type 0
-Pushes w s steps old new = InTurn (IsPush w s) steps old new
+Pushes w s steps old new = Trace (IsPush w s) steps old new

@@ -1,7 +1,7 @@
 -- Imports and decodes of a stack coder in terms of its backend's reads, for backends such as iterators.
 use Rattle.std.specs.Prelude.{◌≡◌, ℕ, ◌<◌, ◌^◌, Bool, false, List, Option, Result, Vec, map}
 use Rattle.constriction_base.specs.Iterators.{FusedRead}
-use Rattle.constriction_base.specs.Steps.{InTurn}
+use Rattle.constriction_base.specs.Steps.{Trace}
 use Rattle.constriction_base.specs.Tables.{AtEntry}
 use Rattle.constriction_base.specs.Models.{Model, Item}
 use Rattle.constriction_stack.specs.Binary.{BinaryFilledBy}
@@ -23,7 +23,7 @@ DecodesBy number reads w s model symbol old new =
 
 -- Decodes of the items by reads, one after the other.
 abbrev pub DecodesAllBy : {S W E B : Type 0} → (W → ℕ) → (B → Result (Option W) E → B → Type 0) → ℕ → ℕ → List (Item S) → AnsValue B → AnsValue B → Type 0
-DecodesAllBy number reads w s items old new = InTurn (λ item. DecodesBy number reads w s item.model item.symbol) items old new
+DecodesAllBy number reads w s items old new = Trace (λ item. DecodesBy number reads w s item.model item.symbol) items old new
 
 -- An import by reads from the backend `given` makes a head below 2 ^ s. Decodes of the items then lead to the coder
 -- `last`.

@@ -22,7 +22,7 @@ fn is_low<Word: WordOf<State>, State: BitArray>(head: State) -> bool
     ensures { MatchBool result (State.number head < 2 ^ (State.BITS - Word.BITS))
         (2 ^ (State.BITS - Word.BITS) ≤ State.number head) }
 {
-    head.shifted_right(State::BITS - Word::BITS).is_nothing()
+    head.shift_right(State::BITS - Word::BITS).is_nothing()
 }
 
 /// The reason why [`exchange`] failed.

@@ -5,7 +5,7 @@
 
 ghost use Rattle.std.specs.Prelude.{◌≡◌, ℕ, List, reverse, ⊤};
 ghost use Rattle.constriction_base.specs.Readings.{BeginsHigh};
-ghost use Rattle.constriction_base.specs.Steps.{Step, InTurn, IsSizes, AreSteps, AreWords};
+ghost use Rattle.constriction_base.specs.Steps.{Step, Trace, IsSizes, AreSteps, AreWords};
 ghost use Rattle.constriction_stack.specs.Ans.{AnsState, IsNormalized, IsPop, filled, exported, empty};
 ghost use Rattle.constriction_base.specs.Models.{Item, IsModel, AreModels, AreKnown};
 ghost use Rattle.constriction_stack.specs.Symbols.{Encodes, Decodes, EncodesAll, DecodesAll};
@@ -149,9 +149,9 @@ pub fn lists_of_entries_undo()
         w s steps old new × IsNormalized w s new) }
     ensures only { (w s : ℕ) (steps : List Step) (old new other : AnsState) → IsSizes w s → AreSteps w steps → AreOne
         (Pushes w s steps old) new other }
-    ensures pops_undo { (w s : ℕ) (steps : List Step) (old new : AnsState) → Pushes w s steps old new → InTurn (IsPop w
+    ensures pops_undo { (w s : ℕ) (steps : List Step) (old new : AnsState) → Pushes w s steps old new → Trace (IsPop w
         s) (reverse steps) new old }
     ensures pushes_undo { (w s : ℕ) (steps : List Step) (old new : AnsState) → FromNormalized w s steps old
-        (InTurn (IsPop w
+        (Trace (IsPop w
         s) steps old new → Pushes w s (reverse steps) new old) }
 {}

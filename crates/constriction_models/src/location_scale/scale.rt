@@ -117,5 +117,5 @@ pub(crate) fn inverse_of(scale: u32) -> u64
     requires { 0 < scale }
     ensures { result ≡ 9223372036854775808 / scale }
 {
-    9223372036854775808u64.divided(scale as u64, 50).0
+    9223372036854775808u64.div_rem(scale as u64, 50).0
 }

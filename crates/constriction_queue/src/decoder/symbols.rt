@@ -94,7 +94,7 @@ impl<
         let precision = PRECISION as u32;
         let (lower, range) = (self.state.lower, self.state.range);
         let quotient = quantile_at::<Word, State>(range, self.distance, precision);
-        if !quotient.shifted_right(precision).is_nothing() {
+        if !quotient.shift_right(precision).is_nothing() {
             return Err(CoderError::Frontend(DecoderFrontendError::InvalidData));
         }
         let quantile = M::Probability::narrow(Word::narrow(quotient));

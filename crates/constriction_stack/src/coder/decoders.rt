@@ -312,7 +312,7 @@ impl<Word: WordOf<State>, State: BitArray, Backend: IntoReversed<Word>> AnsCoder
     /// cursor, the words below the head start at the position, in reading order.
     pub fn into_reversed(self) -> AnsCoder<Word, State, Backend::IntoReversed>
         ensures state { result.state ≡ self.state }
-        ensures turned { Backend.turns self.backend result.backend }
+        ensures turned { Backend.reverses self.backend result.backend }
         ensures coder { IsCoder Word.number ⟦<Backend::IntoReversed as Holds<Word, Stack>>⟧
             Word.BITS State.BITS result }
     {

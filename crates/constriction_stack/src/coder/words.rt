@@ -328,7 +328,7 @@ impl<'a, Word: WordOf<State>, State: BitArray> Iterator for AnsCompressedIter<'a
             return None;
         }
         let word = Word::narrow(self.head);
-        self.head = self.head.shifted_right(Word::BITS);
+        self.head = self.head.shift_right(Word::BITS);
         Some(word)
     }
 }

@@ -72,9 +72,9 @@ fn refilled_from<Word: WordOf<State>, State: BitArray>(
     let word = words[top];
     let moved = head
         .low_bits(below)
-        .shifted_left(Word::BITS)
+        .shift_left(Word::BITS)
         .plus(word.widen());
-    let takes = head.shifted_right(below).is_nothing() & (len > 0);
+    let takes = head.shift_right(below).is_nothing() & (len > 0);
     if takes { (moved, top) } else { (head, len) }
 }
 
@@ -126,9 +126,9 @@ fn room_made<Word: WordOf<State>, State: BitArray>(
     ensures { MakesRoom Word.BITS State.BITS precision (State.number p) (State.number head) len
         (State.number result.0) result.1 }
 {
-    let above = head.shifted_right(Word::BITS);
+    let above = head.shift_right(Word::BITS);
     let more = len + 1;
-    if head.shifted_right(State::BITS - precision).is_below(p) {
+    if head.shift_right(State::BITS - precision).is_below(p) {
         (head, len)
     } else {
         (above, more)

@@ -111,6 +111,6 @@ pub fn place_of<Word: BitArray>(places: &[ReachedNode], most: u32, bits: Word) -
         TopLeadsToNode nodes Word.BITS (Word.number bits) result }
 {
     let count = lesser(most, Word::BITS);
-    let first = bits.shifted_right(Word::BITS - count).to_index();
+    let first = bits.shift_right(Word::BITS - count).to_index();
     places[first + (1usize << count)]
 }

@@ -60,11 +60,11 @@ impl BitArray for u128 {
         self % other
     }
 
-    fn shifted_left(self, by: u32) -> u128 {
+    fn shift_left(self, by: u32) -> u128 {
         self << by
     }
 
-    fn shifted_right(self, by: u32) -> u128 {
+    fn shift_right(self, by: u32) -> u128 {
         self >> by
     }
 

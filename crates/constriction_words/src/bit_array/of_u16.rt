@@ -65,11 +65,11 @@ impl BitArray for u16 {
         self % other
     }
 
-    fn shifted_left(self, by: u32) -> u16 {
+    fn shift_left(self, by: u32) -> u16 {
         self << by
     }
 
-    fn shifted_right(self, by: u32) -> u16 {
+    fn shift_right(self, by: u32) -> u16 {
         self >> by
     }
 

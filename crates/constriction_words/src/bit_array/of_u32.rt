@@ -65,7 +65,7 @@ impl BitArray for u32 {
         self % other
     }
 
-    fn divided(self, other: u32, _length: u32) -> (u32, u32) {
+    fn div_rem(self, other: u32, _length: u32) -> (u32, u32) {
         // At most the exact quotient, and at least that minus 1.
         let inverse = u32::MAX / other;
         let quotient = ((self as u64 * inverse as u64) >> 32) as u32;
@@ -77,11 +77,11 @@ impl BitArray for u32 {
         }
     }
 
-    fn shifted_left(self, by: u32) -> u32 {
+    fn shift_left(self, by: u32) -> u32 {
         self << by
     }
 
-    fn shifted_right(self, by: u32) -> u32 {
+    fn shift_right(self, by: u32) -> u32 {
         self >> by
     }
 

@@ -66,15 +66,15 @@ impl BitArray for u64 {
         self % other
     }
 
-    fn divided(self, other: u64, length: u32) -> (u64, u64) {
-        division::divided(self, other, length)
+    fn div_rem(self, other: u64, length: u32) -> (u64, u64) {
+        division::div_rem(self, other, length)
     }
 
-    fn shifted_left(self, by: u32) -> u64 {
+    fn shift_left(self, by: u32) -> u64 {
         self << by
     }
 
-    fn shifted_right(self, by: u32) -> u64 {
+    fn shift_right(self, by: u32) -> u64 {
         self >> by
     }
 

@@ -65,11 +65,11 @@ impl BitArray for u8 {
         self % other
     }
 
-    fn shifted_left(self, by: u32) -> u8 {
+    fn shift_left(self, by: u32) -> u8 {
         self << by
     }
 
-    fn shifted_right(self, by: u32) -> u8 {
+    fn shift_right(self, by: u32) -> u8 {
         self >> by
     }
 

@@ -66,16 +66,16 @@ impl BitArray for usize {
         self % other
     }
 
-    fn divided(self, other: usize, length: u32) -> (usize, usize) {
-        let (quotient, rest) = division::divided(self as u64, other as u64, length);
+    fn div_rem(self, other: usize, length: u32) -> (usize, usize) {
+        let (quotient, rest) = division::div_rem(self as u64, other as u64, length);
         (quotient as usize, rest as usize)
     }
 
-    fn shifted_left(self, by: u32) -> usize {
+    fn shift_left(self, by: u32) -> usize {
         self << by
     }
 
-    fn shifted_right(self, by: u32) -> usize {
+    fn shift_right(self, by: u32) -> usize {
         self >> by
     }
 

@@ -12,10 +12,10 @@ overflow_add-count g c =
 pub words-smaller : goal.words-smaller
 words-smaller g c =
     let some = some_of _ c.words-test.ensures.1 in
-    rw (c.shifted_right-rest.ensures, c.BITS.ensures) (shr_smaller g.Word.BitArray.BITS (g.State.BitArray.number c.words.rest) c.requires.some_bits some)
+    rw (c.shift_right-rest.ensures, c.BITS.ensures) (shr_smaller g.Word.BitArray.BITS (g.State.BitArray.number c.words.rest) c.requires.some_bits some)
 
 pub words-preserved : goal.words-preserved
 words-preserved g c =
     let some = some_of _ c.words-test.ensures.1 in
-    rw (c.shifted_right-rest.ensures, c.BITS.ensures)
+    rw (c.shift_right-rest.ensures, c.BITS.ensures)
     (omega (arith, c.words.invariant, one_digit_less g.Word.BitArray.BITS (g.State.BitArray.number c.words.rest) c.requires.some_bits some))

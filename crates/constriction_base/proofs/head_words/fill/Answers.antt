@@ -9,36 +9,36 @@ use Rattle.constriction_base.proofs.head_words.fill.Goals as goal
 not_far : {H : Type 0} (number : H → ℕ) (full head : H) (bits : ℕ) → 2 ^ bits ≤ number head → full ≡ head → number full / 2 ^ bits ≡ 0 → ⊥
 not_far number full head bits far same none = omega (arith, far, ap number same, small_of_shr (number full) bits none)
 
-pub shifted_left-requires-clause-fits : goal.shifted_left-requires-clause-fits
-shifted_left-requires-clause-fits g c =
-    let none = sym c.shifted_right.ensures ∙ c.words-test.ensures.0 refl in
+pub shift_left-requires-clause-fits : goal.shift_left-requires-clause-fits
+shift_left-requires-clause-fits g c =
+    let none = sym c.shift_right.ensures ∙ c.words-test.ensures.0 refl in
     let room = room_below c.args.bits g.Word.BitArray.BITS g.State.BitArray.BITS (g.State.BitArray.number c.words.full) (g.Word.BitArray.number c.in-Ok-Some.word) c.requires.within none (g.met.Word.BitArray.number_law _) in
     rw c.BITS.ensures (omega (arith, room.1))
 
 pub plus-full-requires : goal.plus-full-requires
 plus-full-requires g c =
-    let none = sym c.shifted_right.ensures ∙ c.words-test.ensures.0 refl in
+    let none = sym c.shift_right.ensures ∙ c.words-test.ensures.0 refl in
     let room = room_below c.args.bits g.Word.BitArray.BITS g.State.BitArray.BITS (g.State.BitArray.number c.words.full) (g.Word.BitArray.number c.in-Ok-Some.word) c.requires.within none (g.met.Word.BitArray.number_law _) in
-    rw (c.shifted_left.ensures, c.BITS.ensures, c.widen.ensures) room.1
+    rw (c.shift_left.ensures, c.BITS.ensures, c.widen.ensures) room.1
 
 pub words-smaller : goal.words-smaller
 words-smaller g c =
-    let none = sym c.shifted_right.ensures ∙ c.words-test.ensures.0 refl in
+    let none = sym c.shift_right.ensures ∙ c.words-test.ensures.0 refl in
     let room = room_below c.args.bits g.Word.BitArray.BITS g.State.BitArray.BITS (g.State.BitArray.number c.words.full) (g.Word.BitArray.number c.in-Ok-Some.word) c.requires.within none (g.met.Word.BitArray.number_law _) in
     let grows = word_grows g.Word.BitArray.BITS (g.State.BitArray.number c.words.full) (g.Word.BitArray.number c.in-Ok-Some.word) c.requires.some_bits c.words.invariant.some in
-    rw (c.plus-full.ensures, c.shifted_left.ensures, c.BITS.ensures, c.widen.ensures) (omega (arith, room.1, grows))
+    rw (c.plus-full.ensures, c.shift_left.ensures, c.BITS.ensures, c.widen.ensures) (omega (arith, room.1, grows))
 
 pub words-preserved : goal.words-preserved
 words-preserved g c =
     let w = g.Word.BitArray.BITS in
     let n = g.State.BitArray.number c.words.full in
     let word = c.in-Ok-Some.word in
-    let none = sym c.shifted_right.ensures ∙ c.words-test.ensures.0 refl in
+    let none = sym c.shift_right.ensures ∙ c.words-test.ensures.0 refl in
     let room = room_below c.args.bits w g.State.BitArray.BITS n (g.Word.BitArray.number word) c.requires.within none (g.met.Word.BitArray.number_law _) in
     let grows = word_grows w n (g.Word.BitArray.number word) c.requires.some_bits c.words.invariant.some in
     let reads = rw c.in-Ok-Some.field-0-is at c.in-Ok-Some.ensures.reads in
     let top = rw c.in-Ok-Some.field-0-is at c.in-Ok-Some.ensures.words in
-    let sum = rw (c.shifted_left.ensures, c.BITS.ensures, c.widen.ensures) at c.plus-full.ensures in
+    let sum = rw (c.shift_left.ensures, c.BITS.ensures, c.widen.ensures) at c.plus-full.ensures in
     record {
       some = rw sum (omega (arith, grows));
       below = λ small. rw sum room.0;
@@ -48,13 +48,13 @@ words-preserved g c =
 
 pub returns-clause-moves : goal.returns-clause-moves
 returns-clause-moves g c =
-    let full = large_of_shr _ _ (λ e. false≢true (c.words-test.ensures.1 (c.shifted_right.ensures ∙ e))) in
+    let full = large_of_shr _ _ (λ e. false≢true (c.words-test.ensures.1 (c.shift_right.ensures ∙ e))) in
     (c.words.invariant.moved, full)
 
 pub returns-in-Ok-None-clause-untouched : goal.returns-in-Ok-None-clause-untouched
 returns-in-Ok-None-clause-untouched g c = λ already.
-    absurd (not_far g.State.BitArray.number _ _ c.args.bits already (c.words.invariant.untouched already).0 (sym c.shifted_right.ensures ∙ c.words-test.ensures.0 refl))
+    absurd (not_far g.State.BitArray.number _ _ c.args.bits already (c.words.invariant.untouched already).0 (sym c.shift_right.ensures ∙ c.words-test.ensures.0 refl))
 
 pub returns-in-Err-clause-untouched : goal.returns-in-Err-clause-untouched
 returns-in-Err-clause-untouched g c = λ already.
-    absurd (not_far g.State.BitArray.number _ _ c.args.bits already (c.words.invariant.untouched already).0 (sym c.shifted_right.ensures ∙ c.words-test.ensures.0 refl))
+    absurd (not_far g.State.BitArray.number _ _ c.args.bits already (c.words.invariant.untouched already).0 (sym c.shift_right.ensures ∙ c.words-test.ensures.0 refl))

@@ -1,7 +1,7 @@
 use Rattle.std.specs.Prelude.{◌≡◌, ◌-◌, ◌/◌, ◌%◌, ◌^◌, [], ◌∷◌, ◌++◌, List, ℕ, map}
 use Rattle.std.proofs.Common.{arith, ◌∙◌, ap, refl, sym, subst, append-nil}
 use Rattle.constriction_base.specs.Digits.{fixed_digits}
-use Rattle.constriction_base.specs.Writing.{WrittenInTurn}
+use Rattle.constriction_base.specs.Writing.{WriteTrace}
 use Rattle.constriction_base.proofs.Exporting.{no_room}
 use Rattle.constriction_base.proofs.Guards.{drop_written, drop_nothing, fixed-length}
 use Rattle.constriction_base.proofs.Written.{fixed_less}
@@ -26,7 +26,7 @@ words-preserved g c =
     record {
       within = omega (arith, c.words.invariant.within);
       written = rest % 2 ^ w ∷ c.words.invariant.written;
-      digits = rw (c.shifted_right-rest.ensures, c.BITS.ensures) (fixed_less (2 ^ w) c.words.left rest c.words.invariant.written (omega arith) ∙ c.words.invariant.digits);
+      digits = rw (c.shift_right-rest.ensures, c.BITS.ensures) (fixed_less (2 ^ w) c.words.left rest c.words.invariant.written (omega arith) ∙ c.words.invariant.digits);
       holds = rw (c.in-Ok.ensures.ok, c.narrow.ensures) (ap (λ ws. rest % 2 ^ w ∷ ws) c.words.invariant.holds);
       in_turn = (c.words.bulk, c.words.invariant.in_turn, (c.narrow.result, c.narrow.ensures, c.in-Ok.ensures.writes));
       back = drop_written c.args.count c.words.left c.narrow.result (g.Backend.Holds.words c.args.bulk.now) (g.Backend.Holds.words c.words.bulk) (g.Backend.Holds.words c.write.new.self) (omega arith) c.words.invariant.within c.in-Ok.ensures.ok c.words.invariant.back;
@@ -69,7 +69,7 @@ returns-clause-written g c =
     let len = fixed-length b c.args.count (g.State.BitArray.number c.args.head) in
     let none : c.words.left ≡ 0 = omega arith in
     record {
-      in_turn = subst (λ (ws : List ℕ). WrittenInTurn g.Word.BitArray.number g.Backend.WriteWords ws c.args.bulk.now c.words.bulk) (rw none at c.words.invariant.digits) c.words.invariant.in_turn;
+      in_turn = subst (λ (ws : List ℕ). WriteTrace g.Word.BitArray.number g.Backend.WriteWords ws c.args.bulk.now c.words.bulk) (rw none at c.words.invariant.digits) c.words.invariant.in_turn;
       words = c.words.invariant.holds ∙ ap (λ (ws : List ℕ). ws ++ map g.Word.BitArray.number (g.Backend.Holds.words c.args.bulk.now)) (rw none at c.words.invariant.digits);
       room_used = omega (arith, c.words.invariant.room, len, none);
       begun = tt;

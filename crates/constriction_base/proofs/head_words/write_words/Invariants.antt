@@ -1,6 +1,6 @@
 use Rattle.std.specs.Prelude.{◌≡◌, ℕ, ◌+◌, ◌-◌, ◌≤◌, ◌^◌, List, ◌++◌, drop, map}
 use Rattle.constriction_base.specs.Digits.{fixed_digits}
-use Rattle.constriction_base.specs.Writing.{WrittenInTurn}
+use Rattle.constriction_base.specs.Writing.{WriteTrace}
 use Rattle.constriction_base.proofs.head_words.write_words.Given as goal
 
 abbrev pub invariant-words : goal.invariant-words
@@ -11,7 +11,7 @@ invariant-words g l =
       written : List ℕ;
       digits : fixed_digits b l.left (g.State.BitArray.number l.rest) ++ written ≡ fixed_digits b l.fn.count (g.State.BitArray.number l.fn.head);
       holds : map g.Word.BitArray.number (g.Backend.Holds.words l.bulk) ≡ written ++ map g.Word.BitArray.number (g.Backend.Holds.words l.initial.bulk);
-      in_turn : WrittenInTurn g.Word.BitArray.number g.Backend.WriteWords written l.initial.bulk l.bulk;
+      in_turn : WriteTrace g.Word.BitArray.number g.Backend.WriteWords written l.initial.bulk l.bulk;
       back : drop (l.fn.count - l.left) (g.Backend.Holds.words l.bulk) ≡ g.Backend.Holds.words l.initial.bulk;
       room : g.Backend.WriteWords.room l.initial.bulk + l.left ≤ g.Backend.WriteWords.room l.bulk + l.fn.count;
     }

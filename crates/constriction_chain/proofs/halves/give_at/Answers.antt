@@ -13,12 +13,12 @@ regain-requires-clause-few g c = rw c.widen-p.ensures (omega (arith, c.requires.
 pub plus-quantile-requires : goal.plus-quantile-requires
 plus-quantile-requires g c =
     let place = placed _ g.Word.BitArray.BITS _ _ (g.State.BitArray.number c.in-Ok-Some.v) c.requires.sized.within_word c.requires.some c.requires.total in
-    rw (c.narrow.ensures, c.divided-quotient.ensures.rest, c.widen-p.ensures, place.0) place.2
+    rw (c.narrow.ensures, c.div_rem-quotient.ensures.rest, c.widen-p.ensures, place.0) place.2
 
 pub give_quantile-requires-clause-below : goal.give_quantile-requires-clause-below
 give_quantile-requires-clause-below g c =
     let place = placed _ g.Word.BitArray.BITS _ _ (g.State.BitArray.number c.in-Ok-Some.v) c.requires.sized.within_word c.requires.some c.requires.total in
-    rw (c.plus-quantile.ensures, c.narrow.ensures, c.divided-quotient.ensures.rest, c.widen-p.ensures, place.0) place.1
+    rw (c.plus-quantile.ensures, c.narrow.ensures, c.div_rem-quotient.ensures.rest, c.widen-p.ensures, place.0) place.1
 
 pub returns-in-Err-clause-step : goal.returns-in-Err-clause-step
 returns-in-Err-clause-step g c =
@@ -106,15 +106,15 @@ returns-in-Ok-clause-step g c =
     let parts = c.requires in
     let v = g.State.BitArray.number c.in-Ok-Some.v in
     let place = placed _ g.Word.BitArray.BITS _ _ v parts.sized.within_word c.requires.some c.requires.total in
-    let quantile = rw (c.narrow.ensures, c.divided-quotient.ensures.rest, c.widen-p.ensures, place.0) at c.plus-quantile.ensures in
-    let quotient = rw c.widen-p.ensures at c.divided-quotient.ensures.quotient in
+    let quantile = rw (c.narrow.ensures, c.div_rem-quotient.ensures.rest, c.widen-p.ensures, place.0) at c.plus-quantile.ensures in
+    let quotient = rw c.widen-p.ensures at c.div_rem-quotient.ensures.quotient in
     let found = rw c.in-Ok-Some.field-0-is at c.in-Ok-Some.ensures.ok in
     let within = rw c.widen-p.ensures at found.window in
     let given = c.in-Ok.ensures.ok in
     let walk = rw (c.prepare_for_quantile.ensures.words, quantile) at given.walk in
     let used = rw c.prepare_for_quantile.ensures.words at given.room_used in
     let asked = c.in_default.ensures.ok in
-    let window : IsInWindow g.Word.BitArray.BITS (least g.Word.BitArray.BITS g.State.BitArray.BITS c.args.precision) (g.State.BitArray.number c.divided-quotient.result.0) = rw quotient within in
+    let window : IsInWindow g.Word.BitArray.BITS (least g.Word.BitArray.BITS g.State.BitArray.BITS c.args.precision) (g.State.BitArray.number c.div_rem-quotient.result.0) = rw quotient within in
     let after = coder_of _ _ _ number law g.C.Holds g.R.Holds _ _ c.give_quantile.new.compressed c.regain.new.remainders parts.sized c.in-Ok.ensures.some (law _) window in
     record {
       ok = record {

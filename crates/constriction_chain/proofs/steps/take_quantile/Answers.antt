@@ -8,8 +8,8 @@ needs_word-requires g c = c.requires.sized.1
 pub returns-then-not-needs_word-clause-ok : goal.returns-then-not-needs_word-clause-ok
 returns-then-not-needs_word-clause-ok g c =
     let test = c.if-not-needs_word.ensures in
-    let alone = walk_bits g.Word.BitArray.BITS c.args.precision c.requires.sized.1 _ _ _ [] [] test.0 (g.met.Word.BitArray.number_law _) test.1 refl c.low_bits-quantile.ensures c.shifted_right.ensures in record {
-      walk = λ list. walk_bits g.Word.BitArray.BITS c.args.precision c.requires.sized.1 _ _ _ _ _ test.0 (g.met.Word.BitArray.number_law _) test.1 refl c.low_bits-quantile.ensures c.shifted_right.ensures;
+    let alone = walk_bits g.Word.BitArray.BITS c.args.precision c.requires.sized.1 _ _ _ [] [] test.0 (g.met.Word.BitArray.number_law _) test.1 refl c.low_bits-quantile.ensures c.shift_right.ensures in record {
+      walk = λ list. walk_bits g.Word.BitArray.BITS c.args.precision c.requires.sized.1 _ _ _ _ _ test.0 (g.met.Word.BitArray.number_law _) test.1 refl c.low_bits-quantile.ensures c.shift_right.ensures;
       by = inl (alone, refl);
       below = quantile_below _ _ _ _ _ _ _ alone;
       some = quantile_some _ _ _ _ _ _ _ alone;

@@ -7,7 +7,7 @@ use Rattle.std.specs.List.{zip}
 use Rattle.std.specs.Prelude.{drop}
 use Rattle.std.proofs.Common.{◌≡◌, ◌∙◌, Bool, Bor, Iter, Option, None, Result, Ok, List, [], ◌∷◌, ◌++◌, inl, inr, length, map, refl, sym, ap, ap₂, subst, append-nil}
 use Rattle.constriction_base.specs.declared.errors.CoderError.{CoderError}
-use Rattle.constriction_base.proofs.InTurn.{InTurn-more}
+use Rattle.constriction_base.proofs.Trace.{Trace-more}
 use Rattle.constriction_symbol.specs.Codewords.{ReadsSymbol}
 use Rattle.constriction_symbol.specs.declared.codebooks.SymbolCodeError.{SymbolCodeError}
 use Rattle.constriction_symbol.specs.Lists.{ReadsPairs}
@@ -47,4 +47,4 @@ pub reads_pairs_more : {I S K V E : Type 0} (next : I → Option (Result Bool E)
 reads_pairs_more {I} {S} {K} {V} {E} next codeword reads_on is_invalid books old xs mid x book rest answer new all left given step =
     let one : ReadsSymbol next (codeword book) (reads_on book) (is_invalid book) mid (Ok x) new = subst (λ (r : Result S (CoderError (SymbolCodeError V) E)). ReadsSymbol next (codeword book) (reads_on book) (is_invalid book) mid r new) given step in
     subst (λ (ps : List (S × K)). ReadsPairs next codeword reads_on is_invalid ps old new) (sym (zip_more xs books x book rest left))
-    (InTurn-more (λ (pair : S × K) (before after : I). ReadsSymbol next (codeword pair.1) (reads_on pair.1) (is_invalid pair.1) before (Ok pair.0) after) (zip xs books) (x, book) old mid new all one)
+    (Trace-more (λ (pair : S × K) (before after : I). ReadsSymbol next (codeword pair.1) (reads_on pair.1) (is_invalid pair.1) before (Ok pair.0) after) (zip xs books) (x, book) old mid new all one)

@@ -8,12 +8,12 @@ use Rattle.constriction_queue.proofs.reading.narrowed_by_reading.Goals as goal
 
 pub grown_by_reading-requires-clause-wide : goal.grown_by_reading-requires-clause-wide
 grown_by_reading-requires-clause-wide g c =
-    rw (c.times-part.ensures, c.shifted_right-scale.ensures)
+    rw (c.times-part.ensures, c.shift_right-scale.ensures)
     (cut_wide _ _ _ _ _ c.requires.step.within_word c.requires.sizes.two_words c.requires.step.not_empty c.requires.wide)
 
 pub returns-in-Ok : goal.returns-in-Ok
 returns-in-Ok g c =
-    let scale = c.shifted_right-scale.ensures in
+    let scale = c.shift_right-scale.ensures in
     let lower = rw c.times-before.ensures at c.wrapping_plus-start.ensures in
     let some = scale_some g.Word.BitArray.BITS g.State.BitArray.BITS c.args.precision _ c.requires.step.within_word c.requires.sizes.two_words c.requires.wide in
     let before = part_from (g.State.BitArray.number c.args.distance) _ (g.State.BitArray.number c.args.left) some c.requires.above in
@@ -39,14 +39,14 @@ returns-in-Ok g c =
       err = tt;
     }
 
-pub shifted_right-scale-requires : goal.shifted_right-scale-requires
-shifted_right-scale-requires g c = omega (arith, c.requires.step.within_word, c.requires.sizes.two_words, c.requires.sizes.some_bits)
+pub shift_right-scale-requires : goal.shift_right-scale-requires
+shift_right-scale-requires g c = omega (arith, c.requires.step.within_word, c.requires.sizes.two_words, c.requires.sizes.some_bits)
 
 pub times-part-requires : goal.times-part-requires
-times-part-requires g c = part_fits _ _ _ _ _ _ c.shifted_right-scale.ensures c.requires.step.inside (g.met.State.BitArray.number_law _)
+times-part-requires g c = part_fits _ _ _ _ _ _ c.shift_right-scale.ensures c.requires.step.inside (g.met.State.BitArray.number_law _)
 
 pub times-before-requires : goal.times-before-requires
-times-before-requires g c = before_fits _ _ _ _ _ _ c.shifted_right-scale.ensures c.requires.step.inside (g.met.State.BitArray.number_law _)
+times-before-requires g c = before_fits _ _ _ _ _ _ c.shift_right-scale.ensures c.requires.step.inside (g.met.State.BitArray.number_law _)
 
 pub grown_by_reading-requires-clause-sized : goal.grown_by_reading-requires-clause-sized
 grown_by_reading-requires-clause-sized g c = c.requires.sizes.two_words
@@ -57,15 +57,15 @@ returns-in-Err g c = record {
   list = λ _. tt;
   kept = λ list. c.in-Err.ensures.kept list;
   reads = tt;
-  err = (rw (c.times-part.ensures, c.shifted_right-scale.ensures) at c.in-Err.ensures.err.0, c.in-Err.ensures.err.1);
+  err = (rw (c.times-part.ensures, c.shift_right-scale.ensures) at c.in-Err.ensures.err.0, c.in-Err.ensures.err.1);
 }
 
 pub minus-requires : goal.minus-requires
 minus-requires g c =
     let some = scale_some g.Word.BitArray.BITS g.State.BitArray.BITS c.args.precision _ c.requires.step.within_word c.requires.sizes.two_words c.requires.wide in
-    rw (c.times-before.ensures, c.shifted_right-scale.ensures) (part_from (g.State.BitArray.number c.args.distance) _ (g.State.BitArray.number c.args.left) some c.requires.above)
+    rw (c.times-before.ensures, c.shift_right-scale.ensures) (part_from (g.State.BitArray.number c.args.distance) _ (g.State.BitArray.number c.args.left) some c.requires.above)
 
 pub grown_by_reading-requires-clause-below : goal.grown_by_reading-requires-clause-below
 grown_by_reading-requires-clause-below g c =
     let some = scale_some g.Word.BitArray.BITS g.State.BitArray.BITS c.args.precision _ c.requires.step.within_word c.requires.sizes.two_words c.requires.wide in
-    rw (c.minus.ensures, c.times-before.ensures, c.times-part.ensures, c.shifted_right-scale.ensures) (part_below (g.State.BitArray.number c.args.distance) _ (g.State.BitArray.number c.args.left) (g.State.BitArray.number c.args.p) some c.requires.above c.requires.below)
+    rw (c.minus.ensures, c.times-before.ensures, c.times-part.ensures, c.shift_right-scale.ensures) (part_below (g.State.BitArray.number c.args.distance) _ (g.State.BitArray.number c.args.left) (g.State.BitArray.number c.args.p) some c.requires.above c.requires.below)

@@ -4,20 +4,20 @@ use Rattle.constriction_queue.proofs.Beginning.{next_below, asked_next, next_fit
 use Rattle.constriction_queue.proofs.Pointing.{drop_one, first_of}
 use Rattle.constriction_queue.proofs.reading.read_point.Goals as goal
 
-pub shifted_left-requires-clause-fits : goal.shifted_left-requires-clause-fits
-shifted_left-requires-clause-fits g c =
+pub shift_left-requires-clause-fits : goal.shift_left-requires-clause-fits
+shift_left-requires-clause-fits g c =
     let fits = next_fits g.Word.BitArray.BITS g.State.BitArray.BITS c.loop-i.i (g.State.BitArray.number c.loop-i.point) 0 c.loop-i.invariant.fits (pow_pos g.Word.BitArray.BITS) (omega arith) in
     rw c.BITS.ensures (omega (arith, fits))
 
 pub plus-point-requires : goal.plus-point-requires
 plus-point-requires g c =
-    rw (c.shifted_left.ensures, c.BITS.ensures, c.widen.ensures)
+    rw (c.shift_left.ensures, c.BITS.ensures, c.widen.ensures)
     (next_fits g.Word.BitArray.BITS g.State.BitArray.BITS c.loop-i.i (g.State.BitArray.number c.loop-i.point) _ c.loop-i.invariant.fits (g.met.Word.BitArray.number_law _) (omega arith))
 
 pub loop-i-preserved : goal.loop-i-preserved
 loop-i-preserved g c =
     let number = g.Word.BitArray.number in
-    let is = rw (c.shifted_left.ensures, c.BITS.ensures, c.widen.ensures) at c.plus-point.ensures in
+    let is = rw (c.shift_left.ensures, c.BITS.ensures, c.widen.ensures) at c.plus-point.ensures in
     let before : List ℕ = map number (g.Backend.Holds.words c.args.bulk.now) in
     record {
       fits = rw is (next_below g.Word.BitArray.BITS c.loop-i.i (g.State.BitArray.number c.loop-i.point) _ c.loop-i.invariant.fits (g.met.Word.BitArray.number_law _));

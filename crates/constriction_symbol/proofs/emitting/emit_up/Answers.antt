@@ -11,5 +11,5 @@ returns-in-Err-clause-emits g c =
 pub loop-index-preserved : goal.loop-index-preserved
 loop-index-preserved g c =
     let some = count_down _ _ c.loop-index-test.true in
-    let low = low_off _ _ _ _ _ some.0 c.shifted_right-rest.ensures c.low_bits.ensures c.is_nothing.ensures in
+    let low = low_off _ _ _ _ _ some.0 c.shift_right-rest.ensures c.low_bits.ensures c.is_nothing.ensures in
     (search of_calls, λ r last e. c.loop-index.invariant.1 r last (emitted_more g.F.FnMut r last (rw some.1 at low) c.in-Ok.is c.emit.ensures e))

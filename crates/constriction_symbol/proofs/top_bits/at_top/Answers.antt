@@ -2,8 +2,8 @@ use Rattle.std.proofs.Common.{◌≡◌, ◌+◌, ◌-◌, ◌*◌, ◌/◌, ◌
 use Rattle.std.proofs.lemmas.Nat.{shl-shr, shl_below}
 use Rattle.constriction_symbol.proofs.top_bits.at_top.Goals as goal
 
-pub shifted_left-requires-clause-fits : goal.shifted_left-requires-clause-fits
-shifted_left-requires-clause-fits g c =
+pub shift_left-requires-clause-fits : goal.shift_left-requires-clause-fits
+shift_left-requires-clause-fits g c =
     let b = g.Word.BitArray.BITS in
     let n = g.Word.BitArray.number c.args.word in
     let whole : c.args.count + (b - c.args.count) ≡ b = omega (arith, c.requires.within) in
@@ -11,5 +11,5 @@ shifted_left-requires-clause-fits g c =
 
 pub returns : goal.returns
 returns g c =
-    let is = rw c.BITS.ensures at c.shifted_left.ensures in
+    let is = rw c.BITS.ensures at c.shift_left.ensures in
     ap (λ x. x / 2 ^ (g.Word.BitArray.BITS - c.args.count)) is ∙ shl-shr (g.Word.BitArray.number c.args.word) (g.Word.BitArray.BITS - c.args.count)

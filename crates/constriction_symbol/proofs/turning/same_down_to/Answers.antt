@@ -13,7 +13,7 @@ bits-preserved g c =
     record {
       above = omega (arith, c.bits-test.true);
       within = omega (arith, c.bits.invariant.within);
-      done = down_step c.bits.left (g.From.BitArray.number c.args.number) _ _ _ _ _ some c.bits.invariant.done c.shifted_right.ensures c.low_bits.ensures c.is_nothing.ensures c.doubled-same.ensures;
+      done = down_step c.bits.left (g.From.BitArray.number c.args.number) _ _ _ _ _ some c.bits.invariant.done c.shift_right.ensures c.low_bits.ensures c.is_nothing.ensures c.doubled-same.ensures;
     }
 
 pub returns : goal.returns

@@ -8,7 +8,7 @@ doubled-turned-requires g c = turned_room c.bits.place g.Word.BitArray.BITS _ _ 
 pub bits-preserved : goal.bits-preserved
 bits-preserved g c = record {
   within = omega (arith, c.bits-test.true);
-  done = turned_more c.bits.place _ _ _ _ _ _ c.bits.invariant.done c.shifted_right.ensures c.low_bits.ensures c.is_nothing.ensures c.doubled-turned.ensures;
+  done = turned_more c.bits.place _ _ _ _ _ _ c.bits.invariant.done c.shift_right.ensures c.low_bits.ensures c.is_nothing.ensures c.doubled-turned.ensures;
 }
 
 pub returns : goal.returns

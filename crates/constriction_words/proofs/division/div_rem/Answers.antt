@@ -1,7 +1,7 @@
 use Rattle.std.proofs.Common.{◌^◌, arith}
 use Rattle.std.proofs.lemmas.Nat.{pow_pos}
 use Rattle.constriction_words.proofs.Divisions.{exact, one_more, within}
-use Rattle.constriction_words.proofs.division.divided.Goals as goal
+use Rattle.constriction_words.proofs.division.div_rem.Goals as goal
 
 pub overflow_sub-rest : goal.overflow_sub-rest
 overflow_sub-rest c = within (2 ^ 64) c.args.divisor c.inverse-inverse.result c.args.dividend (pow_pos 64) (omega (arith, c.inverse-inverse.ensures))

@@ -1,7 +1,7 @@
 use Rattle.std.proofs.Common.{rules, ◌≡◌}
 use Rattle.std.specs.Prelude.{reverse}
 use Rattle.constriction_base.proofs.Turns.{drop_turned, take_turned}
-use Rattle.constriction_base.proofs.cursor.Cursor.turned_round.Goals as goal
+use Rattle.constriction_base.proofs.cursor.Cursor.reverse_buffer.Goals as goal
 
 pub returns-clause-stack : goal.returns-clause-stack
 returns-clause-stack g c =

@@ -14,11 +14,11 @@ below_buckets q precision shift within below =
 pub to_index-requires : goal.to_index-requires
 to_index-requires g c =
     let cut = c.args.self.now.cut in
-    omega (arith, c.shifted_right.ensures, below_buckets (g.Probability.BitArray.number c.args.quantile) g.row.PRECISION c.args.self.now.shift (omega (arith, cut.0)) c.requires, pow_mono cut.1)
+    omega (arith, c.shift_right.ensures, below_buckets (g.Probability.BitArray.number c.args.quantile) g.row.PRECISION c.args.self.now.shift (omega (arith, cut.0)) c.requires, pow_mono cut.1)
 
 pub returns-clause-within : goal.returns-clause-within
 returns-clause-within g c =
-    omega (arith, c.to_index.ensures, c.shifted_right.ensures, c.args.self.now.buckets, below_buckets (g.Probability.BitArray.number c.args.quantile) g.row.PRECISION c.args.self.now.shift (omega (arith, c.args.self.now.cut.0)) c.requires)
+    omega (arith, c.to_index.ensures, c.shift_right.ensures, c.args.self.now.buckets, below_buckets (g.Probability.BitArray.number c.args.quantile) g.row.PRECISION c.args.self.now.shift (omega (arith, c.args.self.now.cut.0)) c.requires)
 
 -- a quantile is below the end of its bucket
 below_next : (q width k : ℕ) → 0 < width → k ≡ q / width → q < (k + 1) * width
@@ -27,14 +27,14 @@ below_next q width k some is =
     omega (arith, lt-div-mul-add {a = q} {b = width} some, at)
 
 pub returns-clause-below : goal.returns-clause-below
-returns-clause-below g c = below_next _ _ _ (pow_pos c.args.self.now.shift) (c.to_index.ensures ∙ c.shifted_right.ensures)
+returns-clause-below g c = below_next _ _ _ (pow_pos c.args.self.now.shift) (c.to_index.ensures ∙ c.shift_right.ensures)
 
-pub shifted_right-requires : goal.shifted_right-requires
-shifted_right-requires g c = omega (arith, c.args.self.now.cut.0, c.args.self.now.fits)
+pub shift_right-requires : goal.shift_right-requires
+shift_right-requires g c = omega (arith, c.args.self.now.cut.0, c.args.self.now.fits)
 
 -- or at its beginning
 from_first : (q width k : ℕ) → k ≡ q / width → k * width ≤ q
 from_first q width k is = omega (arith, ap (λ n. n * width) is, div-mul-le_self q width)
 
 pub returns-clause-above : goal.returns-clause-above
-returns-clause-above g c = from_first _ _ _ (c.to_index.ensures ∙ c.shifted_right.ensures)
+returns-clause-above g c = from_first _ _ _ (c.to_index.ensures ∙ c.shift_right.ensures)

@@ -4,7 +4,7 @@ use Rattle.std.proofs.lemmas.List.{length-map}
 use Rattle.constriction_words.specs.Reciprocals.{IsReciprocalOf}
 use Rattle.constriction_base.specs.Tables.{weights_between}
 use Rattle.constriction_base.proofs.Made.{one_more, weight_within}
-use Rattle.constriction_base.proofs.weights.WeightTable.made_reciprocals.Goals as goal
+use Rattle.constriction_base.proofs.weights.WeightTable.make_reciprocals.Goals as goal
 
 pub to_index-weight-requires : goal.to_index-weight-requires
 to_index-weight-requires g c =

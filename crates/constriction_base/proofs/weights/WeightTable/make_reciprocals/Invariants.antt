@@ -1,7 +1,7 @@
 use Rattle.std.proofs.Common.{◌≡◌, ◌^◌, length, map, vec_len, vec_capacity}
 use Rattle.constriction_base.specs.Reciprocals.{AreReciprocals}
 use Rattle.constriction_base.specs.Tables.{weights_between}
-use Rattle.constriction_base.proofs.weights.WeightTable.made_reciprocals.Given as goal
+use Rattle.constriction_base.proofs.weights.WeightTable.make_reciprocals.Given as goal
 
 abbrev pub invariant-loop-symbol : goal.invariant-loop-symbol
 invariant-loop-symbol g l =

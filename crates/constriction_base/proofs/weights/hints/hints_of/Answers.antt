@@ -17,8 +17,8 @@ one_below one shift bits is within =
     let power : one * 2 ^ shift ≡ 2 ^ shift = rw is (omega arith) in
     omega (arith, all, power, pow_pos shift, pow_mono within)
 
-pub shifted_left-width-requires-clause-fits : goal.shifted_left-width-requires-clause-fits
-shifted_left-width-requires-clause-fits g c = one_below _ _ _ c.unit.ensures (omega (arith, c.requires.sized.1, c.requires.within.0))
+pub shift_left-width-requires-clause-fits : goal.shift_left-width-requires-clause-fits
+shift_left-width-requires-clause-fits g c = one_below _ _ _ c.unit.ensures (omega (arith, c.requires.sized.1, c.requires.within.0))
 
 -- a bucket begins below the end of all
 bucket_below : (bucket count width all : ℕ) → bucket < count → 0 < width → count * width ≡ all → bucket * width < all
@@ -58,7 +58,7 @@ loop-bucket-preserved g c =
     let hint : IsHint starts (2 ^ g.row.PRECISION) (c.loop-bucket.bucket * 2 ^ c.args.shift) symbol =
     hint_of starts (2 ^ g.row.PRECISION) (c.loop-bucket.bucket * 2 ^ c.args.shift) symbol (omega (arith, s.within, len)) (omega (arith, s.above, first)) (omega (arith, place)) (λ more. omega (arith, first, s.below (omega (arith, more, len)))) in
     record {
-      first = next_place (number c.loop-bucket.first) (number c.shifted_left-width.result) (number c.unit.result) c.args.shift c.loop-bucket.bucket (2 ^ g.Probability.BitArray.BITS) _ first c.unit.ensures c.shifted_left-width.ensures c.wrapping_plus-first.ensures;
+      first = next_place (number c.loop-bucket.first) (number c.shift_left-width.result) (number c.unit.result) c.args.shift c.loop-bucket.bucket (2 ^ g.Probability.BitArray.BITS) _ first c.unit.ensures c.shift_left-width.ensures c.wrapping_plus-first.ensures;
       known = omega (arith, s.within, len);
       from = omega (arith, s.above, first);
       len = rw c.push_reserved.ensures.items (omega (arith, i.len, length-append hints (symbol ∷ [])));
@@ -101,8 +101,8 @@ overflow_cast-count-2 g c = omega (arith, c.requires.within.1)
 pub overflow_shl-count : goal.overflow_shl-count
 overflow_shl-count g c = omega (arith, c.requires.within.1)
 
-pub shifted_left-width-requires-clause-within : goal.shifted_left-width-requires-clause-within
-shifted_left-width-requires-clause-within g c = omega (arith, c.requires.within.0, c.requires.sized.1)
+pub shift_left-width-requires-clause-within : goal.shift_left-width-requires-clause-within
+shift_left-width-requires-clause-within g c = omega (arith, c.requires.within.0, c.requires.sized.1)
 
 pub overflow_add-count : goal.overflow_add-count
 overflow_add-count g c = omega (arith, pow_mono c.requires.within.1)

@@ -19,4 +19,4 @@ ones_left bits count all r fits whole is =
     omega (arith, is, high, low)
 
 pub returns : goal.returns
-returns g c = ones_left _ _ _ _ c.requires.1 c.greatest.ensures (rw c.BITS.ensures at c.shifted_right.ensures)
+returns g c = ones_left _ _ _ _ c.requires.1 c.greatest.ensures (rw c.BITS.ensures at c.shift_right.ensures)

@@ -9,8 +9,8 @@ returns-then-symbol-self-ne0-clause-impossible g c =
     let flat = c.args.self.now in
     equal_impossible flat.bits flat.shift _ (large_of_shr c.args.symbol.now flat.bits c.if-symbol-self-ne0.true)
 
-pub shifted_left-left-requires-clause-fits : goal.shifted_left-left-requires-clause-fits
-shifted_left-left-requires-clause-fits g c =
+pub shift_left-left-requires-clause-fits : goal.shift_left-left-requires-clause-fits
+shift_left-left-requires-clause-fits g c =
     let flat = c.args.self.now in
     let below = small_of_shr c.args.symbol.now flat.bits c.if-symbol-self-ne0.false in
     let same = same_in_word c.args.symbol.now _ flat.bits _ c.narrow.ensures below flat.few_bits (omega (arith, flat.whole, flat.fits)) in
@@ -21,4 +21,4 @@ returns-clause-found g c =
     let flat = c.args.self.now in
     let below = small_of_shr c.args.symbol.now flat.bits c.if-symbol-self-ne0.false in
     let same = same_in_word c.args.symbol.now _ flat.bits _ c.narrow.ensures below flat.few_bits (omega (arith, flat.whole, flat.fits)) in
-    equal_has flat.bits flat.shift _ _ _ below (c.shifted_left-left.ensures ∙ ap (λ n. n * 2 ^ flat.shift) same) flat.is_power
+    equal_has flat.bits flat.shift _ _ _ below (c.shift_left-left.ensures ∙ ap (λ n. n * 2 ^ flat.shift) same) flat.is_power

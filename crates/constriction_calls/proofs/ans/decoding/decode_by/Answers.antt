@@ -1,7 +1,7 @@
 use Rattle.std.proofs.Common.{◌≡◌, ◌<◌, ◌∙◌, ℕ, arith, take, length, sym, List, refl}
 use Rattle.std.proofs.lemmas.List.{length-set, length-take-le, take_all, take_more_set}
 use Rattle.constriction_base.specs.Models.{item_of, pairs_of}
-use Rattle.constriction_base.proofs.InTurn.{InTurn-more}
+use Rattle.constriction_base.proofs.Trace.{Trace-more}
 use Rattle.constriction_stack.specs.Symbols.{Decodes}
 use Rattle.constriction_inputs.proofs.Pairs.{pairs_next}
 use Rattle.constriction_calls.proofs.AnsFrame.{lent_state}
@@ -21,7 +21,7 @@ loop-place-preserved g c =
     let long : length before ≡ l.place = length-take-le l.place l.symbols (omega arith) in
     record {
       decoded = rw (take_more_set l.symbols l.place x within, pairs_next P own before tables x table (omega (arith, l.invariant.count, c.requires.count)) (rw long at))
-          (InTurn-more (λ item. Decodes g.Word.BitArray.BITS g.State.BitArray.BITS item.model item.symbol) (pairs_of P own before tables) (item_of (record { precision = P; table = table }) x)
+          (Trace-more (λ item. Decodes g.Word.BitArray.BITS g.State.BitArray.BITS item.model item.symbol) (pairs_of P own before tables) (item_of (record { precision = P; table = table }) x)
           _ l.coder.state c.decode_next.new.coder.state l.invariant.decoded c.decode_next.ensures.decoded);
       buffer = c.decode_next.ensures.buffer ∙ l.invariant.buffer;
       count = length-set l.symbols l.place x ∙ l.invariant.count;

@@ -1,6 +1,6 @@
 use Rattle.std.proofs.Common.{arith, refl, inr, ap, ◌∙◌, List, ℕ, Err}
 use Rattle.constriction_base.specs.Models.{pairs_of}
-use Rattle.constriction_base.proofs.InTurn.{InTurn-more}
+use Rattle.constriction_base.proofs.Trace.{Trace-more}
 use Rattle.constriction_chain.specs.Symbols.{ChainDecodesOne}
 use Rattle.constriction_inputs.proofs.Pairs.{pairs_next}
 use Rattle.constriction_calls.proofs.ChainSteps.{ends_at, ends_pairs}
@@ -19,7 +19,7 @@ loop-place-preserved g c =
       count = omega (arith, c.push_reserved.ensures.len, kept.count);
       capacity = omega (arith, c.push_reserved.ensures.capacity, kept.capacity);
       taken = rw (c.push_reserved.ensures.items, next)
-          (InTurn-more (λ item. ChainDecodesOne g.Word.BitArray.BITS g.State.BitArray.BITS item.model item.symbol) (pairs_of g.row.PRECISION own xs ms) _ c.args.coder.now.state c.loop-place.coder.state
+          (Trace-more (λ item. ChainDecodesOne g.Word.BitArray.BITS g.State.BitArray.BITS item.model item.symbol) (pairs_of g.row.PRECISION own xs ms) _ c.args.coder.now.state c.loop-place.coder.state
           c.decode_symbol.new.self.state kept.taken (step.0, step.1, step.2, step.3.outcome.decoded tt));
       tables = c.turn_to.ensures.tables ∙ kept.tables;
     }

@@ -1,7 +1,7 @@
 use Rattle.std.proofs.Common.{◌%◌, ◌^◌, [], ◌∷◌, map, arith, length, length-append, ap, ◌∙◌, inl, inr}
 use Rattle.constriction_base.specs.Tables.{AtEntry}
 use Rattle.constriction_chain.specs.Chain.{IsDecode}
-use Rattle.constriction_base.proofs.InTurn.{InTurn-more}
+use Rattle.constriction_base.proofs.Trace.{Trace-more}
 use Rattle.constriction_commands.proofs.commands.chain_split.decode.Goals as goal
 
 pub loop-preserved : goal.loop-preserved
@@ -11,7 +11,7 @@ loop-preserved g c =
     let more = c.in_ok-push-in-Ok.ensures.items in
     record {
       counted = omega (arith, ap length more, length-append c.loop.symbols.items (c.in-Ok.symbol ∷ []), c.loop.invariant.counted);
-      decoded = rw more (InTurn-more (λ symbol from to. AtEntry 24 table symbol (λ step. IsDecode 32 64 step from to)) c.loop.symbols.items c.in-Ok.symbol _ _ _ c.loop.invariant.decoded (one.0, one.1, one.2, one.3.outcome.decoded tt));
+      decoded = rw more (Trace-more (λ symbol from to. AtEntry 24 table symbol (λ step. IsDecode 32 64 step from to)) c.loop.symbols.items c.in-Ok.symbol _ _ _ c.loop.invariant.decoded (one.0, one.1, one.2, one.3.outcome.decoded tt));
     }
 
 pub returns-in-Err-Frontend-clause-err : goal.returns-in-Err-Frontend-clause-err

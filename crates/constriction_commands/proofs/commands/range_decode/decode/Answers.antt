@@ -1,7 +1,7 @@
 use Rattle.std.proofs.Common.{Err, [], ◌∷◌, length, length-append, refl, ◌∙◌, ap, arith}
 use Rattle.constriction_queue.specs.Calls.{DecodeCall}
 use Rattle.constriction_queue.specs.Range.{initial, narrowed_by}
-use Rattle.constriction_base.proofs.InTurn.{InTurn-symbol}
+use Rattle.constriction_base.proofs.Trace.{Trace-symbol}
 use Rattle.constriction_stream.proofs.Outcomes.{decoded_by}
 use Rattle.constriction_queue.proofs.Decoders.{only_invalid}
 use Rattle.constriction_commands.specs.Coding.{of_24_bits}
@@ -28,7 +28,7 @@ loop-preserved g c =
       read = (
         narrowed_by 32 64 (record { precision = 24; left = one.0; p = one.1 }) here.0,
         one.3.read tt words here.0 here.1,
-        rw more (InTurn-symbol (λ item. Finds 32 64 words item.model item.symbol) model c.loop.symbols.items c.in-Ok.symbol _ _ _ here.2
+        rw more (Trace-symbol (λ item. Finds 32 64 words item.model item.symbol) model c.loop.symbols.items c.in-Ok.symbol _ _ _ here.2
             (one.0, one.1, one.2, (record { from = rw quantile at one.3.from; below = rw quantile at one.3.below }, refl))),
       );
     }

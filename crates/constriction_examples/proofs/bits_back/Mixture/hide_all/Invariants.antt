@@ -1,5 +1,5 @@
 use Rattle.std.proofs.Common.{take}
-use Rattle.constriction.specs.Steps.{InTurn}
+use Rattle.constriction.specs.Steps.{Trace}
 use Rattle.constriction.specs.stack.Ans.{IsNormalized}
 use Rattle.constriction_examples.specs.Hiding.{Hides}
 use Rattle.constriction_examples.proofs.bits_back.Mixture.hide_all.Given as goal
@@ -7,4 +7,4 @@ use Rattle.constriction_examples.proofs.bits_back.Mixture.hide_all.Given as goal
 -- the symbols before the place are hidden, in a valid state
 abbrev pub invariant-symbols : goal.invariant-symbols
 invariant-symbols l =
-    IsNormalized 32 64 l.fn.coder.state → InTurn (Hides l.self) (take l.symbol-index l.symbols) l.fn.coder.state l.coder.state × IsNormalized 32 64 l.coder.state
+    IsNormalized 32 64 l.fn.coder.state → Trace (Hides l.self) (take l.symbol-index l.symbols) l.fn.coder.state l.coder.state × IsNormalized 32 64 l.coder.state

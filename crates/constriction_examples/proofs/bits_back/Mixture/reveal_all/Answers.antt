@@ -1,6 +1,6 @@
 use Rattle.std.proofs.Common.{[], ◌∷◌, length, reverse, ap, arith, refl}
 use Rattle.std.proofs.lemmas.List.{length-append, length-reverse}
-use Rattle.constriction.proofs.InTurn.{InTurn-back}
+use Rattle.constriction.proofs.Trace.{Trace-back}
 use Rattle.constriction_examples.specs.Hiding.{Hides}
 use Rattle.constriction_examples.proofs.Runs.{revealed-more, revealed-all}
 use Rattle.constriction_examples.proofs.bits_back.Mixture.reveal_all.Goals as goal
@@ -8,7 +8,7 @@ use Rattle.constriction_examples.proofs.bits_back.Mixture.reveal_all.Goals as go
 pub symbols-init : goal.symbols-init
 symbols-init c = record {
   counted = omega arith;
-  revealed = λ hidden before count valid h. (reverse hidden, rw c.new-symbols.ensures.items refl, InTurn-back (Hides c.args.self.now) hidden before c.args.coder.now.state h);
+  revealed = λ hidden before count valid h. (reverse hidden, rw c.new-symbols.ensures.items refl, Trace-back (Hides c.args.self.now) hidden before c.args.coder.now.state h);
 }
 
 pub symbols-preserved : goal.symbols-preserved

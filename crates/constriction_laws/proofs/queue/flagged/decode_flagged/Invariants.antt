@@ -1,6 +1,6 @@
 use Rattle.std.proofs.Common.{◌≡◌, ◌||◌, ℕ, List, Ok, length}
 use Rattle.constriction_base.specs.Models.{Model, Item}
-use Rattle.constriction_base.specs.Steps.{InTurn}
+use Rattle.constriction_base.specs.Steps.{Trace}
 use Rattle.constriction_queue.specs.Decoder.{Decoder, StandsAt}
 use Rattle.constriction_queue.specs.Flagged.{DecodesUnder, has_flag}
 use Rattle.constriction_queue.specs.Range.{Run}
@@ -19,7 +19,7 @@ invariant-decode g l =
       count : length l.symbols.items ≡ l.counter;
       flag : l.switch.flag ≡ l.fn.switch.flag;
       switched : l.switch.switched ≡ (l.fn.switch.switched || has_flag l.fn.switch.flag l.symbols.items);
-      taken : InTurn (λ (item : Item ℕ) (before after : Decoder g.row.Backend.Denot). DecodesUnder g.Word.BitArray.number g.Backend.Holds g.Backend.ReadWords w s item.model before (Ok item.symbol) after)
+      taken : Trace (λ (item : Item ℕ) (before after : Decoder g.row.Backend.Denot). DecodesUnder g.Word.BitArray.number g.Backend.Holds g.Backend.ReadWords w s item.model before (Ok item.symbol) after)
           (flagged_behind l.fn.switch.switched l.fn.switch.flag first second l.symbols.items) l.fn.switch.decoder l.switch.decoder;
       read : g.Backend.Holds.is_list → (words : List ℕ) (old : Run) → StandsAt w s words old l.fn.switch.decoder
           → (last : Run) × FindsAll w s words (flagged_behind l.fn.switch.switched l.fn.switch.flag first second l.symbols.items) old last × StandsAt w s words last l.switch.decoder;

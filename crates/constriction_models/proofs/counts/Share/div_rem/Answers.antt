@@ -1,7 +1,7 @@
 use Rattle.std.specs.Prelude.{◌≡◌, ℕ, ◌+◌, ◌*◌, ◌/◌, ◌<◌}
 use Rattle.std.proofs.Common.{refl, arith}
 use Rattle.constriction_models.proofs.Dividing.{IsNear, is_near, quotient_of, over_of}
-use Rattle.constriction_models.proofs.counts.Share.divided.Goals as goal
+use Rattle.constriction_models.proofs.counts.Share.div_rem.Goals as goal
 
 near : (count mass rest rate : ℕ) → 0 < rest → count < 18446744073709551616 → rate ≡ mass * 18446744073709551616 / rest → IsNear count mass rest (count * rate / 18446744073709551616)
 near count mass rest rate some fits is = is_near 18446744073709551616 count mass rest rate (count * rate / 18446744073709551616) some (omega arith) (omega (arith, fits)) is refl

@@ -5,5 +5,5 @@ use Rattle.constriction_queue.proofs.state.RangeCoderState.new.Goals as goal
 
 pub invariant_of-result : goal.invariant_of-result
 invariant_of-result g c =
-    let is = rw (c.BITS.ensures, c.BITS-2.ensures) at c.shifted_right.ensures in
+    let is = rw (c.BITS.ensures, c.BITS-2.ensures) at c.shift_right.ensures in
     record { wide = large_of_shr _ _ (λ e. false≢true (c.if-is_nothing.ensures.1 (is ∙ e))) }

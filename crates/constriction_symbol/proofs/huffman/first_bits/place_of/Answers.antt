@@ -2,8 +2,8 @@ use Rattle.std.proofs.Common.{◌≡◌, ◌<◌, ◌+◌, ◌*◌, ◌-◌, ◌
 use Rattle.constriction_symbol.proofs.FirstBits.{number_low, set_bit, top_place, top_small}
 use Rattle.constriction_symbol.proofs.huffman.first_bits.place_of.Goals as goal
 
-pub shifted_right-requires : goal.shifted_right-requires
-shifted_right-requires g c =
+pub shift_right-requires : goal.shift_right-requires
+shift_right-requires g c =
     let wide = g.met.Word.BitArray.bits_law.0 in
     let some = rw c.BITS.ensures at c.lesser-count.ensures.some in
     let count : 0 < c.lesser-count.result = some c.requires.some (omega (arith, wide)) in
@@ -15,7 +15,7 @@ to_index-first-requires g c =
     let w = g.Word.BitArray.BITS in
     let count = c.lesser-count.result in
     let all = rw c.BITS.ensures at c.lesser-count.ensures.within in
-    let is = rw c.BITS-2.ensures at c.shifted_right.ensures in
+    let is = rw c.BITS-2.ensures at c.shift_right.ensures in
     let small = top_small w count (g.Word.BitArray.number c.args.bits) all (g.met.Word.BitArray.number_law c.args.bits) in
     rw is (omega (arith, small, (set_bit count c.args.most c.lesser-count.ensures.most c.requires.few).0))
 
@@ -27,7 +27,7 @@ bounds-places-first g c =
     let w = g.Word.BitArray.BITS in
     let count = c.lesser-count.result in
     let all = rw c.BITS.ensures at c.lesser-count.ensures.within in
-    let is = rw c.BITS-2.ensures at c.shifted_right.ensures in
+    let is = rw c.BITS-2.ensures at c.shift_right.ensures in
     let small = top_small w count (g.Word.BitArray.number c.args.bits) all (g.met.Word.BitArray.number_law c.args.bits) in
     let first : c.to_index-first.result < 2 ^ count = rw (c.to_index-first.ensures, is) small in
     omega (arith, (set_bit count c.args.most c.lesser-count.ensures.most c.requires.few).1, number_low (length c.args.places.now) c.args.most count c.to_index-first.result c.requires.count c.lesser-count.ensures.most first)
@@ -37,7 +37,7 @@ overflow_add-result g c =
     let w = g.Word.BitArray.BITS in
     let count = c.lesser-count.result in
     let all = rw c.BITS.ensures at c.lesser-count.ensures.within in
-    let is = rw c.BITS-2.ensures at c.shifted_right.ensures in
+    let is = rw c.BITS-2.ensures at c.shift_right.ensures in
     let small = top_small w count (g.Word.BitArray.number c.args.bits) all (g.met.Word.BitArray.number_law c.args.bits) in
     let first : c.to_index-first.result < 2 ^ count = rw (c.to_index-first.ensures, is) small in
     let set = set_bit count c.args.most c.lesser-count.ensures.most c.requires.few in
@@ -48,7 +48,7 @@ offset_bounds-places-first g c =
     let w = g.Word.BitArray.BITS in
     let count = c.lesser-count.result in
     let all = rw c.BITS.ensures at c.lesser-count.ensures.within in
-    let is = rw c.BITS-2.ensures at c.shifted_right.ensures in
+    let is = rw c.BITS-2.ensures at c.shift_right.ensures in
     let small = top_small w count (g.Word.BitArray.number c.args.bits) all (g.met.Word.BitArray.number_law c.args.bits) in
     let first : c.to_index-first.result < 2 ^ count = rw (c.to_index-first.ensures, is) small in
     let set = set_bit count c.args.most c.lesser-count.ensures.most c.requires.few in
@@ -60,7 +60,7 @@ returns g c = λ nodes has.
     let n = g.Word.BitArray.number c.args.bits in
     let count = c.lesser-count.result in
     let all = rw c.BITS.ensures at c.lesser-count.ensures.within in
-    let is = rw c.BITS-2.ensures at c.shifted_right.ensures in
+    let is = rw c.BITS-2.ensures at c.shift_right.ensures in
     let first : c.to_index-first.result ≡ n / 2 ^ (w - count) = rw (c.to_index-first.ensures, is) refl in
     let number = c.to_index-first.result + 1 * 2 ^ count % 18446744073709551616 in
     let place = slice_index_or c.args.places.now number (record { index = 0; taken = 0 }) in

@@ -8,12 +8,12 @@ overflow_sub-BITS g c =
     let all = taken_fits g.Word.BitArray.BITS c.self.inside.room c.args.count c.self.invariant (rw (← c.self.view_is, length_bits) at c.requires.within) in
     rw c.BITS.ensures all.1
 
-pub shifted_left-self-inside-requires-clause-within : goal.shifted_left-self-inside-requires-clause-within
-shifted_left-self-inside-requires-clause-within g c =
+pub shift_left-self-inside-requires-clause-within : goal.shift_left-self-inside-requires-clause-within
+shift_left-self-inside-requires-clause-within g c =
     (taken_fits g.Word.BitArray.BITS c.self.inside.room c.args.count c.self.invariant (rw (← c.self.view_is, length_bits) at c.requires.within)).2
 
-pub shifted_left-self-inside-requires-clause-fits : goal.shifted_left-self-inside-requires-clause-fits
-shifted_left-self-inside-requires-clause-fits g c =
+pub shift_left-self-inside-requires-clause-fits : goal.shift_left-self-inside-requires-clause-fits
+shift_left-self-inside-requires-clause-fits g c =
     let all = taken_fits g.Word.BitArray.BITS c.self.inside.room c.args.count c.self.invariant (rw (← c.self.view_is, length_bits) at c.requires.within) in
     left_room g.Word.BitArray.BITS c.args.count (g.Word.BitArray.number c.self.inside.word) (g.Word.BitArray.number c.low_bits.result) all.1 (rw c.BITS.ensures at c.low_bits.ensures)
 
@@ -33,4 +33,4 @@ returns g c =
     let all = taken_fits b c.self.inside.room c.args.count c.self.invariant (rw (← c.self.view_is, length_bits) at c.requires.within) in
     let low = rw c.BITS.ensures at c.low_bits.ensures in
     rw (← c.self.view_is, length_bits (b - c.self.inside.room) (n c.self.inside.word / 2 ^ c.self.inside.room))
-    (some_less b c.self.inside.room c.args.count (n c.self.inside.word) (n c.shifted_left-self-inside.result) all.0 (rw low at c.shifted_left-self-inside.ensures))
+    (some_less b c.self.inside.room c.args.count (n c.self.inside.word) (n c.shift_left-self-inside.result) all.0 (rw low at c.shift_left-self-inside.ensures))

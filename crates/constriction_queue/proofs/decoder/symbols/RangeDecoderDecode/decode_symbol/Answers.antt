@@ -24,7 +24,7 @@ returns-then-not-is_nothing-clause-step g c =
     let m = 2 ^ g.State.BitArray.BITS in
     let read : g.State.BitArray.number c.quantile_at-quotient.result ≡ ((d + l) % m + (m - l)) % m / (g.State.BitArray.number c.self.inside.state.range / 2 ^ g.row.PRECISION) =
     rw (distance_of d l m (g.met.State.BitArray.number_law _) (g.met.State.BitArray.number_law _)) c.quantile_at-quotient.ensures in
-    let large = large_of_shr _ _ (λ e. let off = c.if-not-is_nothing.ensures.1 (c.shifted_right.ensures ∙ e) in cc) in
+    let large = large_of_shr _ _ (λ e. let off = c.if-not-is_nothing.ensures.1 (c.shift_right.ensures ∙ e) in cc) in
     rw (← c.self.view_is) (inl (refl, rw read at large, refl))
 
 pub returns-then-not-is_nothing-clause-variant : goal.returns-then-not-is_nothing-clause-variant
@@ -34,7 +34,7 @@ returns-then-not-is_nothing-clause-variant g c =
     let m = 2 ^ g.State.BitArray.BITS in
     let read : g.State.BitArray.number c.quantile_at-quotient.result ≡ ((d + l) % m + (m - l)) % m / (g.State.BitArray.number c.self.inside.state.range / 2 ^ g.row.PRECISION) =
     rw (distance_of d l m (g.met.State.BitArray.number_law _) (g.met.State.BitArray.number_law _)) c.quantile_at-quotient.ensures in
-    let large = large_of_shr _ _ (λ e. let off = c.if-not-is_nothing.ensures.1 (c.shifted_right.ensures ∙ e) in cc) in
+    let large = large_of_shr _ _ (λ e. let off = c.if-not-is_nothing.ensures.1 (c.shift_right.ensures ∙ e) in cc) in
     rw (← c.self.view_is) (λ _. rw read at large, λ _. refl)
 
 pub returns-in-Ok-clause-step : goal.returns-in-Ok-clause-step
@@ -45,7 +45,7 @@ returns-in-Ok-clause-step g c =
     let read : g.State.BitArray.number c.quantile_at-quotient.result ≡ ((d + l) % m + (m - l)) % m / (g.State.BitArray.number c.self.inside.state.range / 2 ^ g.row.PRECISION) =
     rw (distance_of d l m (g.met.State.BitArray.number_law _) (g.met.State.BitArray.number_law _)) c.quantile_at-quotient.ensures in
     let sized = g.met.M.EntropyModel.sized c.args.model in
-    let small = small_of_shr _ _ (sym c.shifted_right.ensures ∙ c.if-not-is_nothing.ensures.0 refl) in
+    let small = small_of_shr _ _ (sym c.shift_right.ensures ∙ c.if-not-is_nothing.ensures.0 refl) in
     let quantile = (rw c.narrow.ensures at c.narrow-quantile.ensures) ∙ low_in_word _ _ _ _ small (omega (arith, sized.1, g.met.M.Probability.WordOf.width_law)) sized.1 ∙ read in
     let number = g.Word.BitArray.number in
     let state = g.State.BitArray.number in
@@ -85,7 +85,7 @@ returns-in-Ok-clause-variant g c =
     let m = 2 ^ g.State.BitArray.BITS in
     let read : g.State.BitArray.number c.quantile_at-quotient.result ≡ ((d + l) % m + (m - l)) % m / (g.State.BitArray.number c.self.inside.state.range / 2 ^ g.row.PRECISION) =
     rw (distance_of d l m (g.met.State.BitArray.number_law _) (g.met.State.BitArray.number_law _)) c.quantile_at-quotient.ensures in
-    let small = rw read at (small_of_shr _ _ (sym c.shifted_right.ensures ∙ c.if-not-is_nothing.ensures.0 refl)) in
+    let small = rw read at (small_of_shr _ _ (sym c.shift_right.ensures ∙ c.if-not-is_nothing.ensures.0 refl)) in
     rw (← c.self.view_is) (λ e. absurd (cc), λ h. absurd (omega arith))
 
 pub returns-clause-step : goal.returns-clause-step
@@ -96,7 +96,7 @@ returns-clause-step g c =
     let read : g.State.BitArray.number c.quantile_at-quotient.result ≡ ((d + l) % m + (m - l)) % m / (g.State.BitArray.number c.self.inside.state.range / 2 ^ g.row.PRECISION) =
     rw (distance_of d l m (g.met.State.BitArray.number_law _) (g.met.State.BitArray.number_law _)) c.quantile_at-quotient.ensures in
     let sized = g.met.M.EntropyModel.sized c.args.model in
-    let small = small_of_shr _ _ (sym c.shifted_right.ensures ∙ c.if-not-is_nothing.ensures.0 refl) in
+    let small = small_of_shr _ _ (sym c.shift_right.ensures ∙ c.if-not-is_nothing.ensures.0 refl) in
     let quantile = (rw c.narrow.ensures at c.narrow-quantile.ensures) ∙ low_in_word _ _ _ _ small (omega (arith, sized.1, g.met.M.Probability.WordOf.width_law)) sized.1 ∙ read in
     let covers = c.quantile_function-symbol.ensures.covers in
     rw (← c.self.view_is) (inr (
@@ -132,19 +132,19 @@ returns-clause-variant g c =
     let m = 2 ^ g.State.BitArray.BITS in
     let read : g.State.BitArray.number c.quantile_at-quotient.result ≡ ((d + l) % m + (m - l)) % m / (g.State.BitArray.number c.self.inside.state.range / 2 ^ g.row.PRECISION) =
     rw (distance_of d l m (g.met.State.BitArray.number_law _) (g.met.State.BitArray.number_law _)) c.quantile_at-quotient.ensures in
-    let small = rw read at (small_of_shr _ _ (sym c.shifted_right.ensures ∙ c.if-not-is_nothing.ensures.0 refl)) in
+    let small = rw read at (small_of_shr _ _ (sym c.shift_right.ensures ∙ c.if-not-is_nothing.ensures.0 refl)) in
     rw (← c.self.view_is) (λ e. absurd (cc), λ h. absurd (omega arith))
 
 pub narrowed_by_reading-requires-clause-above : goal.narrowed_by_reading-requires-clause-above
 narrowed_by_reading-requires-clause-above g c =
     let sized = g.met.M.EntropyModel.sized c.args.model in
-    let small = small_of_shr _ _ (sym c.shifted_right.ensures ∙ c.if-not-is_nothing.ensures.0 refl) in
+    let small = small_of_shr _ _ (sym c.shift_right.ensures ∙ c.if-not-is_nothing.ensures.0 refl) in
     let quantile = (rw c.narrow.ensures at c.narrow-quantile.ensures) ∙ low_in_word _ _ _ _ small (omega (arith, sized.1, g.met.M.Probability.WordOf.width_law)) sized.1 ∙ c.quantile_at-quotient.ensures in
     rw (c.widen-left.ensures, c.widen.ensures) (rw quantile at c.quantile_function-symbol.ensures.covers.0)
 
 pub narrowed_by_reading-requires-clause-below : goal.narrowed_by_reading-requires-clause-below
 narrowed_by_reading-requires-clause-below g c =
     let sized = g.met.M.EntropyModel.sized c.args.model in
-    let small = small_of_shr _ _ (sym c.shifted_right.ensures ∙ c.if-not-is_nothing.ensures.0 refl) in
+    let small = small_of_shr _ _ (sym c.shift_right.ensures ∙ c.if-not-is_nothing.ensures.0 refl) in
     let quantile = (rw c.narrow.ensures at c.narrow-quantile.ensures) ∙ low_in_word _ _ _ _ small (omega (arith, sized.1, g.met.M.Probability.WordOf.width_law)) sized.1 ∙ c.quantile_at-quotient.ensures in
     rw (c.widen-left.ensures, c.widen.ensures, c.widen-p.ensures, c.widen-2.ensures, c.from_nonzero-p.ensures) (rw quantile at c.quantile_function-symbol.ensures.covers.1)

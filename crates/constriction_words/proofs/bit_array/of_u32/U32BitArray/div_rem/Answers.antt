@@ -1,7 +1,7 @@
 use Rattle.std.proofs.Common.{◌^◌, ◌/◌, arith}
 use Rattle.std.proofs.lemmas.Nat.{div-add-mod', pow_pos}
 use Rattle.constriction_words.proofs.Divisions.{exact, near, of_words, one_more, within}
-use Rattle.constriction_words.proofs.bit_array.of_u32.U32BitArray.divided.Goals as goal
+use Rattle.constriction_words.proofs.bit_array.of_u32.U32BitArray.div_rem.Goals as goal
 
 pub overflow_sub-rest : goal.overflow_sub-rest
 overflow_sub-rest c =
