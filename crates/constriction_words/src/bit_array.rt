@@ -23,8 +23,9 @@ mod of_usize;
 /// every word. Generic code may rely on this law, and its callers don't have to prove it.
 ///
 /// Some methods have a condition, for example that a sum fits the type. The caller proves the condition. The compiler
-/// inlines each method as one or a few machine instructions, except [`BitArray::div_rem`], which takes about twenty.
-/// Quotients and remainders of `u128` call a function, because most machines have no instruction for them.
+/// inlines each method as one or a few machine instructions, except two. [`BitArray::div_rem`] takes about twenty, and
+/// [`BitArray::reversed_bits`] takes twelve to fifty, by the number of bits. Quotients and remainders of `u128` call a
+/// function, because most machines have no instruction for them.
 ///
 /// An implementor proves the contract of each method and three laws:
 ///

@@ -35,6 +35,7 @@
 pub mod bit_array;
 mod division;
 pub mod reciprocal;
+mod reversing;
 pub mod word_of;
 
 pub use crate::bit_array::BitArray;

@@ -6,6 +6,7 @@ ghost use Rattle.std.specs.Int.NonZero.{non_zero_u128_get};
 ghost use Rattle.constriction_words.specs.Numbers.{above_zero, below_power};
 
 use super::BitArray;
+use crate::reversing;
 use num_traits::{PrimInt, WrappingAdd, WrappingSub};
 use std::num::NonZero;
 
@@ -73,7 +74,7 @@ impl BitArray for u128 {
     }
 
     fn reversed_bits(self) -> u128 {
-        u128::reverse_bits(self)
+        reversing::reversed_longest(self)
     }
 
     fn bit_length(self) -> u32 {

@@ -6,8 +6,8 @@ ghost use Rattle.std.specs.Int.NonZero.{non_zero_u64_get};
 ghost use Rattle.constriction_words.specs.Numbers.{above_zero, below_power};
 
 use super::BitArray;
-use crate::division;
 use crate::reciprocal::Reciprocal;
+use crate::{division, reversing};
 use num_traits::{PrimInt, WrappingAdd, WrappingSub};
 use std::num::NonZero;
 
@@ -83,7 +83,7 @@ impl BitArray for u64 {
     }
 
     fn reversed_bits(self) -> u64 {
-        u64::reverse_bits(self)
+        reversing::reversed_long(self)
     }
 
     fn bit_length(self) -> u32 {

@@ -6,8 +6,8 @@ ghost use Rattle.std.specs.Int.NonZero.{non_zero_usize_get};
 ghost use Rattle.constriction_words.specs.Numbers.{above_zero, below_power};
 
 use super::BitArray;
-use crate::division;
 use crate::reciprocal::Reciprocal;
+use crate::{division, reversing};
 use num_traits::{PrimInt, WrappingAdd, WrappingSub};
 use std::num::NonZero;
 
@@ -84,7 +84,7 @@ impl BitArray for usize {
     }
 
     fn reversed_bits(self) -> usize {
-        usize::reverse_bits(self)
+        reversing::reversed_long(self as u64) as usize
     }
 
     fn bit_length(self) -> u32 {
