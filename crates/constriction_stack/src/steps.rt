@@ -101,13 +101,7 @@ pub fn pushed_onto<Word: WordOf<State>, State: BitArray, Backend: WriteWords<Wor
         Ok(()) => {}
         Err(refusal) => return Err(refusal),
     }
-    Ok(pushed(
-        head.shift_right(Word::BITS),
-        left,
-        p,
-        reciprocal,
-        precision,
-    ))
+    Ok(pushed(head.shift_right(Word::BITS), left, p, reciprocal, precision))
 }
 
 /// Encodes the symbol of the interval `[left, left + p)` onto `head`, and returns the new head.

@@ -12,10 +12,7 @@ fn mean<Word: BitArray>(first: Word, second: Word) -> Word
     ensures { Word.number result ≡ (Word.number first + Word.number second) / 2 }
 {
     let odd = first.low_bits(1).times(second.low_bits(1));
-    first
-        .shift_right(1)
-        .plus(second.shift_right(1))
-        .plus(odd)
+    first.shift_right(1).plus(second.shift_right(1)).plus(odd)
 }
 
 /// Returns a number of bits that `word` fits, computed with methods of `BitArray` and of `PrimInt`.
