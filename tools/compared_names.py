@@ -14,7 +14,7 @@ from stamps import STAMPS, Stamp, kept_stamps, put_stamps, stamps_of
 SIGNS = re.compile(r"\w[\w']*|[^\w\s]")
 COMMENT_MARKS = re.compile(r"^ *(?:///|//!|//|--)(?= |$)", re.M)
 # Sources that tools/sizes writes, with imports in the order of their names.
-WRITTEN = re.compile(r"/small|_kinds\.rt|_parts\.rt")
+WRITTEN = re.compile(r"/small|/u16|_kinds\.rt|_parts\.rt")
 PARTS = ("crates", "docs", "tests")
 ENDINGS = (".rt", ".antt", ".edits", ".txt", ".md")
 
@@ -28,8 +28,10 @@ def git(*words):
 
 def check(found, revision):
     """Prints what is another than a name, and returns the status."""
-    allowed, used, faults = set(found.pairs()), collections.Counter(), []
-    news = {new for _, new in allowed}
+    wanted, used, faults = set(found.pairs()), collections.Counter(), []
+    allowed = wanted | {it for old, new, *_ in found.texts for it in zip(signs(old), signs(new)) if it[0] != it[1]}
+    modules = {os.path.basename(new)[: -len(".rt")] for _, new in found.paths if new.endswith(".rt")}
+    news = {new for _, new in wanted} - modules  # a module may be called as a type is
     for path in git("ls-tree", "-r", "--name-only", revision, "--", *PARTS).split("\n"):
         if not path.endswith(ENDINGS):
             continue
@@ -41,7 +43,7 @@ def check(found, revision):
         faults += [f"{path}: {it} stood here already" for it in sorted(news & said_by_code(path, before))]
         other = differing(path, signs(before), signs(read(now)), allowed, used)
         faults += [f"{path}: {other}"] if other else []
-    faults += [f"{old} {new}: nothing was renamed" for old, new in sorted(allowed) if not used[old, new]]
+    faults += [f"{old} {new}: nothing was renamed" for old, new in sorted(wanted) if not used[old, new]]
     print("".join(f"{it}\n" for it in faults) + f"{sum(used.values())} names are others, {len(faults)} faults")
     return 1 if faults else 0
 
