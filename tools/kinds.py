@@ -1,5 +1,5 @@
-"""Writes two files from a file large.rt of constriction_c: functions that differ from the file's functions in a few
-texts (large_kinds.rt), and the impls of its structs (large_parts.rt).
+"""Writes two files from a file u32.rt of constriction_c: functions that differ from the file's functions in a few
+texts (u32_kinds.rt), and the impls of its structs (u32_parts.rt).
 
 A change turns one function into another: regexes, in order, each with the text that replaces its matches.
 """
@@ -114,7 +114,7 @@ HUFFMAN = {
     r"ExpGolomb::<u32>::new\(\)": "Tree { weights }",
 }
 
-# The changes of each module, with the ending of the names that they apply to. A function is from large.rt, or from an
+# The changes of each module, with the ending of the names that they apply to. A function is from u32.rt, or from an
 # earlier change.
 CODED = [
     ("(encode|decode)(_reverse)?_u32", EACH),
@@ -131,9 +131,9 @@ KINDS = {
     "range": [*CODED, ("into_compressed_u32", SELF_DELIMITED)],
     "symbol": [("queue_u32", STACK), ("exp_golomb.*", HUFFMAN)],
 }
-# Imports that the written files may need besides the imports of large.rt.
+# Imports that the written files may need besides the imports of u32.rt.
 IMPORTS = """
-ghost use Rattle.constriction_c.specs.Large.{intervals_from_u32, large_decoder, large_encoder, large_heads, narrow_from_u32};
+ghost use Rattle.constriction_c.specs.U32.{intervals_from_u32, decoder_u32, encoder_u32, heads_u32, narrow_from_u32};
 ghost use Rattle.constriction_calls.specs.AnsCalls.{AreBinary, HasBinary};
 ghost use Rattle.constriction_calls.specs.ChainWords.{InBinary, InRemainders};
 ghost use Rattle.constriction_calls.specs.RangeCalls.{IsSelfSealed};
@@ -157,9 +157,9 @@ use constriction_inputs::models::{Counts, Families, Mixtures, Rows};
 
 # For each struct: the type of constriction_calls with the same fields, and the definition of the conversion to it.
 STRUCTS = {
-    "ChainHeadsU32": ("ChainHeads<u32, u64>", "large_heads"),
-    "RangeEncoderU32": ("EncoderParts<u32, u64>", "large_encoder"),
-    "RangeDecoderU32": ("DecoderParts<u64>", "large_decoder"),
+    "ChainHeadsU32": ("ChainHeads<u32, u64>", "heads_u32"),
+    "RangeEncoderU32": ("EncoderParts<u32, u64>", "encoder_u32"),
+    "RangeDecoderU32": ("DecoderParts<u64>", "decoder_u32"),
 }
 PARTS = """impl {name} {{
     /// Returns the struct's fields as the type that the calls of `constriction_calls` take.
@@ -235,7 +235,7 @@ def listed(names, is_ghost):
     return text if len(names) == 1 else "{\n" + textwrap.indent(textwrap.fill(f"{text},", 96), " " * 4) + "\n}"
 
 
-# The description of large_kinds.rt for each module.
+# The description of u32_kinds.rt for each module.
 MORE = {
     "ans": "of the stack coder: other models, symbols of 8 and 16 bits, and words in binary form",
     "range": "of the range coder: other models, symbols of 8 and 16 bits, and self-delimiting words",
@@ -245,14 +245,14 @@ MORE = {
 
 
 def derived_files(module, text):
-    """Yields the name and the text of each file that is written from a module's large.rt with this text."""
+    """Yields the name and the text of each file that is written from a module's u32.rt with this text."""
     functions = [it for it in text.rstrip("\n").split("\n\n") if 'extern "C"' in it]
     count = len(functions)
     for end, change in KINDS.get(module, ()):
         functions += [changed(it, change) for it in functions if re.search(rf"fn \w*{end}\(", it)]
     structs = dict(re.findall(r"pub struct (\w+) \{\n(.*?)\n\}", text, re.S))
     given = [it for it in IMPORTS.split("\n") if "constriction_calls::" not in it or f"::{module}::" in it]
-    given += [f"use crate::{module}::large::{{{', '.join(structs)}}};"] if structs else []
+    given += [f"use crate::{module}::u32::{{{', '.join(structs)}}};"] if structs else []
     written = {
         "kinds": (f"More C functions {MORE.get(module)}.", functions[count:]),
         "parts": (
@@ -263,4 +263,4 @@ def derived_files(module, text):
     for name, (says, items) in written.items():
         body = "\n\n".join(items)
         if items:
-            yield f"large_{name}.rt", f"//! {says}\n\n{imports(text + chr(10).join(given), body)}\n\n{body}\n"
+            yield f"u32_{name}.rt", f"//! {says}\n\n{imports(text + chr(10).join(given), body)}\n\n{body}\n"

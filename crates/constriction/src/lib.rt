@@ -152,7 +152,7 @@
 //!   type.
 //! - [`symbol::huffman::EncoderHuffmanTree`], [`symbol::huffman::DecoderHuffmanTree`]: the Huffman codebook of weights,
 //!   for encoding and for decoding. [`symbol::huffman::HuffmanError`] is the error of weights that make no tree.
-//! - [`symbol::reversed_codeword`]: a function that emits a codeword from its first bit to its last. The codebook emits
+//! - [`symbol::reverse_codeword`]: a function that emits a codeword from its first bit to its last. The codebook emits
 //!   the codeword from the last bit to the first ([`symbol::SuffixCodebook`]). The function reverses the bits with a
 //!   [`symbol::SmallBitStack`].
 //!
@@ -290,7 +290,7 @@ pub mod symbol {
     pub use constriction_symbol::iterators::{DecodeSymbols, RepeatCodebook};
     pub use constriction_symbol::queue::{DefaultQueueDecoder, QueueDecoder};
     pub use constriction_symbol::reading::ReadBitStream;
-    pub use constriction_symbol::reversed::{SuffixCodebook, reversed_codeword};
+    pub use constriction_symbol::reversed::{SuffixCodebook, reverse_codeword};
     pub use constriction_symbol::writing::WriteBitStream;
 
     pub mod exp_golomb {

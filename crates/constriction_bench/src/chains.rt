@@ -1,11 +1,11 @@
 //! The measured loops of the chain coder.
 //!
-//! The loops are inlined into functions of `large` and `small`, which are generic in the model. These functions aren't
+//! The loops are inlined into functions of `u32` and `u16`, which are generic in the model. These functions aren't
 //! inlined, so that no constant of a caller changes the code of a loop. Decodes take models by value, so that a model's
 //! fields can stay in registers. Encodes take them by reference, because they need the registers for more numbers.
 
-pub mod large;
-pub mod small;
+pub mod u32;
+pub mod u16;
 
 use constriction_base::backends::{ReadWords, Stack, WriteWords};
 use constriction_base::model::{DecoderModel, EncoderModel, EntropyModel};

@@ -12,9 +12,9 @@
 //! - `runs`: the measured loops of the stack coder.
 //! - `flat`, `lookup`, `bucket`: models that take little time, so that a measurement shows the coder's own time.
 //! - `starts`: the list of interval starts that `lookup` and `bucket` keep.
-//! - `large`: the cases of the stack coder with words of 32 bits, states of 64 bits and a precision of 24 bits.
-//! - `small`: the same cases with words of 16 bits, states of 32 bits and a precision of 12 bits.
-//! - `rows`: the case of the library's lookup model, at the sizes of `small`.
+//! - `u32`: the cases of the stack coder with words of 32 bits, states of 64 bits and a precision of 24 bits.
+//! - `u16`: the same cases with words of 16 bits, states of 32 bits and a precision of 12 bits.
+//! - `rows`: the case of the library's lookup model, at the sizes of `u16`.
 //! - `ranges`: the measured loops of the range coder, and its cases at both sizes.
 //! - `chains`: the measured loops of the chain coder, and its cases at both sizes.
 //! - `bits`: the cases of bit coders, with words of 32 bits.
@@ -26,10 +26,10 @@ mod bucket;
 pub mod chains;
 pub mod codewords;
 mod flat;
-pub mod large;
+pub mod u32;
 mod lookup;
 pub mod ranges;
 pub mod rows;
 mod runs;
-pub mod small;
+pub mod u16;
 mod starts;

@@ -1,4 +1,4 @@
 pub mod Codes
-pub mod Large
-pub mod Small
+pub mod U32
+pub mod U16
 pub mod Words

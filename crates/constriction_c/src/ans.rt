@@ -2,7 +2,7 @@
 //!
 //! The module [`constriction_calls::ans`] has the calls, and explains their arguments and errors.
 
-mod large;
-mod large_kinds;
-mod small;
-mod small_kinds;
+mod u32;
+mod u32_kinds;
+mod u16;
+mod u16_kinds;

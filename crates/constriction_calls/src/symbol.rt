@@ -84,7 +84,7 @@ pub trait Codes {
     /// - `WrongWeights`: the weights make no Huffman tree of at most `2^62 - 1` symbols.
     /// - `ImpossibleSymbol`: a symbol has no codeword.
     /// - `NoMemory`: the call returns this error in all other cases.
-    fn refused(&self, symbols: &[Self::Symbol]) -> Refusal
+    fn encode_refusal(&self, symbols: &[Self::Symbol]) -> Refusal
         ensures { SymbolEncodeFails number (book self.now) symbols.now result };
 
     /// Creates the codebook for decoding.

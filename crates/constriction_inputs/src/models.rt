@@ -65,8 +65,8 @@ pub trait ModelList<P: BitArray, const PRECISION: usize>: Drop {
 
 /// The models of a list of symbols to decode, with one model for each symbol.
 ///
-/// A caller selects an index of the list with `turn_to`, and `model` then returns the model at that index. So an
-/// implementor can keep a single model in memory, and change it at each `turn_to`. The implementor defines the list of
+/// A caller selects an index of the list with `select`, and `model` then returns the model at that index. So an
+/// implementor can keep a single model in memory, and change it at each `select`. The implementor defines the list of
 /// the models' tables (`tables`). It proves that `model` returns a model with the table at the selected index.
 pub trait DecoderModelList<P: BitArray, const PRECISION: usize>: Drop {
     /// The type of the models.
@@ -79,12 +79,12 @@ pub trait DecoderModelList<P: BitArray, const PRECISION: usize>: Drop {
     ghost turned_to: { Self → ℕ };
 
     /// Selects the model at index `place`. The caller proves that the list has that index. The call needs no memory.
-    fn turn_to(&mut self, place: usize)
+    fn select(&mut self, place: usize)
         requires { place < length (tables self.now) }
         ensures place { turned_to self.new ≡ place }
         ensures tables { tables self.new ≡ tables self.old };
 
-    /// Returns the model at the index that the last call of `turn_to` selected.
+    /// Returns the model at the index that the last call of `select` selected.
     ///
     /// The caller proves that an index of the list is selected.
     fn model(&self) -> &Self::Model
@@ -210,7 +210,7 @@ impl<
     ghost turned_to = { λ one. one.place };
 
     #[inline]
-    fn turn_to(&mut self, place: usize) {
+    fn select(&mut self, place: usize) {
         self.place = place;
     }
 
@@ -227,7 +227,7 @@ impl<
 /// ```
 /// let rows = Rows { weights: &[255u8, 1, 128, 128], width: 2 };
 /// if let Some(mut list) = DecoderModels::<u8, 8>::decoder_list(&rows, alloc, 2) {
-///     DecoderModelList::<u8, 8>::turn_to(&mut list, 1);
+///     DecoderModelList::<u8, 8>::select(&mut list, 1);
 ///     DecoderModelList::<u8, 8>::model(&list).quantile_function(255) // (1, 128, 128)
 /// }
 /// ```
@@ -249,7 +249,7 @@ impl<
     ghost turned_to = { λ each. each.place };
 
     #[inline]
-    fn turn_to(&mut self, place: usize) {
+    fn select(&mut self, place: usize) {
         self.place = place;
     }
 

@@ -6,7 +6,7 @@ use Rattle.std.proofs.lemmas.Int.Digits.{length-digits_of-le, number_lt, number_
 use Rattle.std.specs.Int.Digits.{digits_of, number_from_digits}
 use Rattle.constriction_base.specs.Steps.{Step, IsStep, AreSteps, Trace, IsSizes, AreWords}
 use Rattle.constriction_base.specs.Digits.{fixed_digits}
-use Rattle.constriction_stack.specs.Ans.{AnsState, IsNormalized, refilled, popped_head, IsNext, pop, IsPush, empty, exported}
+use Rattle.constriction_stack.specs.Ans.{AnsState, IsNormalized, refilled, pop_head, IsNext, pop, IsPush, empty, exported}
 use Rattle.constriction_queue.specs.Range.{Run, initial, scale, cut, narrowed_by, run, IsInterval, sealed, seal_number}
 use Rattle.constriction_laws.specs.Bounds.{product, spare, share, rounded_whole, Act, Encode, Decode, AreAllowed, Acts, net_share, net_whole}
 use Rattle.constriction_base.proofs.Sizes.{Facts, facts, table_divides, pow-mul}
@@ -254,8 +254,8 @@ by_refill w s head (u ∷ us) P stays takes = elim (cases_lt head (2 ^ (s - w)))
 ]
 
 module _ (w s : ℕ) (e : Step) (z : IsSizes w s) (h : IsStep w e) where
-  pop_words : (x : AnsState) (ws : List ℕ) → x.words ≡ ws → AreWords w ws → IsNext e x → 2 ^ (s - w) ≤ (refilled w s (popped_head e x) ws).head →
-      potential w s (refilled w s (popped_head e x) ws) * decoded_share w s e ≤ max x.head (2 ^ (s - w)) * (2 ^ w) ^ length ws * decoded_whole w s e
+  pop_words : (x : AnsState) (ws : List ℕ) → x.words ≡ ws → AreWords w ws → IsNext e x → 2 ^ (s - w) ≤ (refilled w s (pop_head e x) ws).head →
+      potential w s (refilled w s (pop_head e x) ws) * decoded_share w s e ≤ max x.head (2 ^ (s - w)) * (2 ^ w) ^ length ws * decoded_whole w s e
   pop_words x ws is small i =
       let q : ℕ = 2 ^ (s - w) in
       let b : ℕ = 2 ^ w in
@@ -263,19 +263,19 @@ module _ (w s : ℕ) (e : Step) (z : IsSizes w s) (h : IsStep w e) where
       let f : ℕ = max x.head q in
       let c : ℕ = suc (x.head / n) * e.p in
       let least : 2 ^ (s - w - e.precision) * n ≤ f = omega (arith, le-max_right x.head q, table_divides w s e z h) in
-      let part : popped_head e x < c = omega (arith, i.below, i.from) in
+      let part : pop_head e x < c = omega (arith, i.below, i.from) in
       let whole : c * decoded_share w s e ≤ f * decoded_whole w s e =
       pop_bound c (x.head / n) x.head f e.p n (spare w s e) (omega arith) (div-mul-le_self x.head n) (le-max_left x.head q) least in
-      by_refill w s (popped_head e x) ws (λ y. q ≤ y.head → potential w s y * decoded_share w s e ≤ f * b ^ length ws * decoded_whole w s e)
+      by_refill w s (pop_head e x) ws (λ y. q ≤ y.head → potential w s y * decoded_share w s e ≤ f * b ^ length ws * decoded_whole w s e)
       (λ full.
-      let one : popped_head e x * decoded_share w s e ≤ c * decoded_share w s e = mul-le-mul_right (decoded_share w s e) (omega (arith, part)) in
-      let all : popped_head e x * decoded_share w s e * b ^ length ws ≤ f * decoded_whole w s e * b ^ length ws = mul-le-mul_right (b ^ length ws) (le_trans one whole) in
+      let one : pop_head e x * decoded_share w s e ≤ c * decoded_share w s e = mul-le-mul_right (decoded_share w s e) (omega (arith, part)) in
+      let all : pop_head e x * decoded_share w s e * b ^ length ws ≤ f * decoded_whole w s e * b ^ length ws = mul-le-mul_right (b ^ length ws) (le_trans one whole) in
       rw (max-eq_left full) (omega (arith, all)))
       (λ u us made full.
       let below : u < b = (rw made at small).0 in
-      let one : (popped_head e x * b + u) * decoded_share w s e ≤ f * b * decoded_whole w s e =
-      refill_bound (popped_head e x) u b c f n e.p (spare w s e) below part whole in
-      let all : (popped_head e x * b + u) * decoded_share w s e * b ^ length us ≤ f * b * decoded_whole w s e * b ^ length us = mul-le-mul_right (b ^ length us) one in
+      let one : (pop_head e x * b + u) * decoded_share w s e ≤ f * b * decoded_whole w s e =
+      refill_bound (pop_head e x) u b c f n e.p (spare w s e) below part whole in
+      let all : (pop_head e x * b + u) * decoded_share w s e * b ^ length us ≤ f * b * decoded_whole w s e * b ^ length us = mul-le-mul_right (b ^ length us) one in
       rw (max-eq_left full, made, pow-suc b (length us)) (omega (arith, all)))
 
   pop_step : (x : AnsState) → IsNormalized w s x → IsNext e x → 2 ^ (s - w) ≤ (pop w s e x).head →

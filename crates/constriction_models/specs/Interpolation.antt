@@ -31,10 +31,10 @@ value_beyond values wide rate (pos far) = value_above values wide rate far
 value_beyond values wide rate (negsuc _) = 0
 
 -- The value at a place, for a table of width `wide` around `middle`.
-unfoldable pub located : List ℕ → ℕ → ℕ → ℤ → ℤ → ℕ
-located values wide rate middle place = value_beyond values wide rate (place -ℤ middle +ℤ pos (wide / 2))
+unfoldable pub interpolate : List ℕ → ℕ → ℕ → ℤ → ℤ → ℕ
+interpolate values wide rate middle place = value_beyond values wide rate (place -ℤ middle +ℤ pos (wide / 2))
 
 -- The distribution function with a location and a scale, both in multiples of 2 ^ -16. The table is `width` scales
 -- wide.
 unfoldable pub scaled : List ℕ → ℕ → ℤ → ℕ → ℤ → ℕ
-scaled values width location scale = located values (width * scale) (9223372036854775808 / width / scale) location
+scaled values width location scale = interpolate values (width * scale) (9223372036854775808 / width / scale) location

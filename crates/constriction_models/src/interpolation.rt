@@ -4,7 +4,7 @@
 //! of the Gaussian are 1/128 of a standard deviation apart. A spacing of 1/32 would cost 2e-6 more bits per symbol.
 
 ghost use Rattle.std.specs.Prelude.{◌≡◌, ◌+◌, ◌-◌, ◌*◌, ◌/◌, ◌<◌, ◌≤◌, length, ℤ, pos, ◌+ℤ◌, ◌-ℤ◌};
-ghost use Rattle.constriction_models.specs.Interpolation.{AreValues, value_at, located};
+ghost use Rattle.constriction_models.specs.Interpolation.{AreValues, value_at, interpolate};
 ghost use Rattle.constriction_models.specs.laws.Interpolating.{Fits};
 
 /// Returns the interpolated value at `place`, the distance from the first value in 65536ths of the table's spacing.
@@ -37,10 +37,10 @@ fn far_above(wide: u64, middle: i64, place: i64) -> i128
 /// `wide`, `middle` and `place` are in units of `2^-16`. Multiplying a distance by `rate / 2^36` converts it from these
 /// units to 65536ths of the table's spacing. The value is 0 below the table, and `2^32` above it.
 #[inline(always)]
-pub fn located(values: &[u64], wide: u64, rate: u64, middle: i64, place: i64) -> u64
+pub fn interpolate(values: &[u64], wide: u64, rate: u64, middle: i64, place: i64) -> u64
     requires values { AreValues values.now }
     requires fits { Fits wide rate }
-    ensures { result ≡ located values.now wide rate middle place }
+    ensures { result ≡ interpolate values.now wide rate middle place }
 {
     let far = far_above(wide, middle, place);
     if far < 0 {
@@ -77,7 +77,7 @@ fn place_of(places: &[u32], below: u64) -> u64
 /// table's start, in 65536ths of the table's spacing. The table spans the width `wide` around `middle`.
 /// `wide`, `middle` and the result are in units of `2^-16`. The result is limited to the range from `-2^51` to `2^51`.
 #[inline(always)]
-pub fn guessed(places: &[u32], wide: u64, middle: i64, below: u64) -> i64
+pub fn guess_place(places: &[u32], wide: u64, middle: i64, below: u64) -> i64
     requires count { length places.now ≡ 1025 }
     requires fits { wide ≤ 274877906944 }
 {

@@ -7,7 +7,7 @@ ghost use Rattle.constriction_models.specs.Interpolation.{AreValues, scaled};
 ghost use Rattle.constriction_models.specs.laws.Interpolating.{scaled_is_distribution};
 
 use crate::distribution::CumulativeDistribution;
-use crate::interpolation::{guessed, located};
+use crate::interpolation::{guess_place, interpolate};
 pub use scale::Scale;
 pub(crate) use scale::inverse_of;
 use std::alloc::AllocError;
@@ -111,12 +111,12 @@ impl<D: StandardDistribution> CumulativeDistribution for LocationScale<D> {
     #[inline(always)]
     fn cumulative(&self, place: i64) -> u64 {
         let wide = D::WIDTH * self.scale as u64;
-        located(D::table(), wide, self.rate, self.location, place)
+        interpolate(D::table(), wide, self.rate, self.location, place)
     }
 
     #[inline(always)]
     fn guess(&self, below: u64) -> i64 {
         let wide = D::WIDTH * self.scale as u64;
-        guessed(D::guesses(), wide, self.location, below)
+        guess_place(D::guesses(), wide, self.location, below)
     }
 }

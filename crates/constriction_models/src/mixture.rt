@@ -221,7 +221,7 @@ impl<'a, D: CumulativeDistribution> CumulativeDistribution for Mixture<'a, D> {
             }
             least = least.min(place);
             greatest = greatest.max(place);
-            all = all.wrapping_add(one.weight as u128 * clamped(place, first) as u128);
+            all = all.wrapping_add(one.weight as u128 * clamp_distance(place, first) as u128);
         }
         if greatest.saturating_sub(least) > FAR && self.components.len() <= FEW {
             return self
@@ -244,7 +244,7 @@ const FEW: usize = 8;
 ///
 /// `2^31` is the distance of 32768 symbols.
 #[inline(always)]
-fn clamped(place: i64, middle: i64) -> u64
+fn clamp_distance(place: i64, middle: i64) -> u64
     ensures { result ≤ 4294967296 }
 {
     let from = place.saturating_sub(middle);

@@ -151,7 +151,7 @@ impl<
 
     /// Returns `2 ^ PRECISION` minus the number of symbols.
     #[inline(always)]
-    fn free(&self) -> u64
+    fn spare_quantiles(&self) -> u64
         ensures { result ≡ 2 ^ PRECISION - self.now.quantizer.count }
     {
         (1u64 << PRECISION as u32) - self.quantizer.count
@@ -166,7 +166,7 @@ impl<
         ensures { result ≡ start_of PRECISION
             (D.below self.now.distribution) self.now.quantizer.min self.now.quantizer.count k }
     {
-        self.free() * self.below(k) / 4294967296 + k
+        self.spare_quantiles() * self.below(k) / 4294967296 + k
     }
 
     /// Returns the symbol that lies `k` above the first symbol of the range.
@@ -185,7 +185,7 @@ impl<
     /// The caller proves that `quantile` is below `2 ^ PRECISION`. The estimate may be wrong, and may lie above the
     /// last symbol.
     #[inline(always)]
-    fn near(&self, quantile: u64) -> u64
+    fn estimate(&self, quantile: u64) -> u64
         requires { quantile < 2 ^ PRECISION }
         ensures { result < 4294967296 }
     {
@@ -282,7 +282,7 @@ impl<D: CumulativeDistribution, Probability: WordOf<u32>, const PRECISION: usize
         let mut left = 0;
         let mut high = self.quantizer.count;
         let mut end = 1u64 << PRECISION as u32;
-        let mut probe = self.near(quantile);
+        let mut probe = self.estimate(quantile);
         while high - low > 1 {
             let middle = between(low, high, probe);
             let start = self.start(middle);

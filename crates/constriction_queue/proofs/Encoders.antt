@@ -6,7 +6,7 @@ use Rattle.std.specs.Int.NonZero.{non_zero_usize_get}
 use Rattle.constriction_base.specs.Steps.{IsSizes, AreWords}
 use Rattle.constriction_base.specs.declared.backends.reading.Holds as holding
 use Rattle.constriction_queue.specs.declared.situation.EncoderSituation.{EncoderSituation}
-use Rattle.constriction_queue.specs.declared.situation.HeldWords.{HeldWords}
+use Rattle.constriction_queue.specs.declared.situation.ReleasedWords.{ReleasedWords}
 use Rattle.constriction_queue.specs.Encoder.{IsEncoder, PartsFit, encoder_of, number_of, released_of, run_of, word_of}
 use Rattle.constriction_queue.proofs.Seals.{words_held_fit}
 
@@ -18,13 +18,13 @@ is_encoder number holds w s lower range bulk situation sizes fits least lower_fi
     record { sizes = sizes; words_are = refl; situation = situation; held_is = refl; fits = fits; least = least; lower_fits = lower_fits; range_fits = range_fits }
 
 -- words that were held are words
-released_are_words : {Word : Type 0} (number : Word → ℕ) (w : ℕ) (law : (x : Word) → number x < 2 ^ w) (released : Option (HeldWords Word)) (ws : List ℕ)
+released_are_words : {Word : Type 0} (number : Word → ℕ) (w : ℕ) (law : (x : Word) → number x < 2 ^ w) (released : Option (ReleasedWords Word)) (ws : List ℕ)
     → AreWords w ws → AreWords w (released_of number released ++ ws)
 released_are_words number w law None ws all = all
 released_are_words number w law (Some h) ws all = words_held_fit w (number h.others) (non_zero_usize_get h.count) (number h.first) ws (law h.others) (law h.first) all
 
 -- and so are those that a step owes
-pub owed_are_words : {Word : Type 0} (number : Word → ℕ) (w : ℕ) (law : (x : Word) → number x < 2 ^ w) (released : Option (HeldWords Word)) (top : Option Word)
+pub owed_are_words : {Word : Type 0} (number : Word → ℕ) (w : ℕ) (law : (x : Word) → number x < 2 ^ w) (released : Option (ReleasedWords Word)) (top : Option Word)
     → AreWords w (word_of number top ++ released_of number released)
 owed_are_words number w law released None = rw (← append-nil (released_of number released)) (released_are_words number w law released [] tt)
 owed_are_words number w law released (Some x) = (law x, rw (← append-nil (released_of number released)) (released_are_words number w law released [] tt))

@@ -3,7 +3,7 @@ use Rattle.std.specs.Prelude.{replicate}
 use Rattle.std.proofs.Common.{◌≡◌, ℕ, zero, suc, ◌-◌, List, [], ◌∷◌, ◌++◌, Option, None, Some, map, reverse, drop, length, refl, sym, ap, ◌∙◌, arith, append_assoc}
 use Rattle.std.proofs.lemmas.List.{length-reverse, reverse-append, reverse-reverse}
 use Rattle.std.specs.Int.NonZero.{non_zero_usize_get}
-use Rattle.constriction_queue.specs.declared.situation.HeldWords.{HeldWords}
+use Rattle.constriction_queue.specs.declared.situation.ReleasedWords.{ReleasedWords}
 use Rattle.constriction_queue.specs.Encoder.{pending_in_order, flushed_in_order, flushed_of, released_of, word_of}
 use Rattle.constriction_base.proofs.Turns.{map-reverse}
 use Rattle.std.proofs.Math.Seq.{drop-append_seam}
@@ -17,7 +17,7 @@ reverse_same : (x k : ℕ) → reverse (replicate k x) ≡ replicate k x
 reverse_same x zero = refl
 reverse_same x (suc k) = reverse-append (x ∷ []) (replicate k x) ∙ ap (λ (ws : List ℕ). ws ++ (x ∷ [])) (reverse_same x k) ∙ one_behind x k
 
-turned_held : {Word : Type 0} (number : Word → ℕ) (held : Option (HeldWords Word)) → reverse (released_of number held) ≡ pending_in_order number held
+turned_held : {Word : Type 0} (number : Word → ℕ) (held : Option (ReleasedWords Word)) → reverse (released_of number held) ≡ pending_in_order number held
 turned_held number None = refl
 turned_held number (Some h) =
     reverse-append (replicate (non_zero_usize_get h.count - 1) (number h.others)) (number h.first ∷ [])
@@ -28,7 +28,7 @@ turned_word number None = refl
 turned_word number (Some x) = refl
 
 -- what is owed, the other way round
-pub turned_owed : {Word : Type 0} (number : Word → ℕ) (held : Option (HeldWords Word)) (top last : Option Word)
+pub turned_owed : {Word : Type 0} (number : Word → ℕ) (held : Option (ReleasedWords Word)) (top last : Option Word)
     → reverse (flushed_of number held top last) ≡ flushed_in_order number held top last
 turned_owed number held top last =
     let two : reverse (word_of number top ++ released_of number held) ≡ pending_in_order number held ++ word_of number top =
@@ -41,7 +41,7 @@ turned_owed number held top last =
     ∙ append_assoc (pending_in_order number held) (word_of number top) (word_of number last)
 
 -- the words that a backend lends, and behind them what is owed
-pub shown_is : {Word : Type 0} (number : Word → ℕ) (words lent : List Word) (held : Option (HeldWords Word)) (top last : Option Word) (all : List ℕ) → words ≡ reverse lent
+pub shown_is : {Word : Type 0} (number : Word → ℕ) (words lent : List Word) (held : Option (ReleasedWords Word)) (top last : Option Word) (all : List ℕ) → words ≡ reverse lent
     → reverse (flushed_of number held top last ++ map number words) ≡ all
     → map number lent ++ flushed_in_order number held top last ≡ all
 shown_is number words lent held top last all is sealed_is =
@@ -61,7 +61,7 @@ pub queue_is : {Word : Type 0} (number : Word → ℕ) {queue : List Word} (stac
 queue_is number stack is sealed_is = ap (map number) is ∙ map-reverse number stack ∙ sealed_is
 
 -- behind the words written stands in the sealed ones what is owed
-pub behind_written : {Word : Type 0} (number : Word → ℕ) (held : Option (HeldWords Word)) (top last : Option Word) (ws all : List ℕ)
+pub behind_written : {Word : Type 0} (number : Word → ℕ) (held : Option (ReleasedWords Word)) (top last : Option Word) (ws all : List ℕ)
     → reverse (flushed_of number held top last ++ ws) ≡ all → flushed_in_order number held top last ≡ drop (length ws) all
 behind_written number held top last ws all is =
     sym (turned_owed number held top last)

@@ -6,7 +6,7 @@ use Rattle.constriction_base.specs.Steps.{Step, IsSizes, AreWords}
 use Rattle.constriction_base.specs.declared.backends.reading.Holds as holding
 use Rattle.constriction_queue.specs.declared.situation.EncoderSituation.{EncoderSituation}
 use Rattle.constriction_queue.specs.declared.situation.EncoderSituation.TheVariants.{Normal, Inverted}
-use Rattle.constriction_queue.specs.declared.situation.HeldWords.{HeldWords}
+use Rattle.constriction_queue.specs.declared.situation.ReleasedWords.{ReleasedWords}
 use Rattle.constriction_queue.specs.declared.step.Part.{Part}
 use Rattle.constriction_queue.specs.declared.step.Shifted.{Shifted}
 use Rattle.constriction_queue.specs.Range.{Run, cut, grown, narrowed_by, sealed}
@@ -118,8 +118,8 @@ CanHoldMore (Inverted count first) = non_zero_usize_get count + 18 < 2 ^ 64
 
 -- ---- words that a call has to write
 
--- The words of a `HeldWords`, which are no longer pending.
-abbrev pub released_of : {Word : Type 0} → (Word → ℕ) → Option (HeldWords Word) → List ℕ
+-- The words of a `ReleasedWords`, which are no longer pending.
+abbrev pub released_of : {Word : Type 0} → (Word → ℕ) → Option (ReleasedWords Word) → List ℕ
 released_of number None = []
 released_of number (Some h) = repeated_words (number h.others) (non_zero_usize_get h.count) (number h.first)
 
@@ -129,16 +129,16 @@ word_of number None = []
 word_of number (Some w) = number w ∷ []
 
 -- All words that a call has to write. In writing order, the words of `released` come first, then `top`, then `last`.
-abbrev pub flushed_of : {Word : Type 0} → (Word → ℕ) → Option (HeldWords Word) → Option Word → Option Word → List ℕ
+abbrev pub flushed_of : {Word : Type 0} → (Word → ℕ) → Option (ReleasedWords Word) → Option Word → Option Word → List ℕ
 flushed_of number released top last = word_of number last ++ (word_of number top ++ released_of number released)
 
--- The words of a `HeldWords` in writing order.
-abbrev pub pending_in_order : {Word : Type 0} → (Word → ℕ) → Option (HeldWords Word) → List ℕ
+-- The words of a `ReleasedWords` in writing order.
+abbrev pub pending_in_order : {Word : Type 0} → (Word → ℕ) → Option (ReleasedWords Word) → List ℕ
 pending_in_order number None = []
 pending_in_order number (Some h) = number h.first ∷ replicate (non_zero_usize_get h.count - 1) (number h.others)
 
 -- The words of `flushed_of` in writing order.
-abbrev pub flushed_in_order : {Word : Type 0} → (Word → ℕ) → Option (HeldWords Word) → Option Word → Option Word → List ℕ
+abbrev pub flushed_in_order : {Word : Type 0} → (Word → ℕ) → Option (ReleasedWords Word) → Option Word → Option Word → List ℕ
 flushed_in_order number released top last = pending_in_order number released ++ (word_of number top ++ word_of number last)
 
 -- The step has to write the words `owed`. With them and with this situation and interval, the encoder has the run after
@@ -171,7 +171,7 @@ pub record IsCarried (w : ℕ) (carry : Bool) (old new : List ℕ) : Type 0 wher
   pub fit : AreWords w new
 
 -- The released words are the pending words with the carry added, for every list of words written earlier.
-abbrev pub ReleasesPending : {Word : Type 0} → (Word → ℕ) → ℕ → Bool → EncoderSituation Word → Option (HeldWords Word) → Type 0
+abbrev pub ReleasesPending : {Word : Type 0} → (Word → ℕ) → ℕ → Bool → EncoderSituation Word → Option (ReleasedWords Word) → Type 0
 ReleasesPending number w carry situation released = (words : List ℕ) → AreWords w words → IsCarried w carry (pending_of number w situation ++ words) (released_of number released ++ words)
 
 -- If no word is pending, there is no carry. Otherwise the first pending word isn't all ones, so it can take a carry.

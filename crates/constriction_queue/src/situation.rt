@@ -38,7 +38,7 @@ impl<Word> Default for EncoderSituation<Word> {
 ///
 /// `count` is the number of words, and `first` is the first word. Each other word equals `others`.
 #[derive(Drop, Debug, Clone, Copy)]
-pub struct HeldWords<Word> {
+pub struct ReleasedWords<Word> {
     pub count: NonZeroUsize,
     pub first: Word,
     pub others: Word,

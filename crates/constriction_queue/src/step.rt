@@ -8,7 +8,7 @@ ghost use Rattle.constriction_queue.specs.Encoder.{pending_of, released_of, word
 ghost use Rattle.constriction_queue.specs.Encoder.{CutsRun, GrowsRun, CanHoldMore, PartsFit};
 ghost use Rattle.constriction_queue.specs.Calls.{EncodesAtInterval};
 
-use crate::situation::{EncoderSituation, HeldWords, nonzero_count};
+use crate::situation::{EncoderSituation, ReleasedWords, nonzero_count};
 use crate::writing::write_step;
 use constriction_base::backends::{Holds, Stack, WriteWords};
 use constriction_words::{BitArray, WordOf};
@@ -27,19 +27,19 @@ pub fn reaches_over<State: BitArray>(lower: State, range: State) -> bool
 /// There are `count` pending words. The first is `first`, and each other word is all ones. The caller proves that
 /// `first` isn't all ones.
 #[inline]
-pub fn carried<Word: BitArray>(count: NonZeroUsize, first: Word, carry: bool) -> HeldWords<Word>
+pub fn add_carry<Word: BitArray>(count: NonZeroUsize, first: Word, carry: bool) -> ReleasedWords<Word>
     requires { Word.number first + 1 < 2 ^ Word.BITS }
     ensures { released_of Word.number (Some result)
         ≡ words_with_carry Word.BITS carry (non_zero_usize_get count) (Word.number first) }
 {
     if carry {
-        HeldWords {
+        ReleasedWords {
             count,
             first: first.plus(Word::unit()),
             others: Word::nothing(),
         }
     } else {
-        HeldWords {
+        ReleasedWords {
             count,
             first,
             others: Word::greatest(),
@@ -53,14 +53,14 @@ pub struct Part<Word, State> {
     pub lower: State,
     pub range: State,
     pub situation: EncoderSituation<Word>,
-    pub released: Option<HeldWords<Word>>,
+    pub released: Option<ReleasedWords<Word>>,
 }
 
 /// Returns a symbol's part of an interval. The symbol has the quantiles `[left, left + p)`.
 ///
 /// The result also contains the pending words that no later carry can change (`released`).
 #[inline(always)]
-pub fn narrowed<Word: WordOf<State>, State: BitArray>(
+pub fn narrow_interval<Word: WordOf<State>, State: BitArray>(
     lower: State,
     range: State,
     situation: EncoderSituation<Word>,
@@ -105,7 +105,7 @@ pub fn narrowed<Word: WordOf<State>, State: BitArray>(
                 lower: start,
                 range: part,
                 situation: EncoderSituation::Normal,
-                released: Some(carried(count, first, start.is_below(lower))),
+                released: Some(add_carry(count, first, start.is_below(lower))),
             }
         }
     }
@@ -202,7 +202,7 @@ pub fn step_onto<Word: WordOf<State>, State: BitArray, Backend: WriteWords<Word>
         lower range situation (step_of precision (State.number left) (State.number p))
         bulk.old result bulk.new }
 {
-    let part = narrowed(lower, range, situation, left, p, precision);
+    let part = narrow_interval(lower, range, situation, left, p, precision);
     let after = grow(part.lower, part.range, part.situation);
     write_step(bulk, part.released, after.top)?;
     Ok(after)

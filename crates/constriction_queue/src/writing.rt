@@ -1,21 +1,21 @@
 //! Writing words to a backend.
 //!
 //! Most steps write at most one word. [`write_step`] is inlined, with the code for a step that releases at most one
-//! pending word. If a step releases several pending words, `write_step` calls [`write_owed`], which isn't inlined. So an
+//! pending word. If a step releases several pending words, `write_step` calls [`flush_words`], which isn't inlined. So an
 //! encode usually makes no call, except when a vector grows.
 
 ghost use Rattle.std.specs.Prelude.{◌≡◌, ◌+◌, ◌<◌, ◌≤◌, ◌^◌, ◌++◌, ◌∷◌, ◌⊎◌, [], None, Some, length, IfErr};
 ghost use Rattle.constriction_base.specs.Writing.{Appends, WritesAll};
 ghost use Rattle.constriction_queue.specs.Encoder.{released_of, word_of, flushed_of};
 
-use crate::situation::HeldWords;
+use crate::situation::ReleasedWords;
 use constriction_base::backends::{Holds, Stack, WriteWords};
 use constriction_words::BitArray;
 
 /// Writes the words of `held`.
-fn write_held<Word: BitArray, Backend: WriteWords<Word>>(
+fn write_run<Word: BitArray, Backend: WriteWords<Word>>(
     bulk: &mut Backend,
-    held: HeldWords<Word>,
+    held: ReleasedWords<Word>,
 ) -> Result<(), Backend::WriteError>
     ensures { WritesAll Word.number Backend.Holds Backend.WriteWords.own
         (released_of Word.number (Some held)) bulk.old result bulk.new }
@@ -30,13 +30,13 @@ fn write_held<Word: BitArray, Backend: WriteWords<Word>>(
 /// Writes the words of `held`, if there are any.
 fn write_released<Word: BitArray, Backend: WriteWords<Word>>(
     bulk: &mut Backend,
-    held: Option<HeldWords<Word>>,
+    held: Option<ReleasedWords<Word>>,
 ) -> Result<(), Backend::WriteError>
     ensures { WritesAll Word.number Backend.Holds Backend.WriteWords.own
         (released_of Word.number held) bulk.old result bulk.new }
 {
     match held {
-        Some(held) => write_held(bulk, held),
+        Some(held) => write_run(bulk, held),
         None => Ok(()),
     }
 }
@@ -58,7 +58,7 @@ fn write_word<Word: BitArray, Backend: WriteWords<Word>>(
 
 /// Returns the number of words of `held`.
 #[inline]
-fn held_count<Word: BitArray>(held: &Option<HeldWords<Word>>) -> usize
+fn released_count<Word: BitArray>(held: &Option<ReleasedWords<Word>>) -> usize
     ensures { result ≡ length (released_of Word.number held.now) }
 {
     match held {
@@ -81,15 +81,15 @@ fn count_in<Word: BitArray>(word: &Option<Word>) -> usize
 
 /// Returns the number of words of `held`, `top` and `last` together.
 #[inline]
-pub fn owed_count<Word: BitArray>(
-    held: &Option<HeldWords<Word>>,
+pub fn flushed_count<Word: BitArray>(
+    held: &Option<ReleasedWords<Word>>,
     top: &Option<Word>,
     last: &Option<Word>,
 ) -> usize
     requires { length (released_of Word.number held.now) + 2 < 2 ^ 64 }
     ensures { result ≡ length (flushed_of Word.number held.now top.now last.now) }
 {
-    held_count(held) + count_in(top) + count_in(last)
+    released_count(held) + count_in(top) + count_in(last)
 }
 
 /// Writes the words of `held`, then `top`, then `last`, then the words of `behind`. Skips each `None`.
@@ -98,18 +98,18 @@ pub fn owed_count<Word: BitArray>(
 /// the call returns the backend's error. Most steps don't call this function, so it isn't inlined.
 #[cold]
 #[inline(never)]
-pub fn write_owed<Word: BitArray, Backend: WriteWords<Word>>(
+pub fn flush_words<Word: BitArray, Backend: WriteWords<Word>>(
     bulk: &mut Backend,
-    held: Option<HeldWords<Word>>,
+    held: Option<ReleasedWords<Word>>,
     top: Option<Word>,
     last: Option<Word>,
-    behind: Option<HeldWords<Word>>,
+    behind: Option<ReleasedWords<Word>>,
 ) -> Result<(), Backend::WriteError>
     requires { length (released_of Word.number held) + 2 + length (released_of Word.number behind) < 2 ^ 64 }
     ensures { Appends Word.number Backend.Holds Backend.WriteWords.own
         (released_of Word.number behind ++ flushed_of Word.number held top last) bulk.old result bulk.new }
 {
-    let count = owed_count(&held, &top, &last) + held_count(&behind);
+    let count = flushed_count(&held, &top, &last) + released_count(&behind);
     if count == 0 {
         return Ok(());
     }
@@ -149,7 +149,7 @@ fn write_two<Word: BitArray, Backend: WriteWords<Word>>(
 #[inline(always)]
 pub fn write_step<Word: BitArray, Backend: WriteWords<Word>>(
     bulk: &mut Backend,
-    held: Option<HeldWords<Word>>,
+    held: Option<ReleasedWords<Word>>,
     top: Option<Word>,
 ) -> Result<(), Backend::WriteError>
     requires { length (released_of Word.number held) + 2 < 2 ^ 64 }
@@ -167,5 +167,5 @@ pub fn write_step<Word: BitArray, Backend: WriteWords<Word>>(
     if held.count.get() == 1 {
         return write_two(bulk, held.first, top);
     }
-    write_owed(bulk, Some(held), top, None, None)
+    flush_words(bulk, Some(held), top, None, None)
 }

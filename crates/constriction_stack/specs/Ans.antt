@@ -40,12 +40,12 @@ pub record IsNext (e : Step) (x : AnsState) : Type 0 where
   pub below : x.head % 2 ^ e.precision < e.left + e.p
 
 -- The head after a pop and before a refill. A head `a * 2 ^ precision + left + t` becomes `a * p + t`.
-abbrev pub popped_head : Step → AnsState → ℕ
-popped_head e x = x.head / 2 ^ e.precision * e.p + (x.head % 2 ^ e.precision - e.left)
+abbrev pub pop_head : Step → AnsState → ℕ
+pop_head e x = x.head / 2 ^ e.precision * e.p + (x.head % 2 ^ e.precision - e.left)
 
 -- The state after the step's symbol is decoded: the decoding step of rANS, followed by a refill.
 abbrev pub pop : ℕ → ℕ → Step → AnsState → AnsState
-pop w s e x = refilled w s (popped_head e x) x.words
+pop w s e x = refilled w s (pop_head e x) x.words
 
 -- The step's symbol can be decoded from the old state, and the new state is the state after that.
 abbrev pub IsPop : ℕ → ℕ → Step → AnsState → AnsState → Type 0
@@ -107,7 +107,7 @@ words_after w s e x = if nat_lt (x.head / 2 ^ (s - e.precision)) e.p then x.word
 
 -- The head after a pop is below `2 ^ (s - w)`, so the coder reads a word if one is left.
 abbrev pub OwesRead : ℕ → ℕ → Step → AnsState → Type 0
-OwesRead w s e x = popped_head e x < 2 ^ (s - w)
+OwesRead w s e x = pop_head e x < 2 ^ (s - w)
 
 -- ---- coders over backends whose words are known only by reading, such as iterators
 
@@ -180,7 +180,7 @@ pub record DecodeCall {W B E S : Type 0} (number : W → ℕ) (holds : holding.G
   -- On success, if `is_list` holds for the backend, the new state is the pop of the old state, normalized or not.
   pub popped : OnOk answer (holds.is_list → new.state ≡ pop w s step old.state)
   -- On success, the coder makes one read if the head after the pop is below `2 ^ (s - w)`, and otherwise no read.
-  pub refilled : OnOk answer (RefillsBy number reads.reads w s (popped_head step old.state) old.backend new.state.head new.backend)
+  pub refilled : OnOk answer (RefillsBy number reads.reads w s (pop_head step old.state) old.backend new.state.head new.backend)
   -- An error leaves the head unchanged. If `is_list` holds for the backend, it also leaves the words unchanged.
   pub head : OnErr answer (new.state.head ≡ old.state.head)
   pub kept : OnErr answer (holds.is_list → new.state ≡ old.state)

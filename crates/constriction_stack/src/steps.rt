@@ -1,6 +1,6 @@
 //! The arithmetic of encoding and decoding one symbol, on a head and a backend.
 //!
-//! A decode calls [`popped_head`] and then [`refilled`]. An encode calls [`pushed_onto`].
+//! A decode calls [`pop_head`] and then [`refill_head`]. An encode calls [`push_onto`].
 
 ghost use Rattle.std.specs.Prelude.{◌≡◌, ◌+◌, ◌-◌, ◌*◌, ◌/◌, ◌%◌, ◌^◌, ◌<◌, ◌≤◌, IfOk, IfSome, OnErr};
 ghost use Rattle.constriction_base.specs.Steps.{IsStep, IsSizes};
@@ -15,7 +15,7 @@ use constriction_words::{BitArray, Reciprocal, WordOf};
 /// The caller proves that `quantile` is the low `precision` bits of `head`, and that it is at least `left`. The caller
 /// also proves that `precision` is below `State::BITS`, and that `left + p` is at most `2^precision`.
 #[inline]
-pub fn popped_head<State: BitArray>(
+pub fn pop_head<State: BitArray>(
     head: State,
     quantile: State,
     left: State,
@@ -41,7 +41,7 @@ pub fn popped_head<State: BitArray>(
 /// Returns the new head, and sets `low` to its low word, which is the word that moved in, if there is one. If no word
 /// is left, the head is unchanged. If the read fails, `low` is unchanged, and the call returns the error of the read.
 #[inline]
-pub fn refilled<Word: WordOf<State>, State: BitArray, Backend: ReadWords<Word, Stack>>(
+pub fn refill_head<Word: WordOf<State>, State: BitArray, Backend: ReadWords<Word, Stack>>(
     bulk: &mut Backend,
     head: State,
     low: &mut Word,
@@ -76,7 +76,7 @@ pub fn refilled<Word: WordOf<State>, State: BitArray, Backend: ReadWords<Word, S
 /// moves the low word of `head` to the backend: it asks for room for one word, and writes the word. If the backend
 /// refuses, the call returns the backend's error.
 #[inline(always)]
-pub fn pushed_onto<Word: WordOf<State>, State: BitArray, Backend: WriteWords<Word>>(
+pub fn push_onto<Word: WordOf<State>, State: BitArray, Backend: WriteWords<Word>>(
     bulk: &mut Backend,
     head: State,
     left: State,
@@ -91,7 +91,7 @@ pub fn pushed_onto<Word: WordOf<State>, State: BitArray, Backend: WriteWords<Wor
         precision left p head bulk.old result bulk.new }
 {
     if head.shift_right(State::BITS - precision).is_below(p) {
-        return Ok(pushed(head, left, p, reciprocal, precision));
+        return Ok(push_head(head, left, p, reciprocal, precision));
     }
     match bulk.prepare(1) {
         Ok(()) => {}
@@ -101,7 +101,7 @@ pub fn pushed_onto<Word: WordOf<State>, State: BitArray, Backend: WriteWords<Wor
         Ok(()) => {}
         Err(refusal) => return Err(refusal),
     }
-    Ok(pushed(head.shift_right(Word::BITS), left, p, reciprocal, precision))
+    Ok(push_head(head.shift_right(Word::BITS), left, p, reciprocal, precision))
 }
 
 /// Encodes the symbol of the interval `[left, left + p)` onto `head`, and returns the new head.
@@ -112,7 +112,7 @@ pub fn pushed_onto<Word: WordOf<State>, State: BitArray, Backend: WriteWords<Wor
 /// computes the same number as `head + left + head / p * (2^precision - p)`. This formula needs no remainder, and the
 /// reciprocal replaces the division.
 #[inline]
-pub(crate) fn pushed<State: BitArray>(
+pub(crate) fn push_head<State: BitArray>(
     head: State,
     left: State,
     p: State,

@@ -1,9 +1,9 @@
 //! Emits codewords first bit first (the prefix form), for codebooks that find the last bit first.
 //!
-//! A codebook that climbs from a leaf to the root of a tree finds the last bit first. [`reversed_codeword`] emits the
+//! A codebook that climbs from a leaf to the root of a tree finds the last bit first. [`reverse_codeword`] emits the
 //! codewords of such a codebook first bit first.
 //!
-//! [`reversed_codeword`] reverses the bits with a [`SmallBitStack`]. This stack holds two words of bits without
+//! [`reverse_codeword`] reverses the bits with a [`SmallBitStack`]. This stack holds two words of bits without
 //! allocating: the first word is inline in the backend, and the second word is outside the backend. The stack's
 //! constructor is in the trait [`NewSmallStack`], because a second `StackCoder::new` would be ambiguous.
 
@@ -136,11 +136,11 @@ fn emit_taken<E, F: FnMut(bool) -> Result<(), E>>(
 ///         symbol: &usize,
 ///         emit: &mut F,
 ///     ) -> Result<(), DefaultEncoderError<E>> {
-///         reversed_codeword(self.alloc, self, symbol, emit) // Tree: SuffixCodebook
+///         reverse_codeword(self.alloc, self, symbol, emit) // Tree: SuffixCodebook
 ///     }
 /// }
 /// ```
-pub fn reversed_codeword<C: SuffixCodebook, E: From<AllocError>, F: FnMut(bool) -> Result<(), E>>(
+pub fn reverse_codeword<C: SuffixCodebook, E: From<AllocError>, F: FnMut(bool) -> Result<(), E>>(
     alloc: Global,
     codebook: &C,
     symbol: &C::Symbol,

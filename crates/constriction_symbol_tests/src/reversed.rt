@@ -1,4 +1,4 @@
-//! A codebook that finds its codeword from the last bit to the first, for tests of `reversed_codeword`.
+//! A codebook that finds its codeword from the last bit to the first, for tests of `reverse_codeword`.
 //!
 //! Reversing up to 128 bits allocates no memory. Reversing more bits fails if there is no memory.
 
@@ -11,7 +11,7 @@ use constriction_base::cursor::Cursor;
 use constriction_base::errors::{BoundedWriteError, CoderError, DefaultEncoderError};
 use constriction_symbol::codebooks::{Codebook, EncoderCodebook};
 use constriction_symbol::coder::QueueEncoder;
-use constriction_symbol::reversed::{SuffixCodebook, reversed_codeword};
+use constriction_symbol::reversed::{SuffixCodebook, reverse_codeword};
 use constriction_symbol::writing::WriteBitStream;
 use std::alloc::{AllocError, Global};
 use std::test::Fail;
@@ -45,7 +45,7 @@ impl EncoderCodebook for Lone {
         symbol: &(),
         emit: &mut F,
     ) -> Result<(), DefaultEncoderError<E>> {
-        reversed_codeword(self.alloc, self, symbol, emit)
+        reverse_codeword(self.alloc, self, symbol, emit)
     }
 
     fn encode_symbol_suffix<E: From<AllocError>, F: FnMut(bool) -> Result<(), E>>(

@@ -169,7 +169,7 @@ fn decode_by<
         head,
     );
     for place in 0..symbols.len() {
-        models.turn_to(place);
+        models.select(place);
         symbols[place] = decode_next(&mut coder, models.model());
     }
     let (cursor, new_head) = coder.into_raw_parts();

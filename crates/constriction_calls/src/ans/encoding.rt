@@ -44,7 +44,7 @@ pub fn encode_reverse<
     }
     items.check()?;
     if let Some(mut list) = items.list(alloc, true)
-        && let Some((added, new_head)) = coded::<Word, State, P, I::List, PRECISION>(
+        && let Some((added, new_head)) = encode_items::<Word, State, P, I::List, PRECISION>(
             alloc, *head, &mut list,
         )
     {
@@ -68,7 +68,7 @@ pub fn encode_reverse<
 /// Returns the words that the encodes write, and the new head. Returns `None` if a model has no entry for its symbol,
 /// or if there is no memory.
 #[inline]
-fn coded<
+fn encode_items<
     Word: WordOf<State>,
     State: BitArray,
     P: WordOf<Word>,
@@ -80,17 +80,17 @@ fn coded<
         (L.list_items list.old) head made.0.items made.1) }
 {
     if list.count() == 1 {
-        coded_one::<Word, State, P, L, PRECISION>(alloc, head, list)
+        encode_single_item::<Word, State, P, L, PRECISION>(alloc, head, list)
     } else if L::LOOKS_AHEAD {
-        coded_ahead::<Word, State, P, L, PRECISION>(alloc, head, list)
+        encode_ahead::<Word, State, P, L, PRECISION>(alloc, head, list)
     } else {
-        coded_in_order::<Word, State, P, L, PRECISION>(alloc, head, list)
+        encode_in_order::<Word, State, P, L, PRECISION>(alloc, head, list)
     }
 }
 
-/// Encodes a single item as [`coded`] does.
+/// Encodes a single item as [`encode_items`] does.
 #[inline]
-fn coded_one<
+fn encode_single_item<
     Word: WordOf<State>,
     State: BitArray,
     P: WordOf<Word>,
@@ -114,11 +114,11 @@ fn coded_one<
     }
 }
 
-/// Encodes as [`coded`] does, and finds the interval of an item right before its step.
+/// Encodes as [`encode_items`] does, and finds the interval of an item right before its step.
 ///
 /// The function isn't inlined, so that its loop keeps the coder in registers.
 #[inline(never)]
-fn coded_in_order<
+fn encode_in_order<
     Word: WordOf<State>,
     State: BitArray,
     P: WordOf<Word>,
@@ -146,12 +146,12 @@ fn coded_in_order<
     Some(coder.into_raw_parts())
 }
 
-/// Encodes as [`coded`] does, and finds the interval of an item before the step of the item behind it.
+/// Encodes as [`encode_items`] does, and finds the interval of an item before the step of the item behind it.
 ///
 /// So the processor can look up one symbol while it divides by the weight of another. The function isn't inlined, so
 /// that its loop keeps the coder in registers.
 #[inline(never)]
-fn coded_ahead<
+fn encode_ahead<
     Word: WordOf<State>,
     State: BitArray,
     P: WordOf<Word>,

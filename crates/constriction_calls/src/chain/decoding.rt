@@ -81,11 +81,11 @@ pub fn decode<
     };
     let lent = Cursor::new_at_write_end(&compressed[..*compressed_len]);
     let mut coder = ChainCoder::from_raw_parts(lent, Vec::new(alloc), both);
-    let again = match take_by(alloc, &mut coder, models, symbols.len()) {
+    let again = match decode_list(alloc, &mut coder, models, symbols.len()) {
         Ok(again) => again,
         Err(refusal) => return Err(refusal),
     };
-    match end_taking(coder, heads, compressed_len, remainders, remainders_len) {
+    match finish_decoding(coder, heads, compressed_len, remainders, remainders_len) {
         Ok(()) => {}
         Err(error) => return Err(error),
     }
@@ -227,7 +227,7 @@ pub fn decode_narrow<
 /// # Errors
 ///
 /// The call returns `OutOfData` or `NoMemory` in the cases that [`crate::chain`] lists.
-fn take_by<
+fn decode_list<
     'a,
     Word: WordOf<State>,
     State: BitArray,
@@ -250,7 +250,7 @@ fn take_by<
         (λ symbols. items PRECISION (G.coded models.now symbols)) count coder.old.state)) }
 {
     match models.decoder_list(alloc, count) {
-        Some(mut list) => take_symbols(alloc, coder, &mut list, count),
+        Some(mut list) => decode_with_list(alloc, coder, &mut list, count),
         None => Err(Refusal::NoMemory),
     }
 }
@@ -261,9 +261,9 @@ fn take_by<
 ///
 /// # Errors
 ///
-/// The call returns the errors of [`take_by`].
+/// The call returns the errors of [`decode_list`].
 #[inline(never)]
-fn take_symbols<
+fn decode_with_list<
     'a,
     Word: WordOf<State>,
     State: BitArray,
@@ -288,7 +288,7 @@ fn take_symbols<
         return Err(Refusal::NoMemory);
     };
     for place in 0..count {
-        models.turn_to(place);
+        models.select(place);
         match coder.decode_symbol(models.model()) {
             Ok(symbol) => symbols.push_reserved(symbol),
             Err(CoderError::Frontend(_)) => return Err(Refusal::OutOfData),
@@ -309,7 +309,7 @@ fn take_symbols<
 ///
 /// - `NoSpace(needed)`: `remainders` is too short. `needed` is the number of words that `remainders` has to hold.
 /// - `NoMemory`: the number of words that `remainders` has to hold doesn't fit a `usize`.
-fn end_taking<'a, Word: WordOf<State>, State: BitArray, const PRECISION: usize>(
+fn finish_decoding<'a, Word: WordOf<State>, State: BitArray, const PRECISION: usize>(
     coder: Taking<'a, Word, State, PRECISION>,
     heads: &mut ChainHeads<Word, State>,
     compressed_len: &mut usize,

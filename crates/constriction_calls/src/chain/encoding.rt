@@ -189,11 +189,11 @@ fn encode_within<
 {
     let lent = Cursor::new_at_write_end(&remainders[..*remainders_len]);
     let mut coder = ChainCoder::from_raw_parts(Cursor::new_at_write_beginning(room), lent, both);
-    match put_items::<P, Putting<'_, Word, State, PRECISION>, L, PRECISION>(&mut coder, list) {
+    match encode_list_items::<P, Putting<'_, Word, State, PRECISION>, L, PRECISION>(&mut coder, list) {
         Ok(()) => {}
         Err(refusal) => return Err(refusal),
     }
-    match end_putting(coder, heads, compressed, compressed_len, remainders_len) {
+    match finish_encoding(coder, heads, compressed, compressed_len, remainders_len) {
         Ok(()) => Ok(()),
         Err(error) => Err(error),
     }
@@ -207,7 +207,7 @@ fn encode_within<
 /// - `OutOfData`: the coder needs a word of remainders, and no word is left.
 /// - `NoMemory`: the coder's buffer for new words is full.
 #[inline]
-fn put_items<P: BitArray, C: Put<P, PRECISION>, L: ItemList<P, PRECISION>, const PRECISION: usize>(
+fn encode_list_items<P: BitArray, C: Put<P, PRECISION>, L: ItemList<P, PRECISION>, const PRECISION: usize>(
     coder: &mut C,
     list: &mut L,
 ) -> Result<(), Refusal>
@@ -215,15 +215,16 @@ fn put_items<P: BitArray, C: Put<P, PRECISION>, L: ItemList<P, PRECISION>, const
         (C.chain coder.old) (C.chain coder.new) result }
 {
     if list.count() == 1 {
-        put_item::<P, C, L, PRECISION>(coder, list, 0)
+        encode_item::<P, C, L, PRECISION>(coder, list, 0)
     } else {
-        put_many::<P, C, L, PRECISION>(coder, list)
+        encode_many::<P, C, L, PRECISION>(coder, list)
     }
 }
 
-/// Encodes as [`put_items`] does. This function isn't inlined, so that its loop keeps the coder's heads in registers.
+/// Encodes as [`encode_list_items`] does. This function isn't inlined, so that its loop keeps the coder's heads in
+/// registers.
 #[inline(never)]
-fn put_many<P: BitArray, C: Put<P, PRECISION>, L: ItemList<P, PRECISION>, const PRECISION: usize>(
+fn encode_many<P: BitArray, C: Put<P, PRECISION>, L: ItemList<P, PRECISION>, const PRECISION: usize>(
     coder: &mut C,
     list: &mut L,
 ) -> Result<(), Refusal>
@@ -232,7 +233,7 @@ fn put_many<P: BitArray, C: Put<P, PRECISION>, L: ItemList<P, PRECISION>, const 
 {
     let mut left = list.count();
     while left > 0 {
-        match put_item::<P, C, L, PRECISION>(coder, list, left - 1) {
+        match encode_item::<P, C, L, PRECISION>(coder, list, left - 1) {
             Ok(()) => {}
             Err(refusal) => return Err(refusal),
         }
@@ -245,9 +246,9 @@ fn put_many<P: BitArray, C: Put<P, PRECISION>, L: ItemList<P, PRECISION>, const 
 ///
 /// # Errors
 ///
-/// The call returns the errors of [`put_items`].
+/// The call returns the errors of [`encode_list_items`].
 #[inline(always)]
-fn put_item<P: BitArray, C: Put<P, PRECISION>, L: ItemList<P, PRECISION>, const PRECISION: usize>(
+fn encode_item<P: BitArray, C: Put<P, PRECISION>, L: ItemList<P, PRECISION>, const PRECISION: usize>(
     coder: &mut C,
     list: &mut L,
     place: usize,
@@ -264,7 +265,7 @@ fn put_item<P: BitArray, C: Put<P, PRECISION>, L: ItemList<P, PRECISION>, const 
     coder.put(begin, p, reciprocal)
 }
 
-/// A coder that [`put_items`] encodes with.
+/// A coder that [`encode_list_items`] encodes with.
 ///
 /// The functions over a list of items are generic over this trait. If they named the type of the coder, the conditions
 /// of its call would exceed the prover's limit of steps.
@@ -284,7 +285,7 @@ trait Put<P: BitArray, const PRECISION: usize> {
     ///
     /// # Errors
     ///
-    /// The call returns the errors of [`put_items`] except `ImpossibleSymbol`.
+    /// The call returns the errors of [`encode_list_items`] except `ImpossibleSymbol`.
     fn put(
         &mut self,
         begin: P,
@@ -339,7 +340,7 @@ impl<'a, Word: WordOf<State>, State: BitArray, P: WordOf<Word>, const PRECISION:
 ///
 /// - `NoSpace(needed)`: `compressed` is too short. `needed` is the number of words that `compressed` has to hold.
 /// - `NoMemory`: the number of words that `compressed` has to hold doesn't fit a `usize`.
-fn end_putting<'a, Word: WordOf<State>, State: BitArray, const PRECISION: usize>(
+fn finish_encoding<'a, Word: WordOf<State>, State: BitArray, const PRECISION: usize>(
     coder: Putting<'a, Word, State, PRECISION>,
     heads: &mut ChainHeads<Word, State>,
     compressed: &mut [Word],

@@ -27,7 +27,7 @@ use std::alloc::Global;
 /// - `InvalidData` if `decoder.point` and the words from `decoder.pos` on don't encode `count` symbols.
 /// - `NoMemory` if there is no memory.
 #[inline(never)]
-pub(crate) fn take_list<
+pub(crate) fn decode_count<
     'a,
     Word: WordOf<State>,
     State: BitArray,
@@ -55,7 +55,7 @@ pub(crate) fn take_list<
         return Err(Refusal::NoMemory);
     };
     for i in 0..count {
-        list.turn_to(i);
+        list.select(i);
         match Decode::<PRECISION>::decode_symbol(&mut decoder, list.model()) {
             Ok(symbol) => again.push_reserved(symbol),
             Err(_) => return Err(Refusal::InvalidData),
@@ -102,7 +102,7 @@ pub fn decode<
     let Some(mut list) = models.decoder_list(alloc, symbols.len()) else {
         return Err(Refusal::NoMemory);
     };
-    match take_list::<Word, State, P, G::DecoderList, PRECISION>(
+    match decode_count::<Word, State, P, G::DecoderList, PRECISION>(
         alloc,
         reading,
         &mut list,

@@ -60,10 +60,10 @@ pub fn encode<
     let word = Word::nothing();
     if size_of_val(&word) <= 64 && encoder.held <= buffer.len() - *len {
         let mut room = [word, word];
-        if let Some((words, now)) = put_one::<Word, State, P, I, PRECISION>(
+        if let Some((words, now)) = encode_single::<Word, State, P, I, PRECISION>(
             alloc, &mut room, *encoder, items,
         ) {
-            return end_putting(words, now, encoder, buffer, len);
+            return finish_encoding(words, now, encoder, buffer, len);
         }
     }
     let mut kept = *encoder; // a copy, so that a caller's numbers can stay in registers
@@ -106,11 +106,11 @@ fn encode_list<
     let is_room = held <= buffer.len() - *len;
     if is_room
         && let Some(mut list) = items.list(alloc, false)
-        && let Some((words, now)) = put_list::<Word, State, P, I::List, PRECISION>(
+        && let Some((words, now)) = encode_to_list::<Word, State, P, I::List, PRECISION>(
             made, &mut list,
         )
     {
-        return end_putting(&words, now, encoder, buffer, len);
+        return finish_encoding(&words, now, encoder, buffer, len);
     }
     if !items.know() {
         return Err(Refusal::ImpossibleSymbol);
@@ -127,7 +127,7 @@ fn encode_list<
 /// Returns `None` if a model has no entry for its symbol, or if there is no memory. The function isn't inlined, so that
 /// its loop keeps the encoder in registers.
 #[inline(never)]
-fn put_list<
+fn encode_to_list<
     Word: WordOf<State>,
     State: BitArray,
     P: WordOf<Word>,
@@ -160,7 +160,7 @@ fn put_list<
 /// one word is pending, if `room` is too short, if no encoder has the numbers `parts`, if the model has no entry for
 /// the symbol, or if there is no memory for the model.
 #[inline]
-fn put_one<
+fn encode_single<
     'a,
     Word: WordOf<State>,
     State: BitArray,
@@ -205,7 +205,7 @@ fn put_one<
 ///
 /// The call returns the errors of [`append`]. A call that fails changes nothing.
 #[inline]
-fn end_putting<Word: WordOf<State>, State: BitArray>(
+fn finish_encoding<Word: WordOf<State>, State: BitArray>(
     words: &[Word],
     now: EncoderParts<Word, State>,
     encoder: &mut EncoderParts<Word, State>,

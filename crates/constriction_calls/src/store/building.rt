@@ -36,7 +36,7 @@ fn fit(symbols: usize, lengths: &[usize], positions: usize, lowers: usize, range
 /// Cuts `symbols` into chunks of the lengths `lengths`, and returns the words and the index of their store.
 ///
 /// Returns `None` if a symbol is impossible, or if there is no memory.
-fn stored<Word: WordOf<State>, State: BitArray, P: WordOf<Word>, const PRECISION: usize>(
+fn build_store<Word: WordOf<State>, State: BitArray, P: WordOf<Word>, const PRECISION: usize>(
     alloc: Global,
     weights: &[P],
     symbols: &[usize],
@@ -116,7 +116,7 @@ pub fn build<Word: WordOf<State>, State: BitArray, P: WordOf<Word>, const PRECIS
     if !is_total::<P, PRECISION>(weights) {
         return Err(Refusal::WrongWeights);
     }
-    let Some((made, index)) = stored::<Word, State, P, PRECISION>(alloc, weights, symbols, lengths)
+    let Some((made, index)) = build_store::<Word, State, P, PRECISION>(alloc, weights, symbols, lengths)
     else {
         if Models::<P, PRECISION>::know(&Weights { weights }, symbols) {
             return Err(Refusal::NoMemory);

@@ -4,7 +4,7 @@ ghost use Rattle.std.specs.Prelude.{◌≤◌, map};
 ghost use Rattle.constriction_base.specs.Steps.{IsSizes};
 ghost use Rattle.constriction_calls.specs.StoreCalls.{StoreDecodesList};
 
-use crate::range::decoding::take_list;
+use crate::range::decoding::decode_count;
 use constriction_inputs::models::{DecoderModels, Weights};
 use constriction_inputs::refusal::Refusal;
 use constriction_inputs::rows::adding::is_total;
@@ -59,7 +59,7 @@ pub fn chunk<Word: WordOf<State>, State: BitArray, P: WordOf<Word>, const PRECIS
         return Err(Refusal::NoMemory);
     };
     let decoder = decoder_at::<Word, State>(words, pos, state);
-    match take_list::<Word, State, P, _, PRECISION>(alloc, decoder, &mut list, symbols.len()) {
+    match decode_count::<Word, State, P, _, PRECISION>(alloc, decoder, &mut list, symbols.len()) {
         Ok((again, _)) => {
             symbols.copy_from_slice(&again);
             Ok(())

@@ -125,7 +125,7 @@ where
     for _done in 0..symbols.len() {
         match stream.decode_symbol(codebook) {
             Ok(symbol) => read.push_reserved(symbol),
-            Err(error) => return Err(told_as(error)),
+            Err(error) => return Err(as_refusal(error)),
         }
     }
     symbols.copy_from_slice(&read);
@@ -136,7 +136,7 @@ where
 ///
 /// `OutOfCompressedData` becomes `OutOfData`, `InvalidCodeword` becomes `InvalidData`, and an error of the backend
 /// becomes `NoMemory`.
-fn told_as<V: Drop, E: Drop>(error: CoderError<SymbolCodeError<V>, E>) -> Refusal
+fn as_refusal<V: Drop, E: Drop>(error: CoderError<SymbolCodeError<V>, E>) -> Refusal
     ensures { MapsError error result }
 {
     match error {

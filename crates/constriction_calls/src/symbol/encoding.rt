@@ -43,7 +43,7 @@ pub fn encode_queue<Word: BitArray, C: Codes>(
 {
     match queue_words(alloc, codes, QueueEncoder::new(alloc), symbols) {
         Some((all, _)) => put_words(&all, words, len),
-        None => Err(codes.refused(symbols)),
+        None => Err(codes.encode_refusal(symbols)),
     }
 }
 
@@ -71,7 +71,7 @@ pub fn encode_at<Word: BitArray, C: Codes>(
         return Err(Refusal::WrongLength);
     }
     let Some((added, end)) = words_from(alloc, codes, words, *bit, symbols) else {
-        return Err(codes.refused(symbols));
+        return Err(codes.encode_refusal(symbols));
     };
     let mut len = *bit / Word::BITS as usize;
     append(&added, words, &mut len)?;
@@ -100,7 +100,7 @@ pub fn encode_stack<Word: BitArray, C: Codes>(
 {
     match stack_words(alloc, codes, symbols) {
         Some(all) => put_words(&all, words, len),
-        None => Err(codes.refused(symbols)),
+        None => Err(codes.encode_refusal(symbols)),
     }
 }
 

@@ -25,7 +25,7 @@ impl<N: BitArray> Codes for ExpGolomb<N> {
         Some(ExpGolomb::new())
     }
 
-    fn refused(&self, _symbols: &[N]) -> Refusal {
+    fn encode_refusal(&self, _symbols: &[N]) -> Refusal {
         Refusal::NoMemory
     }
 

@@ -45,7 +45,7 @@ impl<'a, P: BitArray> Codes for Tree<'a, P> {
     }
 
     #[cold]
-    fn refused(&self, symbols: &[usize]) -> Refusal {
+    fn encode_refusal(&self, symbols: &[usize]) -> Refusal {
         if !make_tree(self.weights, usize::MAX / 4) {
             Refusal::WrongWeights
         } else if are_below(symbols, self.weights.len()) {

@@ -157,14 +157,14 @@ impl<'a, P: WordOf<u32>, const PRECISION: usize> ModelList<P, PRECISION>
 
 /// The list of the models of a family, one for each symbol to decode. It holds the model of one symbol only.
 ///
-/// `turn_to` replaces this model by the model of the selected symbol. To create this model, `turn_to` computes the
+/// `select` replaces this model by the model of the selected symbol. To create this model, `select` computes the
 /// inverse of the symbol's scale.
 ///
 /// # Examples
 ///
 /// ```
 /// if let Some(mut list) = DecoderModels::<u32, 24>::decoder_list(&families, alloc, 2) {
-///     DecoderModelList::<u32, 24>::turn_to(&mut list, 1);
+///     DecoderModelList::<u32, 24>::select(&mut list, 1);
 ///     DecoderModelList::<u32, 24>::model(&list).quantile_function(8388608)
 /// }
 /// ```
@@ -198,7 +198,7 @@ impl<'a, P: WordOf<u32>, const PRECISION: usize> DecoderModelList<P, PRECISION>
     ghost turned_to = { λ list. list.place };
 
     #[inline(always)]
-    fn turn_to(&mut self, place: usize) {
+    fn select(&mut self, place: usize) {
         self.model = model_at(
             self.family,
             &self.quantizer,

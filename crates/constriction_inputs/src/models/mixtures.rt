@@ -143,7 +143,7 @@ impl<'a, P: WordOf<u32>, const PRECISION: usize> DecoderModels<P, PRECISION> for
 /// A list of models of mixtures. The list keeps only one mixture's components in memory. A list of no models needs no
 /// memory.
 ///
-/// Each call of `interval` or `turn_to` replaces these components with the components of the mixture at the index.
+/// Each call of `interval` or `select` replaces these components with the components of the mixture at the index.
 ///
 /// # Examples
 ///
@@ -198,7 +198,7 @@ impl<'a, P: WordOf<u32>, const PRECISION: usize> ModelList<P, PRECISION>
         place: usize,
         symbol: usize,
     ) -> Option<(P, <P as BitArray>::NonZero, Option<Reciprocal>)> {
-        DecoderModelList::<P, PRECISION>::turn_to(self, place);
+        DecoderModelList::<P, PRECISION>::select(self, place);
         let model = DecoderModelList::<P, PRECISION>::model(self);
         match entry_of::<P, MixedDistribution<FamilyDistribution, P, PRECISION>, PRECISION>(
             model, symbol,
@@ -229,7 +229,7 @@ impl<'a, P: WordOf<u32>, const PRECISION: usize> DecoderModelList<P, PRECISION>
     ghost turned_to = { λ list. list.place };
 
     #[inline]
-    fn turn_to(&mut self, place: usize) {
+    fn select(&mut self, place: usize) {
         fill_from_row(
             &mut self.mixed.components,
             self.family,

@@ -6,7 +6,7 @@ use Rattle.constriction_base.specs.Tables.{AtEntry}
 use Rattle.constriction_base.specs.Models.{Model, Item}
 use Rattle.constriction_stack.specs.Binary.{BinaryFilledBy}
 use Rattle.constriction_stack.specs.Imports.{FilledBy, ImportRefused}
-use Rattle.constriction_stack.specs.Ans.{AnsState, AnsValue, IsNext, RefillsBy, empty, popped_head}
+use Rattle.constriction_stack.specs.Ans.{AnsState, AnsValue, IsNext, RefillsBy, empty, pop_head}
 use Rattle.constriction_laws.specs.Outcomes.{IfItems}
 use Rattle.constriction_laws.specs.Readings.{ListsItems, ListsWords}
 use Rattle.constriction_laws.specs.stack.Exporting.{ExportsAll, ReturnsExported}
@@ -19,7 +19,7 @@ state_by_words number words coder = record { head = coder.state.head; words = ma
 -- A decode of the symbol by reads: its entry holds the head's quantile, and reads refill the head after the pop.
 abbrev pub DecodesBy : {S W E B : Type 0} → (W → ℕ) → (B → Result (Option W) E → B → Type 0) → ℕ → ℕ → Model S → S → AnsValue B → AnsValue B → Type 0
 DecodesBy number reads w s model symbol old new =
-    AtEntry model.precision model.table symbol (λ e. IsNext e old.state × RefillsBy number reads w s (popped_head e old.state) old.backend new.state.head new.backend)
+    AtEntry model.precision model.table symbol (λ e. IsNext e old.state × RefillsBy number reads w s (pop_head e old.state) old.backend new.state.head new.backend)
 
 -- Decodes of the items by reads, one after the other.
 abbrev pub DecodesAllBy : {S W E B : Type 0} → (W → ℕ) → (B → Result (Option W) E → B → Type 0) → ℕ → ℕ → List (Item S) → AnsValue B → AnsValue B → Type 0

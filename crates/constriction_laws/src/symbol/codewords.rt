@@ -9,7 +9,7 @@ use constriction_symbol::codebooks::{BitOrder, Codebook};
 /// In every codebook, the suffix form of a codeword is the reverse of its prefix form.
 ///
 /// A stack writes the suffix form. A queue writes the prefix form.
-pub fn suffix_turns_prefix<C: Codebook>()
+pub fn suffix_reverses_prefix<C: Codebook>()
     ensures { (codebook : C) (symbol : C.Symbol) (prefix suffix : List Bool) →
         formed (⟦<Queue as BitOrder>⟧.form) (C.codeword codebook symbol) ≡ Some prefix →
         formed (⟦<Stack as BitOrder>⟧.form) (C.codeword codebook symbol) ≡ Some suffix →

@@ -5,7 +5,7 @@ use Rattle.std.proofs.Math.Nat.{mul-le-mul_left, mul-le-mul_right, mul-lt-mul_of
 use Rattle.std.proofs.lemmas.Bool.{cases_lt, and_parts}
 use Rattle.std.proofs.lemmas.Bool.Decides.{nat_tests}
 use Rattle.std.proofs.lemmas.Int.{ints}
-use Rattle.constriction_models.specs.Interpolation.{rises_from, AreValues, interpolated, value_at, value_above, value_beyond, located, scaled}
+use Rattle.constriction_models.specs.Interpolation.{rises_from, AreValues, interpolated, value_at, value_above, value_beyond, interpolate, scaled}
 use Rattle.constriction_models.specs.Quantized.{IsDistribution}
 
 -- No number of a list that rises from `low` is below `low`.
@@ -148,8 +148,8 @@ pub beyond_inside : (values : List ℕ) (wide rate : ℕ) (z : ℤ) (n : ℕ) �
 unfolding value_beyond value_above
 beyond_inside values wide rate z n is inside = rw is (grind (arith, nat_tests))
 
-pub located_is_distribution : (values : List ℕ) (wide rate : ℕ) (middle : ℤ) → AreValues values → Fits wide rate → IsDistribution (located values wide rate middle)
-unfolding located
+pub located_is_distribution : (values : List ℕ) (wide rate : ℕ) (middle : ℤ) → AreValues values → Fits wide rate → IsDistribution (interpolate values wide rate middle)
+unfolding interpolate
 located_is_distribution values wide rate middle is fits = record {
   rises = λ x y order. beyond_rises values wide rate (x -ℤ middle +ℤ pos (wide / 2)) (y -ℤ middle +ℤ pos (wide / 2)) is fits (omega (arith, ints));
   within = λ x. beyond_within values wide rate (x -ℤ middle +ℤ pos (wide / 2)) is fits;

@@ -11,7 +11,7 @@ ghost use Rattle.constriction_queue.specs.Decoder.{IsDecoder, quantile_read, May
 ghost use Rattle.constriction_queue.specs.Calls.{DecodeCall};
 
 use crate::decoder::RangeDecoder;
-use crate::reading::{ends_here, narrowed_by_reading, quantile_at};
+use crate::reading::{ends_here, narrow_and_read, quantile_at};
 use crate::state::RangeCoderState;
 use constriction_base::backends::{Holds, Queue, ReadWords};
 use constriction_base::errors::CoderError;
@@ -101,7 +101,7 @@ impl<
         let (symbol, left, p) = model.quantile_function(quantile);
         let p = M::Probability::from_nonzero(p);
         let (left, p) = (left.widen().widen(), p.widen().widen());
-        match narrowed_by_reading(
+        match narrow_and_read(
             &mut self.bulk,
             lower,
             range,

@@ -6,8 +6,8 @@ ghost use Rattle.constriction_queue.specs.SelfDelimiting.{SelfDelimits};
 ghost use Rattle.constriction_queue.specs.Calls.{SealRefused, SelfDelimitingRefused};
 
 use crate::encoder::RangeEncoder;
-use crate::seal::{Seal, sealing, without_first};
-use crate::writing::{owed_count, write_owed};
+use crate::seal::{Seal, make_seal, without_first};
+use crate::writing::{flushed_count, flush_words};
 use constriction_base::backends::{BoundedReadWords, Holds, Stack, Words, WriteWords};
 use constriction_words::{BitArray, WordOf};
 use std::marker::Model;
@@ -40,8 +40,8 @@ impl<Word: WordOf<State>, State: BitArray, Backend: WriteWords<Word>> RangeEncod
             state,
             situation,
         } = self;
-        let seal = sealing(state, situation);
-        write_owed(&mut bulk, seal.held, seal.point, seal.zero, None)?;
+        let seal = make_seal(state, situation);
+        flush_words(&mut bulk, seal.held, seal.point, seal.zero, None)?;
         Ok(bulk)
     }
 
@@ -94,8 +94,8 @@ impl<Word: WordOf<State>, State: BitArray, Backend: WriteWords<Word>> RangeEncod
             state,
             situation,
         } = self;
-        let seal = sealing(state, situation);
-        write_owed(&mut bulk, seal.held, seal.point, seal.zero, seal.behind)?;
+        let seal = make_seal(state, situation);
+        flush_words(&mut bulk, seal.held, seal.point, seal.zero, seal.behind)?;
         Ok(bulk)
     }
 }
@@ -112,8 +112,8 @@ impl<Word: WordOf<State>, State: BitArray, Backend: BoundedReadWords<Word, Stack
     pub fn sizes_fit(&self) -> bool
         ensures { IsTrue result ↔ SizesFit Word.BITS State.BITS self.now }
     {
-        let seal = sealing(self.state, self.situation);
-        let owed = owed_count(&seal.held, &seal.point, &seal.zero);
+        let seal = make_seal(self.state, self.situation);
+        let owed = flushed_count(&seal.held, &seal.point, &seal.zero);
         let Some(words) = self.bulk.remaining().checked_add(owed) else {
             return false;
         };
@@ -127,8 +127,8 @@ impl<Word: WordOf<State>, State: BitArray, Backend: BoundedReadWords<Word, Stack
         requires { SizesFit Word.BITS State.BITS self.now }
         ensures { result ≡ length (sealed_by Word.BITS State.BITS self.now) }
     {
-        let seal = sealing(self.state, self.situation);
-        self.bulk.remaining() + owed_count(&seal.held, &seal.point, &seal.zero)
+        let seal = make_seal(self.state, self.situation);
+        self.bulk.remaining() + flushed_count(&seal.held, &seal.point, &seal.zero)
     }
 
     /// Returns the number of bits of the words that [`RangeEncoder::into_compressed`] returns.
@@ -219,7 +219,7 @@ impl<Word: WordOf<State>, State: BitArray, Backend: Holds<Word, Stack> + Words<W
     {
         RangeCompressedIter {
             below: self.bulk.words(),
-            seal: sealing(self.state, self.situation),
+            seal: make_seal(self.state, self.situation),
         }
     }
 }

@@ -10,8 +10,8 @@ ghost use Rattle.constriction_queue.specs.Encoder.{HasHeads, IsEncoder, sealed_b
 ghost use Rattle.constriction_queue.specs.Guarded.{TooShortForSeal};
 
 use crate::encoder::RangeEncoder;
-use crate::seal::sealing;
-use crate::writing::{owed_count, write_owed};
+use crate::seal::make_seal;
+use crate::writing::{flushed_count, flush_words};
 use constriction_base::backends::{Holds, Stack, WriteWords, take_back};
 use constriction_words::{BitArray, WordOf};
 use std::alloc::{AllocError, Allocator, Global};
@@ -76,9 +76,9 @@ impl<Word: WordOf<State>, State: BitArray, A: Allocator> RangeEncoder<Word, Stat
         ensures room { OnErr result
             (TooShortForSeal (⟦<Vec<Word, A> as WriteWords<Word>>⟧.room) Word.BITS State.BITS self.old) }
     {
-        let seal = sealing(self.state, self.situation);
-        let count = owed_count(&seal.held, &seal.point, &seal.zero);
-        write_owed(&mut self.bulk, seal.held, seal.point, seal.zero, None)?;
+        let seal = make_seal(self.state, self.situation);
+        let count = flushed_count(&seal.held, &seal.point, &seal.zero);
+        flush_words(&mut self.bulk, seal.held, seal.point, seal.zero, None)?;
         Ok(count)
     }
 }

@@ -30,7 +30,7 @@ impl<Word: WordOf<State>, State: BitArray, Backend: CountsWords<Word>> Pos
     /// A decoder of the words that the encoder exports later can seek to this position. The caller proves that the
     /// number of words written and pending fits a `usize`. [`RangeEncoder::pos_fits`] tests this.
     fn pos(&self) -> (usize, RangeCoderState<Word, State>) {
-        (self.bulk.pos() + self.held(), self.state)
+        (self.bulk.pos() + self.pending_count(), self.state)
     }
 }
 
@@ -41,7 +41,7 @@ impl<Word: WordOf<State>, State: BitArray, Backend: CountsWords<Word>> RangeEnco
 > {
     /// Returns the number of pending words.
     #[inline]
-    fn held(&self) -> usize
+    fn pending_count(&self) -> usize
         ensures { result ≡ length self.now.held }
     {
         match self.situation {
@@ -55,6 +55,6 @@ impl<Word: WordOf<State>, State: BitArray, Backend: CountsWords<Word>> RangeEnco
         ensures { IsTrue result ↔ ((run_by Word.BITS State.BITS self.now).moves < 2 ^ 64) }
     {
         let place = self.bulk.pos();
-        self.held() <= usize::MAX - place
+        self.pending_count() <= usize::MAX - place
     }
 }

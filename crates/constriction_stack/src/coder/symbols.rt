@@ -12,7 +12,7 @@ ghost use Rattle.std.specs.Bool.{OnFalse};
 ghost use Rattle.std.specs.Prelude.{IfSome, IsTrue, ⊤, ◌+◌, ◌↔◌, ◌≡◌, ◌≤◌};
 
 use crate::coder::AnsCoder;
-use crate::steps::{popped_head, pushed_onto, refilled};
+use crate::steps::{pop_head, push_onto, refill_head};
 use constriction_base::backends::{Holds, ReadWords, Stack, WriteWords};
 use constriction_base::errors::{CoderError, DefaultEncoderError, DefaultEncoderFrontendError};
 use constriction_base::model::{DecoderModel, EncoderModel, EntropyModel};
@@ -79,7 +79,7 @@ impl<Word: WordOf<State>, State: BitArray, Backend: WriteWords<Word>> AnsCoder<
             record { precision = PRECISION; left = P.number left; p = P.nonzero_number p } result self.new }
     {
         let p = P::from_nonzero(p);
-        match pushed_onto(
+        match push_onto(
             &mut self.bulk,
             self.state,
             left.widen().widen(),
@@ -221,14 +221,14 @@ impl<
             quantile,
         )));
         let p = M::Probability::from_nonzero(p);
-        let head = popped_head(
+        let head = pop_head(
             self.state,
             quantile,
             left.widen().widen(),
             p.widen().widen(),
             precision,
         );
-        match refilled(&mut self.bulk, head, &mut self.low) {
+        match refill_head(&mut self.bulk, head, &mut self.low) {
             Ok(head) => {
                 self.state = head;
                 Ok(symbol)

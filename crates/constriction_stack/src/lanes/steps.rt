@@ -7,7 +7,7 @@ ghost use Rattle.constriction_stack.specs.Ans.{IsPush, IsNormalized, refilled};
 ghost use Rattle.constriction_stack.specs.Lanes.{MakesRoom, lane};
 ghost use Rattle.constriction_stack.specs.Symbols.{Decodes};
 
-use crate::steps::{popped_head, pushed};
+use crate::steps::{pop_head, push_head};
 use constriction_base::model::{DecoderModel, EntropyModel};
 use constriction_words::{BitArray, Reciprocal, WordOf};
 
@@ -39,14 +39,14 @@ where
     let quantile = head.low_bits(precision);
     let (symbol, left, p) = model.quantile_function(M::Probability::narrow(Word::narrow(quantile)));
     let p = M::Probability::from_nonzero(p);
-    let popped = popped_head(
+    let popped = pop_head(
         head,
         quantile,
         left.widen().widen(),
         p.widen().widen(),
         precision,
     );
-    let (new_head, new_len) = refilled_from(popped, words, len);
+    let (new_head, new_len) = refill_from(popped, words, len);
     (symbol, new_head, new_len)
 }
 
@@ -55,7 +55,7 @@ where
 /// Returns the new head, and the number of words that are left. The call reads a word and computes the moved head in
 /// any case. Then it selects the old or the moved head, so that the compiler needs no branch.
 #[inline(always)]
-fn refilled_from<Word: WordOf<State>, State: BitArray>(
+fn refill_from<Word: WordOf<State>, State: BitArray>(
     head: State,
     words: &[Word],
     len: usize,
@@ -106,15 +106,15 @@ pub fn encode_onto<Word: WordOf<State>, State: BitArray>(
     ensures kept { (take len words.new ≡ take len words.old) × (drop (len + 1) words.new ≡ drop (len + 1) words.old) }
 {
     words[len] = Word::narrow(head);
-    let (base, end) = room_made::<Word, State>(head, len, p, precision);
-    (pushed(base, left, p, reciprocal, precision), end)
+    let (base, end) = make_room::<Word, State>(head, len, p, precision);
+    (push_head(base, left, p, reciprocal, precision), end)
 }
 
 /// Returns the head and the number of words before a push of the interval's length `p`.
 ///
 /// If the head has room for the step, both are unchanged. Otherwise the low word of `head` moves to the words.
 #[inline(always)]
-fn room_made<Word: WordOf<State>, State: BitArray>(
+fn make_room<Word: WordOf<State>, State: BitArray>(
     head: State,
     len: usize,
     p: State,

@@ -14,7 +14,7 @@ use crate::codebooks::{Codebook, DecoderCodebook};
 use crate::huffman::collecting::{collect_given, collect_lent};
 use crate::huffman::error::HuffmanError;
 use crate::huffman::first_bits::{ReachedNode, place_of, places_of};
-use crate::huffman::merging::merged_pairs;
+use crate::huffman::merging::merge_pairs;
 use crate::taking::{Refusal, next_bit};
 use crate::top_bits::TopBits;
 use constriction_stream::encoding::Lent;
@@ -96,7 +96,7 @@ impl Clone for DecoderHuffmanTree {
 /// # Errors
 ///
 /// - `TooManySymbols` if there are more than `usize::MAX / 2` weights.
-/// - The other errors of [`merged_pairs`].
+/// - The other errors of [`merge_pairs`].
 /// - `Memory` if there is no memory for the tree.
 fn tree_of<P: BitArray, E>(
     alloc: Global,
@@ -105,7 +105,7 @@ fn tree_of<P: BitArray, E>(
     ensures ok { IfOk result (λ tree. MakesTree P.number P.BITS (2 ^ 63 - 1) weights.now tree) }
     ensures err { IfErr result (λ e. MakeNoTree P.number P.BITS (2 ^ 63 - 1) weights.now e) }
 {
-    let nodes = merged_pairs(alloc, weights, usize::MAX / 2)?;
+    let nodes = merge_pairs(alloc, weights, usize::MAX / 2)?;
     let (places, most) = places_of(alloc, &nodes)?;
     Ok(DecoderHuffmanTree {
         nodes,

@@ -12,9 +12,9 @@ use crate::codebooks::{Codebook, EncoderCodebook};
 use crate::huffman::codewords::{below_one, codewords_of};
 use crate::huffman::collecting::{collect_given, collect_lent};
 use crate::huffman::error::HuffmanError;
-use crate::huffman::merging::merged_pairs;
+use crate::huffman::merging::merge_pairs;
 use crate::huffman::parents::{climb, parents_of};
-use crate::reversed::{SuffixCodebook, reversed_codeword};
+use crate::reversed::{SuffixCodebook, reverse_codeword};
 use constriction_base::errors::{CoderError, DefaultEncoderError, DefaultEncoderFrontendError};
 use constriction_stream::encoding::Lent;
 use constriction_words::BitArray;
@@ -71,7 +71,7 @@ impl Model for EncoderHuffmanTree {
 /// # Errors
 ///
 /// - `TooManySymbols` if there are more than `usize::MAX / 4` weights.
-/// - The other errors of [`merged_pairs`].
+/// - The other errors of [`merge_pairs`].
 /// - `Memory` if there is no memory for the tree.
 fn tree_of<P: BitArray, E>(
     alloc: Global,
@@ -80,7 +80,7 @@ fn tree_of<P: BitArray, E>(
     ensures ok { IfOk result (λ tree. MakesTree P.number P.BITS (2 ^ 62 - 1) weights.now tree) }
     ensures err { IfErr result (λ e. MakeNoTree P.number P.BITS (2 ^ 62 - 1) weights.now e) }
 {
-    let pairs = match merged_pairs(alloc, weights, usize::MAX / 4) {
+    let pairs = match merge_pairs(alloc, weights, usize::MAX / 4) {
         Ok(pairs) => pairs,
         Err(error) => return Err(error),
     };
@@ -235,7 +235,7 @@ impl EncoderCodebook for EncoderHuffmanTree {
         symbol: &usize,
         emit: &mut F,
     ) -> Result<(), DefaultEncoderError<E>> {
-        reversed_codeword(self.alloc, self, symbol, emit)
+        reverse_codeword(self.alloc, self, symbol, emit)
     }
 
     /// Emits the codeword from the last bit to the first. The call needs no memory.

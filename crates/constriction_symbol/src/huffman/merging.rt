@@ -127,7 +127,7 @@ fn merge_all<P: BitArray>(alloc: Global, weights: &[P]) -> Result<Vec<[usize; 2]
 /// - `TooManySymbols` if there are more than `most` weights.
 /// - `WeightOverflow` if the sum of the weights doesn't fit their type.
 /// - `Memory` if there is no memory for the merge.
-pub fn merged_pairs<P: BitArray, E>(
+pub fn merge_pairs<P: BitArray, E>(
     alloc: Global,
     weights: &[P],
     most: usize,

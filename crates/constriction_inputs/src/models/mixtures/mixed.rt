@@ -117,7 +117,7 @@ impl<D: CumulativeDistribution, P: WordOf<u32>, const PRECISION: usize> DecoderM
     }
 }
 
-/// Returns a component of weight 1. The model of a `MixtureList` has only this component until the first `turn_to`.
+/// Returns a component of weight 1. The model of a `MixtureList` has only this component until the first `select`.
 pub(super) fn first_component(family: Family) -> Component<FamilyDistribution>
     ensures { result.weight ≡ 1 }
 {

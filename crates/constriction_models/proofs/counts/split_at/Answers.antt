@@ -8,12 +8,12 @@ use Rattle.constriction_models.proofs.counts.split_at.Goals as goal
 pub overflow_add-raised : goal.overflow_add-raised
 overflow_add-raised c =
     let inside : c.loop-count.count-index < length c.args.counts.now = omega arith in
-    omega (arith, c.raised_one-raised.ensures, c.loop-count.invariant.raised, ones_fit (raised c.args.limit) c.args.counts.now c.loop-count.count-index (raised_few c.args.limit) inside)
+    omega (arith, c.raise_below_limit-raised.ensures, c.loop-count.invariant.raised, ones_fit (raised c.args.limit) c.args.counts.now c.loop-count.count-index (raised_few c.args.limit) inside)
 
 pub overflow_add-rest : goal.overflow_add-rest
 overflow_add-rest c =
     let inside : c.loop-count.count-index < length c.args.counts.now = omega arith in
-    omega (arith, c.kept_one.ensures, c.loop-count.invariant.rest, kept_fit c.args.limit c.args.counts.now (λ k. omega (arith, c.type_inv.counts k)) (omega arith), sum_by_more_le (kept c.args.limit) c.args.counts.now c.loop-count.count-index 0 inside)
+    omega (arith, c.keep_from_limit.ensures, c.loop-count.invariant.rest, kept_fit c.args.limit c.args.counts.now (λ k. omega (arith, c.type_inv.counts k)) (omega arith), sum_by_more_le (kept c.args.limit) c.args.counts.now c.loop-count.count-index 0 inside)
 
 pub returns-clause-fits : goal.returns-clause-fits
 returns-clause-fits c =

@@ -8,15 +8,15 @@ use Rattle.constriction_queue.proofs.step.step_onto.Goals as goal
 
 pub grow-after-requires-clause-wide : goal.grow-after-requires-clause-wide
 grow-after-requires-clause-wide g c =
-    rw c.narrowed-part.ensures.range (cut_wide _ _ _ _ _ c.requires.step.within_word c.requires.sizes.two_words c.requires.step.not_empty c.requires.wide)
+    rw c.narrow_interval-part.ensures.range (cut_wide _ _ _ _ _ c.requires.step.within_word c.requires.sizes.two_words c.requires.step.not_empty c.requires.wide)
 
 pub returns : goal.returns
 returns g c =
     let number = g.Word.BitArray.number in
     let words = map number (g.Backend.Holds.words c.args.bulk.now) in
-    let released = released_of number c.narrowed-part.result.released in
+    let released = released_of number c.narrow_interval-part.result.released in
     let top = word_of number c.grow-after.result.top in
-    let all = c.grow-after.ensures.run (released ++ words) ∙ ap (grown g.Word.BitArray.BITS g.State.BitArray.BITS) (c.narrowed-part.ensures.run words) in
+    let all = c.grow-after.ensures.run (released ++ words) ∙ ap (grown g.Word.BitArray.BITS g.State.BitArray.BITS) (c.narrow_interval-part.ensures.run words) in
     let is = rw (sym (append_assoc top released words)) at all in
     record {
       ok = record {
@@ -26,7 +26,7 @@ returns g c =
         written = record {
           owed = top ++ released;
           owes = record {
-            are_words = owed_are_words number _ g.met.Word.BitArray.number_law c.narrowed-part.result.released c.grow-after.result.top;
+            are_words = owed_are_words number _ g.met.Word.BitArray.number_law c.narrow_interval-part.result.released c.grow-after.result.top;
             lower_fits = g.met.State.BitArray.number_law _;
             situation = c.grow-after.result.situation;
             lower = _;
@@ -38,7 +38,7 @@ returns g c =
           room_used = c.in_ok-write_step.ensures.written.room_used;
           untouched = λ none. (c.in_ok-write_step.ensures.written.untouched none).1;
         };
-        held = omega (arith, c.grow-after.ensures.held, c.narrowed-part.ensures.held);
+        held = omega (arith, c.grow-after.ensures.held, c.narrow_interval-part.ensures.held);
         heads = tt;
         kept = λ _. tt;
         error = tt;
@@ -52,9 +52,9 @@ pub returns-in_err-write_step : goal.returns-in_err-write_step
 returns-in_err-write_step g c =
     let number = g.Word.BitArray.number in
     let words = map number (g.Backend.Holds.words c.args.bulk.now) in
-    let released = released_of number c.narrowed-part.result.released in
+    let released = released_of number c.narrow_interval-part.result.released in
     let top = word_of number c.grow-after.result.top in
-    let all = c.grow-after.ensures.run (released ++ words) ∙ ap (grown g.Word.BitArray.BITS g.State.BitArray.BITS) (c.narrowed-part.ensures.run words) in
+    let all = c.grow-after.ensures.run (released ++ words) ∙ ap (grown g.Word.BitArray.BITS g.State.BitArray.BITS) (c.narrow_interval-part.ensures.run words) in
     let is = rw (sym (append_assoc top released words)) at all in
     let told = err_from_is_err_and c.from_residual.result c.from_residual.ensures.1 in
     rw (told.1, told.2) record {
@@ -69,7 +69,7 @@ returns-in_err-write_step g c =
         error = record {
           owed = top ++ released;
           owes = record {
-            are_words = owed_are_words number _ g.met.Word.BitArray.number_law c.narrowed-part.result.released c.grow-after.result.top;
+            are_words = owed_are_words number _ g.met.Word.BitArray.number_law c.narrow_interval-part.result.released c.grow-after.result.top;
             lower_fits = g.met.State.BitArray.number_law _;
             situation = c.grow-after.result.situation;
             lower = _;
@@ -83,7 +83,7 @@ returns-in_err-write_step g c =
             | inl room ↦ inl room.0
             | inr write ↦ inr write
           ];
-          one = λ none. c.in_err-write_step.ensures.one (c.narrowed-part.ensures.none none);
+          one = λ none. c.in_err-write_step.ensures.one (c.narrow_interval-part.ensures.none none);
         };
       };
       ok = tt;

@@ -13,7 +13,7 @@ loop-place-preserved g c =
     let own = λ (t : List (ℕ × ℕ × ℕ)). t in
     let l = c.loop-place in
     let tables = g.L.DecoderModelList.tables c.args.models.now in
-    let at = rw (c.turn_to.ensures.place, c.turn_to.ensures.tables, l.invariant.tables) at c.model.ensures in
+    let at = rw (c.select.ensures.place, c.select.ensures.tables, l.invariant.tables) at c.model.ensures in
     let table = g.L.Model.EntropyModel.table c.model.result.now in
     let x = c.decode_next.result in
     let before = take l.place l.symbols in
@@ -25,7 +25,7 @@ loop-place-preserved g c =
           _ l.coder.state c.decode_next.new.coder.state l.invariant.decoded c.decode_next.ensures.decoded);
       buffer = c.decode_next.ensures.buffer ∙ l.invariant.buffer;
       count = length-set l.symbols l.place x ∙ l.invariant.count;
-      tables = c.turn_to.ensures.tables ∙ l.invariant.tables;
+      tables = c.select.ensures.tables ∙ l.invariant.tables;
     }
 
 pub returns-clause-decoded : goal.returns-clause-decoded

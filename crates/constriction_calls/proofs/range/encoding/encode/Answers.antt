@@ -16,9 +16,9 @@ returns-in-Some g c =
     let within : c.args.len.now ≤ length c.args.buffer.now = omega (arith, c.if-len-buffer.false) in
     let room : c.args.len.now + c.args.encoder.now.held ≤ length c.args.buffer.now = omega (arith, within, c.if-encoder-buffer.true) in
     let made = c.in-Some in
-    let e = c.end_putting.ensures in
-    let new = c.end_putting.new in
+    let e = c.finish_encoding.ensures in
+    let new = c.finish_encoding.new in
     record {
       call = puts_ended number state w s g.row.PRECISION coded count old within (fit_ok g.row.PRECISION coded c.in_ok-check.ensures) made.ensures.can room (run_of_parts number state w s c.args.encoder.now []) refl made.now
-          made.ensures.narrowed.is made.words.now made.words.now refl made.ensures.narrowed.narrowed c.end_putting.result new.encoder new.buffer new.len e.ok e.err e.full e.kept;
+          made.ensures.narrowed.is made.words.now made.words.now refl made.ensures.narrowed.narrowed c.finish_encoding.result new.encoder new.buffer new.len e.ok e.err e.full e.kept;
     }

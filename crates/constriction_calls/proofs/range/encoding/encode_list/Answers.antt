@@ -15,11 +15,11 @@ returns g c =
     let count = g.I.Items.item_count c.args.items.now in
     let can : CanEncode number state w s c.args.encoder.now count = search rules in
     let room : c.args.len.now + c.args.encoder.now.held ≤ length c.args.buffer.now = search rules in
-    let made = c.in-Some-put_list in
+    let made = c.in-Some-encode_to_list in
     let put = rw c.in-Some-list.ensures.items at made.ensures in
-    let e = c.end_putting.ensures in
-    let new = c.end_putting.new in
+    let e = c.finish_encoding.ensures in
+    let new = c.finish_encoding.new in
     record {
       call = puts_ended number state w s g.row.PRECISION coded count old c.requires.within c.requires.fit can room (run_by w s c.in-Some.made) c.in-Some.ensures.run made.now put.is
-          made.words.items c.deref.result.now c.deref.ensures.value put.narrowed c.end_putting.result new.encoder new.buffer new.len e.ok e.err e.full e.kept;
+          made.words.items c.deref.result.now c.deref.ensures.value put.narrowed c.finish_encoding.result new.encoder new.buffer new.len e.ok e.err e.full e.kept;
     }

@@ -11,8 +11,8 @@ use Rattle.constriction_calls.proofs.RangeTaking.{finds_same}
 use Rattle.constriction_calls.proofs.StoreAnswers.{chunk_given, look_up_refused}
 use Rattle.constriction_calls.proofs.store.looking_up.chunk.Goals as goal
 
-pub returns-in-Ok-take_list : goal.returns-in-Ok-take_list
-returns-in-Ok-take_list g c =
+pub returns-in-Ok-decode_count : goal.returns-in-Ok-decode_count
+returns-in-Ok-decode_count g c =
     let number = g.Word.BitArray.number in
     let state = g.State.BitArray.number in
     let w = g.Word.BitArray.BITS in
@@ -23,15 +23,15 @@ returns-in-Ok-take_list g c =
     let total : IsTotal g.row.PRECISION weights = search rules in
     let there : Run = run_from c.args.pos (lower_of c.in-Ok.state) (range_of c.in-Ok.state) in
     let there_is : there ≡ run_from c.args.pos (state c.args.lower) (state c.args.range) = ap₂ (λ (l r : ℕ). run_from c.args.pos l r) c.in-Ok.ensures.lower c.in-Ok.ensures.range in
-    let again = c.in-Ok-take_list.again.items in
-    let got = c.in-Ok-take_list.ensures.decoded words there c.decoder_at-decoder.ensures.decoder in
-    let by_weights = finds_same w s words _ (items_of (weights_model g.row.PRECISION weights) again) there got.0 (sym (c.in-Some.ensures.items again c.in-Ok-take_list.ensures.count)) got.1 in
+    let again = c.in-Ok-decode_count.again.items in
+    let got = c.in-Ok-decode_count.ensures.decoded words there c.decoder_at-decoder.ensures.decoder in
+    let by_weights = finds_same w s words _ (items_of (weights_model g.row.PRECISION weights) again) there got.0 (sym (c.in-Some.ensures.items again c.in-Ok-decode_count.ensures.count)) got.1 in
     let found = subst (λ (r : Run). FindsAll w s words (items_of (weights_model g.row.PRECISION weights) again) r got.0) there_is by_weights in
     let same = c.copy_from_slice.ensures.after ∙ c.deref.ensures.value in
     record {
       call = chunk_given state w s g.row.PRECISION weights words c.args.pos c.args.lower c.args.range c.args.symbols.now
           (omega (arith, c.if-pos-words.false, length-map c.args.words.now number)) total least c.copy_from_slice.new.self (
-            ap length same ∙ c.in-Ok-take_list.ensures.count,
+            ap length same ∙ c.in-Ok-decode_count.ensures.count,
             (got.0, subst (λ (xs : List ℕ). FindsAll w s words (items_of (weights_model g.row.PRECISION weights) xs) (run_from c.args.pos (state c.args.lower) (state c.args.range)) got.0) (sym same) found),
           );
     }

@@ -8,7 +8,7 @@ returns-in-Err-clause-err g c =
     let book = c.args.codebook.now in
     let l = c.loop-done in
     read_none g.R.ReadBitStream.gives g.R.ReadBitStream.unread (g.C.Codebook.codeword book) (g.C.DecoderCodebook.reads_on book) (g.met.R.ReadBitStream.list_law c.requires)
-    l.read.items _ l.stream c.decode_symbol.new.self l.invariant.so_far (g.C.DecoderCodebook.is_invalid book) _ (omega (arith, l.invariant.counted, c.loop-done-test.true)) c.in-Err.error c.told_as.result c.in-Err.ensures c.told_as.ensures
+    l.read.items _ l.stream c.decode_symbol.new.self l.invariant.so_far (g.C.DecoderCodebook.is_invalid book) _ (omega (arith, l.invariant.counted, c.loop-done-test.true)) c.in-Err.error c.as_refusal.result c.in-Err.ensures c.as_refusal.ensures
 
 pub loop-done-preserved : goal.loop-done-preserved
 loop-done-preserved g c =

@@ -9,4 +9,4 @@ pub returns : goal.returns
 unfolding scaled
 returns g c =
     let d = c.args.self.now in
-    c.located.ensures ∙ same_located _ _ _ _ _ _ _ d.location _ c.args.place c.table.ensures (ap (λ n. n * d.scale) c.WIDTH.ensures) d.rated (omega (arith, ints)) (omega (arith, ints))
+    c.interpolate.ensures ∙ same_located _ _ _ _ _ _ _ d.location _ c.args.place c.table.ensures (ap (λ n. n * d.scale) c.WIDTH.ensures) d.rated (omega (arith, ints)) (omega (arith, ints))

@@ -9,8 +9,8 @@ pub returns : goal.returns
 returns g c =
     let number = g.Word.BitArray.number in
     let words = g.Backend.Holds.words c.self.inside.bulk in
-    let seal = c.sealing.result in
-    let all = c.sealing.ensures.words (map number words) (words_of_numbers number _ g.met.Word.BitArray.number_law words) in
+    let seal = c.make_seal.result in
+    let all = c.make_seal.ensures.words (map number words) (words_of_numbers number _ g.met.Word.BitArray.number_law words) in
     rw (← c.self.view_is) record {
       lent = ap (λ ws. map number ws ++ flushed_in_order number seal.held seal.point seal.zero) c.words.ensures
           ∙ ap (λ ws. map number (g.Backend.Words.lent c.self.inside.bulk) ++ ws) (behind_written number seal.held seal.point seal.zero (map number words) _ all);

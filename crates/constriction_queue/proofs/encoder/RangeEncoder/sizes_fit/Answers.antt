@@ -11,11 +11,11 @@ returns-in_default g c =
     let w = g.Word.BitArray.BITS in
     let number = g.Word.BitArray.number in
     let held = g.Backend.Holds.words c.self.inside.bulk in
-    let seal = c.sealing-seal.result in
-    let all = c.sealing-seal.ensures.words (map number held) (words_of_numbers number _ g.met.Word.BitArray.number_law held) in
+    let seal = c.make_seal-seal.result in
+    let all = c.make_seal-seal.ensures.words (map number held) (words_of_numbers number _ g.met.Word.BitArray.number_law held) in
     let n = length (sealed_by w g.State.BitArray.BITS (encoder_of number g.Backend.Holds w (g.State.BitArray.number c.self.inside.state.lower) (g.State.BitArray.number c.self.inside.state.range) c.self.inside.bulk c.self.inside.situation)) in
-    let sum : c.remaining.result + c.owed_count-owed.result ≡ n =
-    omega (arith, c.remaining.ensures, c.owed_count-owed.ensures, count_is number (flushed_of number seal.held seal.point seal.zero) held _ all) in
+    let sum : c.remaining.result + c.flushed_count-owed.result ≡ n =
+    omega (arith, c.remaining.ensures, c.flushed_count-owed.ensures, count_is number (flushed_of number seal.held seal.point seal.zero) held _ all) in
     let top : 2 ^ 64 ≡ 18446744073709551616 = refl in
     rw (← c.self.view_is) (
       λ is. absurd (false≢true is),
@@ -27,11 +27,11 @@ returns g c =
     let w = g.Word.BitArray.BITS in
     let number = g.Word.BitArray.number in
     let held = g.Backend.Holds.words c.self.inside.bulk in
-    let seal = c.sealing-seal.result in
-    let all = c.sealing-seal.ensures.words (map number held) (words_of_numbers number _ g.met.Word.BitArray.number_law held) in
+    let seal = c.make_seal-seal.result in
+    let all = c.make_seal-seal.ensures.words (map number held) (words_of_numbers number _ g.met.Word.BitArray.number_law held) in
     let n = length (sealed_by w g.State.BitArray.BITS (encoder_of number g.Backend.Holds w (g.State.BitArray.number c.self.inside.state.lower) (g.State.BitArray.number c.self.inside.state.range) c.self.inside.bulk c.self.inside.situation)) in
-    let sum : c.remaining.result + c.owed_count-owed.result ≡ n =
-    omega (arith, c.remaining.ensures, c.owed_count-owed.ensures, count_is number (flushed_of number seal.held seal.point seal.zero) held _ all) in
+    let sum : c.remaining.result + c.flushed_count-owed.result ≡ n =
+    omega (arith, c.remaining.ensures, c.flushed_count-owed.ensures, count_is number (flushed_of number seal.held seal.point seal.zero) held _ all) in
     let added = c.in-Some.ensures in
     let words : c.in-Some.words ≡ n = omega (arith, added.1, sum) in
     let by_quotient = fit_by_quotient w n c.self.invariant.0.some_bits in

@@ -4,8 +4,8 @@ use Rattle.constriction_base.proofs.Entries.{in_range}
 use Rattle.constriction_base.proofs.Heads.{low_in_word}
 use Rattle.constriction_stack.proofs.lanes.steps.decode_from.Goals as goal
 
-pub popped_head-popped-requires-clause-total : goal.popped_head-popped-requires-clause-total
-popped_head-popped-requires-clause-total g c =
+pub pop_head-popped-requires-clause-total : goal.pop_head-popped-requires-clause-total
+pop_head-popped-requires-clause-total g c =
     let within = in_range _ _ _ _ _ _ (g.M.EntropyModel.lawful c.args.model.now).follow c.quantile_function-symbol.ensures.found in
     rw (c.widen-2.ensures, c.widen.ensures, c.widen-4.ensures, c.widen-3.ensures, c.from_nonzero-p.ensures) within.2
 
@@ -24,6 +24,6 @@ returns-clause-decoded g c =
       c.quantile_function-symbol.ensures.found,
       (
         record { from = rw quantile at covers.0; below = rw quantile at covers.1 },
-        rw (c.popped_head-popped.ensures, c.widen-2.ensures, c.widen.ensures, c.widen-4.ensures, c.widen-3.ensures, c.from_nonzero-p.ensures) at c.refilled_from-new_head.ensures.state,
+        rw (c.pop_head-popped.ensures, c.widen-2.ensures, c.widen.ensures, c.widen-4.ensures, c.widen-3.ensures, c.from_nonzero-p.ensures) at c.refill_from-new_head.ensures.state,
       ),
     )

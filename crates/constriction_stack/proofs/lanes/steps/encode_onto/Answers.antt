@@ -8,8 +8,8 @@ use Rattle.constriction_stack.specs.Lanes.{lane}
 use Rattle.constriction_stack.proofs.LaneWords.{more_in, same_in}
 use Rattle.constriction_stack.proofs.lanes.steps.encode_onto.Goals as goal
 
-pub pushed-requires-clause-room : goal.pushed-requires-clause-room
-pushed-requires-clause-room g c = elim c.room_made-base.ensures [
+pub push_head-requires-clause-room : goal.push_head-requires-clause-room
+push_head-requires-clause-room g c = elim c.make_room-base.ensures [
   | inl fits ↦ rw fits.1 (room_of_low _ _ _ fits.0)
   | inr above ↦ rw above.1 (room_after_word _ _ _ _ _ (omega (arith, c.requires.sizes.two_words)) c.requires.step.within_word c.requires.step.not_empty (g.met.State.BitArray.number_law _))
 ]
@@ -20,10 +20,10 @@ returns-clause-encoded g c = λ valid.
     let s = g.State.BitArray.BITS in
     let e : Step = record { precision = c.args.precision; left = g.State.BitArray.number c.args.left; p = g.State.BitArray.number c.args.p } in
     let old = lane g.Word.BitArray.number g.State.BitArray.number c.args.head c.args.words.now c.args.len in
-    elim c.room_made-base.ensures [
-      | inl fits ↦ rw (c.pushed.ensures, fits.1, fits.2, same_in g.Word.BitArray.number c.args.words.now c.args.len c.narrow.result)
+    elim c.make_room-base.ensures [
+      | inl fits ↦ rw (c.push_head.ensures, fits.1, fits.2, same_in g.Word.BitArray.number c.args.words.now c.args.len c.narrow.result)
           (push_kept w s e c.requires.sizes c.requires.step old valid (rw (← above_table w s e c.requires.sizes c.requires.step) (room_of_low _ _ _ fits.0)))
-      | inr above ↦ rw (c.pushed.ensures, above.1, above.2, more_in g.Word.BitArray.number c.args.words.now c.args.len c.narrow.result c.requires.room, c.narrow.ensures)
+      | inr above ↦ rw (c.push_head.ensures, above.1, above.2, more_in g.Word.BitArray.number c.args.words.now c.args.len c.narrow.result c.requires.room, c.narrow.ensures)
           (push_written w s e c.requires.sizes c.requires.step old valid (rw (← above_table w s e c.requires.sizes c.requires.step) (no_room_of_high _ _ _ (λ less. omega (arith, above.0, less)))))
     ]
 

@@ -12,8 +12,8 @@ use Rattle.constriction_queue.proofs.decoder.symbols.RangeDecoderDecode.decode_s
 pub quantile_at-quotient-requires-clause-sized : goal.quantile_at-quotient-requires-clause-sized
 quantile_at-quotient-requires-clause-sized g c = omega (arith, (g.met.M.EntropyModel.sized c.args.model).1, g.met.M.Probability.WordOf.width_law)
 
-pub narrowed_by_reading-requires-clause-step : goal.narrowed_by_reading-requires-clause-step
-narrowed_by_reading-requires-clause-step g c =
+pub narrow_and_read-requires-clause-step : goal.narrow_and_read-requires-clause-step
+narrow_and_read-requires-clause-step g c =
     rw (c.widen-left.ensures, c.widen.ensures, c.widen-p.ensures, c.widen-2.ensures, c.from_nonzero-p.ensures)
     (entry_is_step _ _ _ _ _ _ _ (g.M.EntropyModel.lawful c.args.model) c.quantile_function-symbol.ensures.found (g.met.M.EntropyModel.sized c.args.model) g.met.M.Probability.WordOf.width_law)
 
@@ -52,7 +52,7 @@ returns-in-Ok-clause-step g c =
     let w = g.Word.BitArray.BITS in
     let s = g.State.BitArray.BITS in
     let old = decoder_at number g.Backend.Holds s (state c.self.inside.state.lower) (state c.self.inside.state.range) (state c.self.inside.distance) c.self.inside.bulk in
-    let new = decoder_at number g.Backend.Holds s (state c.in-Ok.now.lower) (state c.in-Ok.now.range) (state c.in-Ok.now.distance) c.narrowed_by_reading.new.bulk in
+    let new = decoder_at number g.Backend.Holds s (state c.in-Ok.now.lower) (state c.in-Ok.now.range) (state c.in-Ok.now.distance) c.narrow_and_read.new.bulk in
     let step = ap₂ (λ (left p : ℕ). step_of g.row.PRECISION left p) (c.widen-left.ensures ∙ c.widen.ensures) (c.widen-p.ensures ∙ c.widen-2.ensures ∙ c.from_nonzero-p.ensures) in
     let covers = c.quantile_function-symbol.ensures.covers in
     rw (← c.self.view_is, c.long-self-inside.ensures.lower, c.long-self-inside.ensures.range) (
@@ -135,15 +135,15 @@ returns-clause-variant g c =
     let small = rw read at (small_of_shr _ _ (sym c.shift_right.ensures ∙ c.if-not-is_nothing.ensures.0 refl)) in
     rw (← c.self.view_is) (λ e. absurd (cc), λ h. absurd (omega arith))
 
-pub narrowed_by_reading-requires-clause-above : goal.narrowed_by_reading-requires-clause-above
-narrowed_by_reading-requires-clause-above g c =
+pub narrow_and_read-requires-clause-above : goal.narrow_and_read-requires-clause-above
+narrow_and_read-requires-clause-above g c =
     let sized = g.met.M.EntropyModel.sized c.args.model in
     let small = small_of_shr _ _ (sym c.shift_right.ensures ∙ c.if-not-is_nothing.ensures.0 refl) in
     let quantile = (rw c.narrow.ensures at c.narrow-quantile.ensures) ∙ low_in_word _ _ _ _ small (omega (arith, sized.1, g.met.M.Probability.WordOf.width_law)) sized.1 ∙ c.quantile_at-quotient.ensures in
     rw (c.widen-left.ensures, c.widen.ensures) (rw quantile at c.quantile_function-symbol.ensures.covers.0)
 
-pub narrowed_by_reading-requires-clause-below : goal.narrowed_by_reading-requires-clause-below
-narrowed_by_reading-requires-clause-below g c =
+pub narrow_and_read-requires-clause-below : goal.narrow_and_read-requires-clause-below
+narrow_and_read-requires-clause-below g c =
     let sized = g.met.M.EntropyModel.sized c.args.model in
     let small = small_of_shr _ _ (sym c.shift_right.ensures ∙ c.if-not-is_nothing.ensures.0 refl) in
     let quantile = (rw c.narrow.ensures at c.narrow-quantile.ensures) ∙ low_in_word _ _ _ _ small (omega (arith, sized.1, g.met.M.Probability.WordOf.width_law)) sized.1 ∙ c.quantile_at-quotient.ensures in

@@ -11,32 +11,32 @@ pub returns-clause-shows : goal.returns-clause-shows
 returns-clause-shows g c =
     let number = g.Word.BitArray.number in
     let words = reverse c.self.inside.bulk.items in
-    rw (← c.self.view_is) (ap reverse c.in_ok-write_owed.ensures.words ∙ c.sealing-seal.ensures.words (map number words) (words_of_numbers number _ g.met.Word.BitArray.number_law words))
+    rw (← c.self.view_is) (ap reverse c.in_ok-flush_words.ensures.words ∙ c.make_seal-seal.ensures.words (map number words) (words_of_numbers number _ g.met.Word.BitArray.number_law words))
 
 pub returns-clause-back : goal.returns-clause-back
 returns-clause-back g c =
     let number = g.Word.BitArray.number in
     let words = reverse c.self.inside.bulk.items in
-    let seal = c.sealing-seal.result in
+    let seal = c.make_seal-seal.result in
     let owed = flushed_of number seal.held seal.point seal.zero in
-    rw (← c.self.view_is, c.owed_count-count.ensures) (ap (drop (length owed)) c.in_ok-write_owed.ensures.words ∙ drop-append_seam owed (map number words))
+    rw (← c.self.view_is, c.flushed_count-count.ensures) (ap (drop (length owed)) c.in_ok-flush_words.ensures.words ∙ drop-append_seam owed (map number words))
 
-pub returns-in_err-write_owed-clause-room : goal.returns-in_err-write_owed-clause-room
-returns-in_err-write_owed-clause-room g c =
+pub returns-in_err-flush_words-clause-room : goal.returns-in_err-flush_words-clause-room
+returns-in_err-flush_words-clause-room g c =
     let number = g.Word.BitArray.number in
     let words = reverse c.self.inside.bulk.items in
-    let seal = c.sealing-seal.result in
+    let seal = c.make_seal-seal.result in
     let owed = flushed_of number seal.held seal.point seal.zero in
-    let all = c.sealing-seal.ensures.words (map number words) (words_of_numbers number _ g.met.Word.BitArray.number_law words) in
+    let all = c.make_seal-seal.ensures.words (map number words) (words_of_numbers number _ g.met.Word.BitArray.number_law words) in
     let count = count_is number owed words _ all in
     let len = length-map words number in
     let told = err_from_is_err_and c.from_residual.result c.from_residual.ensures.1 in
-    rw (told.1, ← c.self.view_is) (omega (arith, c.in_err-write_owed.ensures.short, count, len))
+    rw (told.1, ← c.self.view_is) (omega (arith, c.in_err-flush_words.ensures.short, count, len))
 
 pub returns-clause-coder : goal.returns-clause-coder
 returns-clause-coder g c =
     is_encoder g.Word.BitArray.number _ _ _ _ _ _ c.self.inside.situation c.self.invariant.0 c.self.invariant.1 c.self.inside.state.wide (g.met.State.BitArray.number_law _) (g.met.State.BitArray.number_law _)
 
-pub returns-in_err-write_owed-clause-coder : goal.returns-in_err-write_owed-clause-coder
-returns-in_err-write_owed-clause-coder g c =
+pub returns-in_err-flush_words-clause-coder : goal.returns-in_err-flush_words-clause-coder
+returns-in_err-flush_words-clause-coder g c =
     is_encoder g.Word.BitArray.number _ _ _ _ _ _ c.self.inside.situation c.self.invariant.0 c.self.invariant.1 c.self.inside.state.wide (g.met.State.BitArray.number_law _) (g.met.State.BitArray.number_law _)

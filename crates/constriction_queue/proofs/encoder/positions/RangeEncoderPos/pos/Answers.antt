@@ -10,7 +10,7 @@ returns g c =
     let words = g.Backend.Holds.words c.self.inside.bulk in
     let held = pending_of number g.Word.BitArray.BITS c.self.inside.situation in
     let place = g.met.Backend.CountsWords.count_law c.self.inside.bulk c.pos.result c.pos.ensures in
-    let count : c.held.result ≡ length held = rw (← c.self.view_is) at c.held.ensures in
+    let count : c.pending_count.result ≡ length held = rw (← c.self.view_is) at c.pending_count.ensures in
     rw (← c.self.view_is) (
       record {
         place_is = omega (arith, place, count, moves_are number held words);

@@ -6,8 +6,8 @@ use Rattle.constriction_stack.proofs.Coders.{is_coder}
 use Rattle.constriction_base.proofs.Heads.{low_in_word}
 use Rattle.constriction_stack.proofs.coder.symbols.AnsCoderDecode.decode_symbol.Goals as goal
 
-pub popped_head-head-requires-clause-total : goal.popped_head-head-requires-clause-total
-popped_head-head-requires-clause-total g c =
+pub pop_head-head-requires-clause-total : goal.pop_head-head-requires-clause-total
+pop_head-head-requires-clause-total g c =
     let within = in_range _ _ _ _ _ _ (g.M.EntropyModel.lawful c.args.model).follow c.quantile_function-symbol.ensures.found in
     rw (c.widen-3.ensures, c.widen-2.ensures, c.widen-5.ensures, c.widen-4.ensures, c.from_nonzero-p.ensures) within.2
 
@@ -17,8 +17,8 @@ low_bits_are w p low head q h is e =
     let whole : w ≡ w - p + p = omega (arith, h) in
     e ∙ ap (λ n. n % 2 ^ p) is ∙ ap (λ n. head % 2 ^ n % 2 ^ p) whole ∙ mod-mod-pow head (w - p) p
 
-pub popped_head-head-requires-clause-quantile : goal.popped_head-head-requires-clause-quantile
-popped_head-head-requires-clause-quantile g c =
+pub pop_head-head-requires-clause-quantile : goal.pop_head-head-requires-clause-quantile
+pop_head-head-requires-clause-quantile g c =
     let sized = g.met.M.EntropyModel.sized c.args.model in
     low_bits_are g.Word.BitArray.BITS g.row.PRECISION (g.Word.BitArray.number c.self.inside.low) (g.State.BitArray.number c.self.inside.state) _
     (omega (arith, sized.1, g.met.M.Probability.WordOf.width_law)) c.self.inside.low_word (rw c.widen.ensures at c.low_bits-quantile.ensures)
@@ -44,8 +44,8 @@ returns-in-Ok g c =
             before = is_coder _ _ _ _ _ _ c.self.invariant (g.met.State.BitArray.number_law _);
             after = is_coder _ _ _ _ _ _ c.self.invariant (g.met.State.BitArray.number_law _);
             is_next = record { from = rw quantile at covers.0; below = rw quantile at covers.1 };
-            popped = λ list. sym (rw (c.popped_head-head.ensures, c.widen-3.ensures, c.widen-2.ensures, c.widen-5.ensures, c.widen-4.ensures, c.from_nonzero-p.ensures) at c.in-Ok.ensures.list list);
-            refilled = rw (c.popped_head-head.ensures, c.widen-3.ensures, c.widen-2.ensures, c.widen-5.ensures, c.widen-4.ensures, c.from_nonzero-p.ensures) at c.in-Ok.ensures.reads;
+            popped = λ list. sym (rw (c.pop_head-head.ensures, c.widen-3.ensures, c.widen-2.ensures, c.widen-5.ensures, c.widen-4.ensures, c.from_nonzero-p.ensures) at c.in-Ok.ensures.list list);
+            refilled = rw (c.pop_head-head.ensures, c.widen-3.ensures, c.widen-2.ensures, c.widen-5.ensures, c.widen-4.ensures, c.from_nonzero-p.ensures) at c.in-Ok.ensures.reads;
             head = tt;
             kept = tt;
             error = tt;
@@ -78,7 +78,7 @@ returns g c =
               refilled = tt;
               head = refl;
               kept = λ list. rw (c.in-Err.ensures.list list) refl;
-              error = rw (c.popped_head-head.ensures, c.widen-3.ensures, c.widen-2.ensures, c.widen-5.ensures, c.widen-4.ensures, c.from_nonzero-p.ensures) at c.in-Err.ensures.reads;
+              error = rw (c.pop_head-head.ensures, c.widen-3.ensures, c.widen-2.ensures, c.widen-5.ensures, c.widen-4.ensures, c.from_nonzero-p.ensures) at c.in-Err.ensures.reads;
             },
             refl,
           ),

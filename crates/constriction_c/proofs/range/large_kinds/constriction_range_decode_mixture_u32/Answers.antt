@@ -1,7 +1,0 @@
-use Rattle.std.proofs.Common.{w32}
-use Rattle.std.proofs.lemmas.Int.{to_z-of_z}
-use Rattle.constriction_c.proofs.Told.{mixture_is, takes_told}
-use Rattle.constriction_c.proofs.range.large_kinds.constriction_range_decode_mixture_u32.Goals as goal
-
-pub returns : goal.returns
-returns c = takes_told (mixture_is c.new-components.ensures.numbers c.new-components.ensures.lists c.new-models.ensures (to_z-of_z w32 c.args.min c.ranges.min) (to_z-of_z w32 c.args.max c.ranges.max)) c.parts-parts.ensures c.of.ensures c.code_without_space.ensures c.decode-answer.ensures.call

@@ -1,0 +1,56 @@
+// Written by tools/sizes from u32.rt.
+//! Stores with 16-bit words, 32-bit states and a precision of 12 bits.
+
+ghost use Rattle.constriction_c.specs.U16.{StoreBuildsU16, StoreDecodesU16};
+
+use crate::codes::{code_of, code_without_space};
+use constriction_calls::store::{build, chunk};
+use std::alloc::Global;
+
+/// Builds a store of chunks, and writes its words and its index. The index is `positions`, `lowers` and `ranges`.
+///
+/// Calls [`build`] and returns the code of its result ([`code_of`]).
+#[unsafe(no_mangle)]
+pub extern "C" fn constriction_store_build_u16(
+    alloc: Global,
+    words: &mut [u16],
+    len: &mut usize,
+    positions: &mut [usize],
+    lowers: &mut [u32],
+    ranges: &mut [u32],
+    weights: &[u16],
+    symbols: &[usize],
+    lengths: &[usize],
+    needed: &mut usize,
+) -> u32
+    ensures { StoreBuildsU16 result needed.old needed.new weights.now symbols.now lengths.now words.old len.old
+        positions.old lowers.old ranges.old words.new len.new positions.new lowers.new ranges.new }
+{
+    code_of(
+        build::<_, _, _, 12>(
+            alloc, words, len, positions, lowers, ranges, weights, symbols, lengths,
+        ),
+        needed,
+    )
+}
+
+/// Decodes one chunk of a store into `symbols`.
+///
+/// `pos`, `lower` and `range` are the chunk's numbers in the lists `positions`, `lowers` and `ranges`, as
+/// `constriction_store_build_u16` writes them.
+///
+/// Calls [`chunk`] and returns the code of its result ([`code_of`]).
+#[unsafe(no_mangle)]
+pub extern "C" fn constriction_store_chunk_u16(
+    alloc: Global,
+    words: &[u16],
+    pos: usize,
+    lower: u32,
+    range: u32,
+    weights: &[u16],
+    symbols: &mut [usize],
+) -> u32
+    ensures { StoreDecodesU16 result weights.now words.now pos lower range symbols.old symbols.new }
+{
+    code_without_space(chunk::<u16, _, _, 12>(alloc, words, pos, lower, range, weights, symbols))
+}

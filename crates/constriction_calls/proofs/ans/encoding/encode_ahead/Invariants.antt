@@ -1,0 +1,25 @@
+use Rattle.std.proofs.Common.{◌≡◌, ◌≤◌, ◌<◌, ◌-◌, drop, length}
+use Rattle.std.specs.Prelude.{reverse, IfSome}
+use Rattle.constriction_base.specs.Models.{AreModels}
+use Rattle.constriction_stack.specs.Ans.{IsNormalized}
+use Rattle.constriction_stack.specs.Symbols.{EncodesAll}
+use Rattle.constriction_words.specs.Reciprocals.{IsReciprocalOf}
+use Rattle.constriction_inputs.specs.Items.{HasAt, HasInterval}
+use Rattle.constriction_calls.proofs.ans.encoding.encode_ahead.Given as goal
+
+abbrev pub invariant-items : goal.invariant-items
+invariant-items g l =
+    let items = g.L.ItemList.list_items l.fn.list in
+    record {
+      same : g.L.ItemList.list_items l.list ≡ items;
+      some : 0 < l.rest;
+      within : l.rest ≤ length items;
+      valid : IsNormalized g.Word.BitArray.BITS g.State.BitArray.BITS l.coder.state;
+      models : AreModels g.Word.BitArray.BITS (drop l.rest items);
+      coded : EncodesAll g.Word.BitArray.BITS g.State.BitArray.BITS (reverse (drop l.rest items)) l.initial.coder.state l.coder.state;
+      at : HasAt items (l.rest - 1) (HasInterval g.row.PRECISION g.P.BitArray.BITS (g.P.BitArray.number l.found.0) (g.P.BitArray.nonzero_number l.found.1));
+      reciprocal : IfSome l.found.2 (λ r. IsReciprocalOf r (g.P.BitArray.nonzero_number l.found.1));
+    }
+
+abbrev pub decreases-items : goal.decreases-items
+decreases-items g l = l.rest

@@ -1,0 +1,35 @@
+use Rattle.std.proofs.Common.{◌∙◌, arith}
+use Rattle.std.proofs.lemmas.List.{take_all}
+use Rattle.constriction_queue.specs.Encoder.{run_by}
+use Rattle.constriction_calls.proofs.RangePlaces.{is_step_at, narrows_more}
+use Rattle.constriction_calls.proofs.range.encoding.encode_to_list.Goals as goal
+
+pub encode_interval-requires-clause-step : goal.encode_interval-requires-clause-step
+encode_interval-requires-clause-step g c =
+    let items = g.L.ItemList.list_items c.args.list.now in
+    is_step_at g.Word.BitArray.BITS g.State.BitArray.BITS g.row.PRECISION g.P.BitArray.BITS items c.loop-i.i _ _ (rw c.loop-i.invariant.items at c.in_ok-found.ensures.found) g.met.P.WordOf.width_law
+
+pub encode_interval-requires-clause-symbols_left : goal.encode_interval-requires-clause-symbols_left
+encode_interval-requires-clause-symbols_left g c =
+    omega (arith, c.loop-i.invariant.left, c.loop-i-test.true, c.loop-i.auto.i-end, c.count-i-end.ensures)
+
+pub loop-i-preserved : goal.loop-i-preserved
+loop-i-preserved g c =
+    let w = g.Word.BitArray.BITS in
+    let s = g.State.BitArray.BITS in
+    let items = g.L.ItemList.list_items c.args.list.now in
+    let kept = c.loop-i.invariant in
+    let call = c.in-Ok.ensures in
+    record {
+      items = c.in_ok-found.ensures.items ∙ kept.items;
+      left = omega (arith, kept.left, call.held);
+      narrowed = narrows_more w s g.row.PRECISION g.P.BitArray.BITS items c.loop-i.i _ _ (rw kept.items at c.in_ok-found.ensures.found) (run_by w s c.args.encoder) (run_by w s c.loop-i.encoder) (run_by w s c.encode_interval.new.self) kept.narrowed call.narrowed;
+    }
+
+pub returns : goal.returns
+returns g c =
+    let items = g.L.ItemList.list_items c.args.list.now in
+    record {
+      narrowed = rw c.parts_over.ensures.run at (rw (take_all c.loop-i.i items (omega (arith, c.loop-i-test.false, c.loop-i.auto.i-end, c.count-i-end.ensures))) at c.loop-i.invariant.narrowed);
+      is = c.parts_over.ensures.coder;
+    }
