@@ -4,8 +4,8 @@
 //! inlined, so that no constant of a caller changes the code of a loop. Decodes take models by value, so that a model's
 //! fields can stay in registers. Encodes take them by reference, because they need the registers for more numbers.
 
-pub mod u32;
 pub mod u16;
+pub mod u32;
 
 use constriction_base::backends::{ReadWords, Stack, WriteWords};
 use constriction_base::model::{DecoderModel, EncoderModel, EntropyModel};

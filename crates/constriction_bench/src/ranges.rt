@@ -1,7 +1,7 @@
 //! The measured loops of the range coder. They aren't inlined, so that no constant of a caller changes their code.
 
-pub mod u32;
 pub mod u16;
+pub mod u32;
 
 ghost use Rattle.constriction_base.specs.Steps.{IsSizes};
 

@@ -2,7 +2,7 @@
 //!
 //! The module [`constriction_calls::ans`] has the calls, and explains their arguments and errors.
 
-mod u32;
-mod u32_kinds;
 mod u16;
 mod u16_kinds;
+mod u32;
+mod u32_kinds;

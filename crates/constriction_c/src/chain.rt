@@ -4,9 +4,9 @@
 //! compressed words in use, and `rest` is the number of words of remainders in use. The module
 //! [`constriction_calls::chain`] has the calls, and explains their arguments and errors.
 
-pub mod u32;
-mod u32_kinds;
-mod u32_parts;
 pub mod u16;
 mod u16_kinds;
 mod u16_parts;
+pub mod u32;
+mod u32_kinds;
+mod u32_parts;

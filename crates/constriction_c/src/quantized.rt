@@ -2,5 +2,5 @@
 //!
 //! The modules of [`constriction_inputs::quantized`] have the calls, and explain their arguments and errors.
 
-mod u32;
 mod u16;
+mod u32;

@@ -4,9 +4,9 @@
 //! buffer are in use. All words of a decoder's buffer are in use. The module [`constriction_calls::range`] has the
 //! calls, and explains their arguments and errors.
 
-pub mod u32;
-mod u32_kinds;
-mod u32_parts;
 pub mod u16;
 mod u16_kinds;
 mod u16_parts;
+pub mod u32;
+mod u32_kinds;
+mod u32_parts;

@@ -2,5 +2,5 @@
 //!
 //! The module [`constriction_calls::store`] has the calls, and explains their arguments and errors.
 
-pub mod u32;
 pub mod u16;
+pub mod u32;

@@ -2,7 +2,7 @@
 //!
 //! The module [`constriction_calls::symbol`] has the calls, and explains their arguments and errors.
 
-pub mod u32;
-mod u32_kinds;
 pub mod u16;
 mod u16_kinds;
+pub mod u32;
+mod u32_kinds;

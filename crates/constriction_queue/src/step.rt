@@ -27,7 +27,11 @@ pub fn reaches_over<State: BitArray>(lower: State, range: State) -> bool
 /// There are `count` pending words. The first is `first`, and each other word is all ones. The caller proves that
 /// `first` isn't all ones.
 #[inline]
-pub fn add_carry<Word: BitArray>(count: NonZeroUsize, first: Word, carry: bool) -> ReleasedWords<Word>
+pub fn add_carry<Word: BitArray>(
+    count: NonZeroUsize,
+    first: Word,
+    carry: bool,
+) -> ReleasedWords<Word>
     requires { Word.number first + 1 < 2 ^ Word.BITS }
     ensures { released_of Word.number (Some result)
         ≡ words_with_carry Word.BITS carry (non_zero_usize_get count) (Word.number first) }

@@ -189,7 +189,9 @@ fn encode_within<
 {
     let lent = Cursor::new_at_write_end(&remainders[..*remainders_len]);
     let mut coder = ChainCoder::from_raw_parts(Cursor::new_at_write_beginning(room), lent, both);
-    match encode_list_items::<P, Putting<'_, Word, State, PRECISION>, L, PRECISION>(&mut coder, list) {
+    match encode_list_items::<P, Putting<'_, Word, State, PRECISION>, L, PRECISION>(
+        &mut coder, list,
+    ) {
         Ok(()) => {}
         Err(refusal) => return Err(refusal),
     }
@@ -207,10 +209,12 @@ fn encode_within<
 /// - `OutOfData`: the coder needs a word of remainders, and no word is left.
 /// - `NoMemory`: the coder's buffer for new words is full.
 #[inline]
-fn encode_list_items<P: BitArray, C: Put<P, PRECISION>, L: ItemList<P, PRECISION>, const PRECISION: usize>(
-    coder: &mut C,
-    list: &mut L,
-) -> Result<(), Refusal>
+fn encode_list_items<
+    P: BitArray,
+    C: Put<P, PRECISION>,
+    L: ItemList<P, PRECISION>,
+    const PRECISION: usize,
+>(coder: &mut C, list: &mut L) -> Result<(), Refusal>
     ensures { PutsBackItems C.word_bits C.state_bits (L.list_items list.old)
         (C.chain coder.old) (C.chain coder.new) result }
 {
@@ -224,10 +228,12 @@ fn encode_list_items<P: BitArray, C: Put<P, PRECISION>, L: ItemList<P, PRECISION
 /// Encodes as [`encode_list_items`] does. This function isn't inlined, so that its loop keeps the coder's heads in
 /// registers.
 #[inline(never)]
-fn encode_many<P: BitArray, C: Put<P, PRECISION>, L: ItemList<P, PRECISION>, const PRECISION: usize>(
-    coder: &mut C,
-    list: &mut L,
-) -> Result<(), Refusal>
+fn encode_many<
+    P: BitArray,
+    C: Put<P, PRECISION>,
+    L: ItemList<P, PRECISION>,
+    const PRECISION: usize,
+>(coder: &mut C, list: &mut L) -> Result<(), Refusal>
     ensures { PutsBackItems C.word_bits C.state_bits (L.list_items list.old)
         (C.chain coder.old) (C.chain coder.new) result }
 {
@@ -248,11 +254,12 @@ fn encode_many<P: BitArray, C: Put<P, PRECISION>, L: ItemList<P, PRECISION>, con
 ///
 /// The call returns the errors of [`encode_list_items`].
 #[inline(always)]
-fn encode_item<P: BitArray, C: Put<P, PRECISION>, L: ItemList<P, PRECISION>, const PRECISION: usize>(
-    coder: &mut C,
-    list: &mut L,
-    place: usize,
-) -> Result<(), Refusal>
+fn encode_item<
+    P: BitArray,
+    C: Put<P, PRECISION>,
+    L: ItemList<P, PRECISION>,
+    const PRECISION: usize,
+>(coder: &mut C, list: &mut L, place: usize) -> Result<(), Refusal>
     requires { place < length (L.list_items list.now) }
     ensures put { PutsItem C.word_bits C.state_bits (L.list_items list.old) place
         (C.chain coder.old) (C.chain coder.new) result }

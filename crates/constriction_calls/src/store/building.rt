@@ -116,8 +116,9 @@ pub fn build<Word: WordOf<State>, State: BitArray, P: WordOf<Word>, const PRECIS
     if !is_total::<P, PRECISION>(weights) {
         return Err(Refusal::WrongWeights);
     }
-    let Some((made, index)) = build_store::<Word, State, P, PRECISION>(alloc, weights, symbols, lengths)
-    else {
+    let Some((made, index)) = build_store::<Word, State, P, PRECISION>(
+        alloc, weights, symbols, lengths,
+    ) else {
         if Models::<P, PRECISION>::know(&Weights { weights }, symbols) {
             return Err(Refusal::NoMemory);
         }

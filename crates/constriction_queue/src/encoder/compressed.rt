@@ -7,7 +7,7 @@ ghost use Rattle.constriction_queue.specs.Calls.{SealRefused, SelfDelimitingRefu
 
 use crate::encoder::RangeEncoder;
 use crate::seal::{Seal, make_seal, without_first};
-use crate::writing::{flushed_count, flush_words};
+use crate::writing::{flush_words, flushed_count};
 use constriction_base::backends::{BoundedReadWords, Holds, Stack, Words, WriteWords};
 use constriction_words::{BitArray, WordOf};
 use std::marker::Model;

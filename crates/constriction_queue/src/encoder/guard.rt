@@ -11,7 +11,7 @@ ghost use Rattle.constriction_queue.specs.Guarded.{TooShortForSeal};
 
 use crate::encoder::RangeEncoder;
 use crate::seal::make_seal;
-use crate::writing::{flushed_count, flush_words};
+use crate::writing::{flush_words, flushed_count};
 use constriction_base::backends::{Holds, Stack, WriteWords, take_back};
 use constriction_words::{BitArray, WordOf};
 use std::alloc::{AllocError, Allocator, Global};
