@@ -15,7 +15,7 @@ from sources import files_below
 HEADER = re.compile(r"(?:unsafe )?impl\b(.*?)(?: where\b.*)? ?\{\}?")
 TRAIT = re.compile(r"(?:pub(?:\([^)]*\))? )?(?:unsafe )?trait (\w+)")
 # The checker also has functions of these names that no source shows.
-DERIVED = {"clone", "default", "drop", "eq", "fmt", "hash"}
+DERIVED = {"clone", "default", "drop", "eq", "fmt", "hash", "left_cumulative_and_reciprocal"}
 # A lifetime, a reference, a slice or array, or a word.
 PART = re.compile(r"'\w+|&mut\b|&|\[|\w+")
 
