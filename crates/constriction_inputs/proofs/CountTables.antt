@@ -1,14 +1,16 @@
 -- Tables of rows of counts: how many there are, the one at a place, and which symbols they know.
-use Rattle.std.proofs.Common.{◌≡◌, ◌∙◌, ℕ, zero, suc, ◌+◌, ◌-◌, ◌*◌, ◌<◌, ◌≤◌, List, [], ◌∷◌, length, map, take, drop, get_or, refl, ap, sym, inl, inr, arith}
+use Rattle.std.proofs.Common.{◌≡◌, ◌∙◌, ℕ, zero, suc, ◌+◌, ◌-◌, ◌*◌, ◌^◌, ◌<◌, ◌≤◌, List, [], ◌∷◌, length, map, take, drop, get_or, refl, ap, sym, subst, inl, inr, arith}
 use Rattle.std.specs.List.{AllByRecursion, range_with_len}
 use Rattle.std.proofs.Math.Nat.{mul-le-mul_left, mul-suc}
 use Rattle.std.proofs.lemmas.Bool.{cases_lt}
 use Rattle.std.proofs.lemmas.List.{length-take, length-take-le}
 use Rattle.std.proofs.lemmas.List.FromFn.{get_or-map-range_with_len, length-map-range_with_len}
 use Rattle.constriction_base.specs.Models.{AreKnown, pairs_of}
-use Rattle.constriction_models.specs.Categorical.{categorical}
-use Rattle.constriction_models.specs.laws.Categorical.{categorical_known, categorical_impossible}
+use Rattle.constriction_base.specs.Tables.{Has}
+use Rattle.constriction_models.specs.Categorical.{MakeCategorical, categorical}
+use Rattle.constriction_models.specs.laws.Categorical.{below_is_within, categorical_impossible, categorical_is_table, categorical_known}
 use Rattle.constriction_inputs.specs.Counts.{count_items, count_tables}
+use Rattle.constriction_inputs.specs.Items.{IsEntryOf}
 use Rattle.constriction_inputs.specs.Mixtures.{row_at_index}
 use Rattle.constriction_inputs.proofs.MixtureTables.{row_ends, row_long}
 
@@ -21,6 +23,18 @@ module _ (precision width : ℕ) (counts : List ℕ) where
 
   pub table_at : (number place : ℕ) (d : List (ℕ × ℕ × ℕ)) → place < number → get_or (count_tables precision width number counts) place d ≡ table place
   table_at number place d within = get_or-map-range_with_len table 0 number place place d within (omega arith)
+
+  -- an interval in the table of the row at a place
+  pub entry_listed : (number place bits symbol left p : ℕ) → place < number → 1 ≤ precision → precision < bits → MakeCategorical precision (row_at_index width place counts)
+      → Has (table place) symbol left p → IsEntryOf precision bits (get_or (count_tables precision width number counts) place []) symbol left p
+  entry_listed number place bits symbol left p within positive fits made has =
+      let row : List ℕ = row_at_index width place counts in
+      let entry : IsEntryOf precision bits (table place) symbol left p = record {
+        sized = (positive, below_is_within precision bits fits);
+        lawful = categorical_is_table precision (2 ^ precision - length row) row (omega (arith, made.few)) made.some;
+        has = has;
+      } in
+      subst (λ (t : List (ℕ × ℕ × ℕ)). IsEntryOf precision bits t symbol left p) (sym (table_at number place [] within)) entry
 
   -- as symbols each under a table of its own
   pub items_listed : (number : ℕ) (symbols : List ℕ) (made : List (List (ℕ × ℕ × ℕ))) → length symbols ≡ number → made ≡ count_tables precision width number counts

@@ -1,10 +1,10 @@
 -- Bounds on the products by which a row of counts finds a quantile's symbol.
-use Rattle.std.specs.Prelude.{◌≡◌, ℕ, ◌+◌, ◌-◌, ◌*◌, ◌^◌, ◌<◌, ◌≤◌, List, length, take, drop}
-use Rattle.std.specs.List.{sum}
+use Rattle.std.specs.Prelude.{◌≡◌, ℕ, ◌+◌, ◌-◌, ◌*◌, ◌/◌, ◌^◌, ◌<◌, ◌≤◌, List, [], ◌∷◌, length, take, drop}
+use Rattle.std.specs.List.{sum, sum_by}
 use Rattle.std.proofs.Common.{ap, ◌∙◌, arith}
 use Rattle.std.proofs.Math.Nat.{mul-le-mul_right}
-use Rattle.std.proofs.lemmas.List.{drop-take, take-take, take_all}
-use Rattle.std.proofs.lemmas.List.Sums.{sum_by-take-drop}
+use Rattle.std.proofs.lemmas.List.{drop-take, length-drop, take-take, take_all}
+use Rattle.std.proofs.lemmas.List.Sums.{sum_by-cons, sum_by-take-drop}
 use Rattle.constriction_base.proofs.Sizes.{pow_le}
 
 -- no scaled start is above the one past the last symbol
@@ -47,3 +47,20 @@ pub block_more : (k n block before : ℕ) (counts : List ℕ) → before ≡ sum
 block_more k n block before counts is added =
     let long : k + n - k ≡ n = omega arith in
     omega (arith, is, rw long at added, sum_block k n counts)
+
+-- the counts before a symbol, and all others
+pub split_whole : (k before rest : ℕ) (counts : List ℕ) → k ≤ length counts → before ≡ sum (take k counts) → rest ≡ sum (take (length counts - k) (drop k counts)) → before + rest ≡ sum counts
+split_whole k before rest counts inside is rest_is =
+    let all : sum (take (length counts - k) (drop k counts)) ≡ sum (drop k counts) = ap (λ (xs : List ℕ). sum xs) (take_all (length counts - k) (drop k counts) (omega (arith, length-drop k counts))) in
+    omega (arith, is, rest_is, all, sum_by-take-drop (λ (x : ℕ). x) counts k)
+
+-- a sum is between two bounds that the counts' upper halves give
+pub high_least : (counts : List ℕ) → sum_by (λ (count : ℕ). count / 65536) counts * 65536 ≤ sum counts
+high_least [] = omega arith
+high_least (x ∷ xs) =
+    omega (arith, high_least xs, sum_by-cons (λ (count : ℕ). count / 65536) x xs, sum_by-cons (λ (count : ℕ). count) x xs)
+
+pub high_most : (counts : List ℕ) → sum counts ≤ sum_by (λ (count : ℕ). count / 65536) counts * 65536 + length counts * 65535
+high_most [] = omega arith
+high_most (x ∷ xs) =
+    omega (arith, high_most xs, sum_by-cons (λ (count : ℕ). count / 65536) x xs, sum_by-cons (λ (count : ℕ). count) x xs)

@@ -7,8 +7,10 @@
 //! To find a quantile's symbol, a decoder compares starts with the quantile before they are divided, so the search needs
 //! no division.
 
-ghost use Rattle.std.specs.Prelude.{◌≡◌, ◌+◌, ◌-◌, ◌*◌, ◌^◌, ◌<◌, ◌≤◌, ◌↔◌, length, take, IfOk, IsErrOf, IsOk};
-ghost use Rattle.std.specs.List.{sum};
+ghost use Rattle.std.specs.Prelude.{◌≡◌, ◌+◌, ◌-◌, ◌*◌, ◌/◌, ◌^◌, ◌<◌, ◌≤◌, ◌↔◌, length, take};
+ghost use Rattle.std.specs.Prelude.{IfNone, IfOk, IfSome, IsErrOf, IsOk, IsTrue};
+ghost use Rattle.std.specs.List.{sum, sum_by};
+ghost use Rattle.constriction_base.specs.Tables.{Has, Impossible};
 ghost use Rattle.constriction_models.specs.Categorical.{MakeCategorical, categorical, shared_start};
 ghost use Rattle.constriction_models.specs.laws.Categorical.{below_is_within, categorical_is_table, categorical_two};
 
@@ -84,6 +86,47 @@ fn sum_of(counts: &[u32]) -> u64
     total
 }
 
+/// Returns the sum of all `count / 2^16`, each rounded down. The caller proves that there are at most `2^16` counts.
+#[inline]
+fn sum_of_high(counts: &[u32]) -> u32
+    requires { length counts.now ≤ 65536 }
+    ensures { result ≡ sum_by (λ count. count / 65536) counts.now }
+{
+    let mut total = 0u32;
+    for count in counts {
+        total += *count >> 16;
+    }
+    total
+}
+
+/// Returns whether a count is above 0.
+#[inline]
+fn is_some_above_0(counts: &[u32]) -> bool
+    ensures { IsTrue result ↔ (0 < sum counts.now) }
+{
+    for count in counts {
+        if *count > 0 {
+            return true;
+        }
+    }
+    false
+}
+
+/// Returns `number / divisor`, rounded down. The caller proves that `divisor` is above 0.
+///
+/// The call is faster for divisors below `2^32`. Two calls for one divisor share what takes most of the time.
+#[inline(always)]
+fn quotient(number: u64, divisor: u64) -> u64
+    requires { 0 < divisor }
+    ensures { result ≡ number / divisor }
+{
+    if divisor <= 0xffff_ffff {
+        number.div_rem(divisor, 24).0
+    } else {
+        number / divisor
+    }
+}
+
 impl<'a, Probability: WordOf<u32>, const PRECISION: usize> CategoricalCounts<
     'a,
     Probability,
@@ -131,6 +174,71 @@ impl<'a, Probability: WordOf<u32>, const PRECISION: usize> CategoricalCounts<
         })
     }
 
+    /// Returns whether [`CategoricalCounts::new`] succeeds, in less time if there are at most 256 counts.
+    ///
+    /// The caller proves that `PRECISION` is at least 1, at most 24, and below `Probability::BITS`.
+    ///
+    /// # Examples
+    ///
+    /// ```
+    /// CategoricalCounts::<u16, 12>::have_table(&[3, 1, 0, 4]) // true
+    /// ```
+    pub fn have_table(counts: &[u32]) -> bool
+        requires sizes { (1 ≤ PRECISION) × (PRECISION ≤ 24) × (PRECISION < Probability.BITS) }
+        ensures { IsTrue result ↔ MakeCategorical PRECISION counts.now }
+    {
+        if counts.len() as u64 >= 1u64 << PRECISION as u32 {
+            return false;
+        }
+        if counts.len() <= 256 {
+            return is_some_above_0(counts);
+        }
+        if counts.len() <= 65536 {
+            let high = sum_of_high(counts) as u64;
+            if high > 0 && high + counts.len() as u64 <= 16777216 {
+                return true;
+            }
+        }
+        let total = sum_of(counts);
+        total > 0 && total < 1099511627776
+    }
+
+    /// Returns the start and the length of the interval of `symbol` in the table of `counts`, or `None` if there is no
+    /// count for `symbol`.
+    ///
+    /// A look-up in a model adds up the counts before the symbol, and [`CategoricalCounts::new`] adds up all counts. This
+    /// call adds up each count once. The caller proves that the counts have a table.
+    ///
+    /// # Examples
+    ///
+    /// ```
+    /// CategoricalCounts::<u16, 12>::interval_of(&[3, 1, 0, 4], 1) // Some((1535, 513))
+    /// ```
+    #[inline(always)]
+    pub fn interval_of(
+        counts: &'a [u32],
+        symbol: usize,
+    ) -> Option<(Probability, <Probability as BitArray>::NonZero)>
+        requires sizes { (1 ≤ PRECISION) × (PRECISION ≤ 24) × (PRECISION < Probability.BITS) }
+        requires counts { MakeCategorical PRECISION counts.now }
+        ensures found { IfSome result (λ found. Has (categorical PRECISION counts.now) symbol
+            (Probability.number found.0) (Probability.nonzero_number found.1)) }
+        ensures impossible { IfNone result (Impossible (categorical PRECISION counts.now) symbol) }
+    {
+        if symbol >= counts.len() {
+            return None;
+        }
+        let before = sum_of(&counts[..symbol]);
+        let total = before + sum_of(&counts[symbol..]);
+        let model: Self = CategoricalCounts {
+            counts,
+            total,
+            spare: (1u64 << PRECISION as u32) - counts.len() as u64,
+            of: PhantomData,
+        };
+        Some(model.entry(symbol, before, before + counts[symbol] as u64))
+    }
+
     /// Returns the start of the interval of `symbol`, where `before` is the sum of the counts before `symbol`.
     ///
     /// If `symbol` is the number of symbols, the call returns `2 ^ PRECISION`.
@@ -140,7 +248,8 @@ impl<'a, Probability: WordOf<u32>, const PRECISION: usize> CategoricalCounts<
         requires total { before ≡ sum (take symbol self.now.counts.now) }
         ensures { result ≡ shared_start (2 ^ PRECISION) self.now.counts.now symbol }
     {
-        before * self.spare / self.total + symbol as u64
+        let shared = before * self.spare;
+        quotient(shared, self.total) + symbol as u64
     }
 
     /// Returns the start of the interval of `symbol` times the sum of the counts, before it is rounded down.

@@ -6,8 +6,8 @@ use Rattle.constriction_models.specs.laws.Categorical.{start_is}
 use Rattle.constriction_models.proofs.Searching.{scaled_fits}
 use Rattle.constriction_models.proofs.categorical.CategoricalCounts.start.Goals as goal
 
-pub overflow_mul-result : goal.overflow_mul-result
-overflow_mul-result g c =
+pub overflow_mul-shared : goal.overflow_mul-shared
+overflow_mul-shared g c =
     let m = c.args.self.now in
     let less : c.args.before ≤ m.total = omega (arith, sum_by-take-le (λ x. x) m.counts.now c.args.symbol, c.requires.total, m.summed) in
     omega (arith, scaled_fits g.row.PRECISION m.spare m.total _ c.args.before 0 m.few (omega (arith, m.most, m.summed)) m.shared less (omega arith))
@@ -16,9 +16,9 @@ pub overflow_add-result : goal.overflow_add-result
 overflow_add-result g c =
     let m = c.args.self.now in
     let less : c.args.before ≤ m.total = omega (arith, sum_by-take-le (λ x. x) m.counts.now c.args.symbol, c.requires.total, m.summed) in
-    omega (arith, div-le_of_le-mul m.total (mul-le-mul_right m.spare less), m.shared, c.requires.within, pow_le g.row.PRECISION 24 m.few)
+    omega (arith, c.quotient.ensures, div-le_of_le-mul m.total (mul-le-mul_right m.spare less), m.shared, c.requires.within, pow_le g.row.PRECISION 24 m.few)
 
 pub returns : goal.returns
 returns g c =
     let m = c.args.self.now in
-    start_is (2 ^ g.row.PRECISION) m.spare m.total m.counts.now c.args.symbol c.args.before m.shared m.summed c.requires.total
+    rw c.quotient.ensures (start_is (2 ^ g.row.PRECISION) m.spare m.total m.counts.now c.args.symbol c.args.before m.shared m.summed c.requires.total)
