@@ -6,9 +6,9 @@ use Rattle.constriction_symbol.proofs.HuffmanParents.{climbed_step, parents_more
 use Rattle.constriction_symbol.specs.Merging.{as_pair}
 
 -- the last bit comes first
-pub climbed_turned : (nodes : List ℕ) (index : ℕ) → GoesUp (length nodes) nodes → (get_or nodes index 0 ≡ 0 → ⊥)
+pub climbed_reversed : (nodes : List ℕ) (index : ℕ) → GoesUp (length nodes) nodes → (get_or nodes index 0 ≡ 0 → ⊥)
     → reverse (climbed (length nodes) nodes index) ≡ (get_or nodes index 0 % 2 == 1) ∷ reverse (climbed (length nodes) nodes (get_or nodes index 0 / 2))
-climbed_turned nodes index up some =
+climbed_reversed nodes index up some =
     ap reverse (climbed_step (length nodes) nodes index up some) ∙ reverse-append (climbed (length nodes) nodes (get_or nodes index 0 / 2)) ((get_or nodes index 0 % 2 == 1) ∷ [])
 
 pub parent_within : (nodes : List ℕ) (index : ℕ) → GoesUp (length nodes) nodes → (get_or nodes index 0 ≡ 0 → ⊥) → get_or nodes index 0 / 2 < length nodes

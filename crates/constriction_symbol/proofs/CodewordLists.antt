@@ -47,11 +47,11 @@ module _ {C E A : Type 0} (bits : C → List Bool) (puts : C → Bool → Result
   written_last (x ∷ xs) old new h =
       let first = one_written (λ bs. reverse bs) (code x) (wants x) old h.0 h.1 in
       let rest = written_last xs h.0 new h.2 in
-      let turned : reverse (bits h.0) ≡ first.0 ++ reverse (bits old) =
+      let reversed : reverse (bits h.0) ≡ first.0 ++ reverse (bits old) =
       ap reverse first.2 ∙ (reverse-append (bits old) (reverse first.0) ∙ ap (λ bs. bs ++ reverse (bits old)) (reverse-reverse first.0)) in (
         rest.0 ++ first.0,
         subst (λ ys. AreCodewords code ys (rest.0 ++ first.0)) (sym (reverse-append (x ∷ []) xs)) (codewords_push code (reverse xs) x rest.0 first.0 rest.1 first.1),
-        rest.2 ∙ (ap (λ bs. rest.0 ++ bs) turned ∙ sym (append_assoc rest.0 first.0 (reverse (bits old)))),
+        rest.2 ∙ (ap (λ bs. rest.0 ++ bs) reversed ∙ sym (append_assoc rest.0 first.0 (reverse (bits old)))),
       )
 
 -- ---- reads

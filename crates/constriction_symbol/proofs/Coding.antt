@@ -17,8 +17,8 @@ length_bits (suc k) n = ap suc (length_bits k _)
 pub words_more : (w : ℕ) {W : Type 0} (number : W → ℕ) (words : List W) (word : W)
     → bits_of_words w (map number (reverse (word ∷ words))) ≡ bits_of_words w (map number (reverse words)) ++ bits_of w (number word)
 words_more w number words word =
-    let turned : reverse (word ∷ words) ≡ reverse words ++ word ∷ [] = reverse-append (word ∷ []) words in
-    rw (turned, map_push, flat_map-append, append-nil) refl
+    let reversed : reverse (word ∷ words) ≡ reverse words ++ word ∷ [] = reverse-append (word ∷ []) words in
+    rw (reversed, map_push, flat_map-append, append-nil) refl
 
 -- the last word has room for the bit
 pub bit_after : (before last last' : List Bool) (bit : Bool) → last' ≡ last ++ bit ∷ [] → before ++ last' ≡ (before ++ last) ++ bit ∷ []

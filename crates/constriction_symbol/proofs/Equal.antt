@@ -43,18 +43,18 @@ same_bits xs ys n m r long first low second high tells =
     from is = same_number (length ys) n m (rw long at low) high ((ap (λ k. bits_of k n) (sym long) ∙ first) ∙ (is ∙ sym second))
 
 -- the same of bits of which the first one is the highest of its word
-pub same_turned_bits : (xs ys : List Bool) (n m : ℕ) (r : Bool) → length xs ≡ length ys → reverse (bits_of (length xs) n) ≡ xs → n < 2 ^ length xs → reverse (bits_of (length ys) m) ≡ ys → m < 2 ^ length ys
+pub same_reversed_bits : (xs ys : List Bool) (n m : ℕ) (r : Bool) → length xs ≡ length ys → reverse (bits_of (length xs) n) ≡ xs → n < 2 ^ length xs → reverse (bits_of (length ys) m) ≡ ys → m < 2 ^ length ys
     → IsTrue r ↔ (n ≡ m) → r ≡ pointwise beq xs ys
-same_turned_bits xs ys n m r long first low second high tells =
+same_reversed_bits xs ys n m r long first low second high tells =
     one_answer r (pointwise beq xs ys) (λ set. to (tells.0 set), λ is. tells.1 (from is)) (pointwise_decides booleans_Decides xs ys)
   where
     to : n ≡ m → xs ≡ ys
     to is = sym first ∙ (ap (λ k. reverse (bits_of k n)) long ∙ (ap (λ x. reverse (bits_of (length ys) x)) is ∙ second))
 
-    turned : (k : ℕ) (zs : List Bool) (x : ℕ) → reverse (bits_of k x) ≡ zs → bits_of k x ≡ reverse zs
-    turned k zs x is = sym (reverse-reverse (bits_of k x)) ∙ ap reverse is
+    reversed : (k : ℕ) (zs : List Bool) (x : ℕ) → reverse (bits_of k x) ≡ zs → bits_of k x ≡ reverse zs
+    reversed k zs x is = sym (reverse-reverse (bits_of k x)) ∙ ap reverse is
 
     from : xs ≡ ys → n ≡ m
     from is =
         same_number (length ys) n m (rw long at low) high
-        (ap (λ k. bits_of k n) (sym long) ∙ (turned (length xs) xs n first ∙ (ap reverse is ∙ sym (turned (length ys) ys m second))))
+        (ap (λ k. bits_of k n) (sym long) ∙ (reversed (length xs) xs n first ∙ (ap reverse is ∙ sym (reversed (length ys) ys m second))))

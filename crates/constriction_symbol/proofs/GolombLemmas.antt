@@ -88,9 +88,9 @@ binary_bits (suc k) m low high =
     let digits : binary m ≡ binary (m / 2) ++ (m % 2 == 1) ∷ [] =
     let step : digits_of 2 m ≡ digits_of 2 (m / 2) ++ m % 2 ∷ [] = digits_of_step 2 m (omega arith) (omega (arith, low, two, pow_pos k)) in
     ap (map (λ d. d == 1)) step ∙ map_push (λ d. d == 1) (digits_of 2 (m / 2)) (m % 2) in
-    let turned : reverse (bits_of (suc k + 1) m) ≡ reverse (bits_of (k + 1) (m / 2)) ++ (m % 2 == 1) ∷ [] =
+    let reversed : reverse (bits_of (suc k + 1) m) ≡ reverse (bits_of (k + 1) (m / 2)) ++ (m % 2 == 1) ∷ [] =
     rw (add-one, add-one) (reverse-append ((m % 2 == 1) ∷ []) (bits_of (suc k) (m / 2))) in
-    digits ∙ (ap (λ bs. bs ++ (m % 2 == 1) ∷ []) half ∙ sym turned)
+    digits ∙ (ap (λ bs. bs ++ (m % 2 == 1) ∷ []) half ∙ sym reversed)
 
 pub count_down : (n i : ℕ) → i < n → (0 < n - i) × (n - i - 1 ≡ n - (i + 1))
 count_down n i h = (omega (arith, h), omega (arith, h))
@@ -132,10 +132,10 @@ golomb_greatest b n is =
     rw (count, bits) refl
 
 -- it is the same from either end
-pub greatest_turned : (b : ℕ) → reverse (replicate b false ++ true ∷ replicate b false) ≡ replicate b false ++ true ∷ replicate b false
-greatest_turned b =
-    let turned : reverse (true ∷ replicate b false) ≡ replicate b false ++ true ∷ [] = reverse-append (true ∷ []) (replicate b false) ∙ ap (λ bs. bs ++ true ∷ []) (reverse_zeros b) in
-    reverse-append (replicate b false) (true ∷ replicate b false) ∙ (ap₂ (λ xs ys. xs ++ ys) turned (reverse_zeros b) ∙ append_assoc (replicate b false) (true ∷ []) (replicate b false))
+pub greatest_reversed : (b : ℕ) → reverse (replicate b false ++ true ∷ replicate b false) ≡ replicate b false ++ true ∷ replicate b false
+greatest_reversed b =
+    let reversed : reverse (true ∷ replicate b false) ≡ replicate b false ++ true ∷ [] = reverse-append (true ∷ []) (replicate b false) ∙ ap (λ bs. bs ++ true ∷ []) (reverse_zeros b) in
+    reverse-append (replicate b false) (true ∷ replicate b false) ∙ (ap₂ (λ xs ys. xs ++ ys) reversed (reverse_zeros b) ∙ append_assoc (replicate b false) (true ∷ []) (replicate b false))
 
 -- a number that isn't below the greatest
 pub is_greatest : (n m b : ℕ) (r : Bool) → r ≡ false → IsTrue r ↔ (n < m) → m + 1 ≡ 2 ^ b → n < 2 ^ b → n + 1 ≡ 2 ^ b
@@ -143,8 +143,8 @@ is_greatest n m b r clear below greatest fits =
     let high : n < m → ⊥ = λ less. let no = below.1 less in absurd cc in
     omega (arith, high, greatest, fits)
 
-pub golomb_turned : (r m : ℕ) → 0 < m → m < 2 ^ r → 2 ^ r ≤ 2 * m + 1 → reverse (golomb (m - 1)) ≡ bits_of r m ++ replicate (r - 1) false
-golomb_turned r m some high low =
+pub golomb_reversed : (r m : ℕ) → 0 < m → m < 2 ^ r → 2 ^ r ≤ 2 * m + 1 → reverse (golomb (m - 1)) ≡ bits_of r m ++ replicate (r - 1) false
+golomb_reversed r m some high low =
     ap reverse (golomb_before r m some high low) ∙ (reverse-append (replicate (r - 1) false) (reverse (bits_of r m)) ∙ ap₂ (λ xs ys. xs ++ ys) (reverse-reverse (bits_of r m)) (reverse_zeros (r - 1)))
 
 -- the codeword as the lowest bits of one word, the highest of them first
@@ -153,7 +153,7 @@ golomb_once r m some high low =
     let more = length_holds r m some high low in
     let zeros : 2 * r - 1 - r ≡ r - 1 = omega (arith, more.0) in
     let up : bits_of (2 * r - 1) m ≡ bits_of r m ++ replicate (2 * r - 1 - r) false = filled_up (2 * r - 1) r m (omega (arith, more.0)) high in
-    golomb_turned r m some high low ∙ sym (rw zeros at up)
+    golomb_reversed r m some high low ∙ sym (rw zeros at up)
 
 pub golomb_once_down : (r m : ℕ) → 0 < m → m < 2 ^ r → 2 ^ r ≤ 2 * m + 1 → golomb (m - 1) ≡ reverse (bits_of (2 * r - 1) m)
 golomb_once_down r m some high low = sym (reverse-reverse (golomb (m - 1))) ∙ ap reverse (golomb_once r m some high low)

@@ -1,8 +1,7 @@
 pub mod BitLemmas
 pub mod Coding
 pub mod TopLemmas
-pub mod TurningLemmas
-pub mod LowLemmas
+pub mod WordLemmas
 pub mod TakenAtOnce
 pub mod PutAtOnce
 pub mod Lengths
@@ -24,8 +23,8 @@ pub mod FirstBits
 pub mod Climbing
 pub mod Marked
 pub mod EncoderTrees
-pub mod Turned
-pub mod TwoForms
+pub mod ReversedCodewords
+pub mod ReversedBits
 pub mod TwoQueues
 pub mod Refusals
 pub mod CodewordLists

@@ -21,7 +21,7 @@ one_more_below bits number bit some below = record {
   low = 2 * below.low + bit;
   small = omega (arith, some, below.small, pow-succ' 2 below.count);
   is = omega (arith, below.is, pow-succ' 2 below.count);
-  reads = ap (λ bs. bs ++ (bit == 1) ∷ []) below.reads ∙ sym turned;
+  reads = ap (λ bs. bs ++ (bit == 1) ∷ []) below.reads ∙ sym reversed;
 }
   where
     first : (2 * below.low + bit) % 2 ≡ bit
@@ -30,8 +30,8 @@ one_more_below bits number bit some below = record {
     others : (2 * below.low + bit) / 2 ≡ below.low
     others = omega (arith, some)
 
-    turned : reverse (bits_of (suc below.count) (2 * below.low + bit)) ≡ reverse (bits_of below.count below.low) ++ (bit == 1) ∷ []
-    turned = ap₂ (λ b n. reverse ((b == 1) ∷ bits_of below.count n)) first others ∙ reverse-append ((bit == 1) ∷ []) (bits_of below.count below.low)
+    reversed : reverse (bits_of (suc below.count) (2 * below.low + bit)) ≡ reverse (bits_of below.count below.low) ++ (bit == 1) ∷ []
+    reversed = ap₂ (λ b n. reverse ((b == 1) ∷ bits_of below.count n)) first others ∙ reverse-append ((bit == 1) ∷ []) (bits_of below.count below.low)
 
 -- the number of bits is the one that a number has at least and at most
 same_count : (number low count long : ℕ) → low < 2 ^ count → number ≡ low + 2 ^ count → number < 2 ^ long → 2 ^ long ≤ 2 * number + 1 → count + 1 ≡ long

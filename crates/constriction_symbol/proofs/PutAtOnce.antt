@@ -7,7 +7,7 @@ use Rattle.constriction_stream.specs.Lists.{StepsAll}
 use Rattle.constriction_symbol.specs.Bits.{BitsValue, PutsBits, PutsOnto, bits_above, bits_of, bits_of_words}
 use Rattle.constriction_symbol.specs.Codewords.{WritesCodeword, formed}
 use Rattle.constriction_symbol.proofs.Coding.{length_bits}
-use Rattle.constriction_symbol.proofs.TurningLemmas.{across}
+use Rattle.constriction_symbol.proofs.WordLemmas.{across}
 
 -- the first of some bits of a number, and the others
 pub first_bit : (k x : ℕ) → 0 < k → (bit : Bool) × (back : List Bool) × (bits_of k x ≡ bit ∷ back) × (length back + 1 ≡ k)

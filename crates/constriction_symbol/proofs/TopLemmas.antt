@@ -1,11 +1,10 @@
 -- Bits at the top of a word: one more and one less.
-use Rattle.std.proofs.Common.{rules, nat_eq, take, ap₂, refl, add-one, ◌==◌, ◌≡◌, ◌<◌, ◌≤◌, ◌+◌, ◌*◌, ◌-◌, ◌/◌, ◌%◌, ◌^◌, ℕ, zero, suc, Bool, true, false, not, [], ◌∷◌, ◌++◌, sym, ap, subst, ◌∙◌, arith, pow_pos, if◌then◌else◌}
+use Rattle.std.proofs.Common.{rules, nat_eq, take, ap₂, refl, ◌==◌, ◌≡◌, ◌<◌, ◌≤◌, ◌+◌, ◌*◌, ◌-◌, ◌/◌, ◌%◌, ◌^◌, ℕ, zero, suc, Bool, true, false, not, [], ◌∷◌, ◌++◌, sym, ap, subst, ◌∙◌, arith, pow_pos, if◌then◌else◌}
 use Rattle.std.specs.Prelude.{IsTrue, ◌↔◌}
 use Rattle.std.proofs.lemmas.Nat.{pow-add, shr-shr, shl-shr, shr_below, shl_below, field_of, mul-add-lt, mod_below}
-use Rattle.std.proofs.Math.Nat.{pow-succ'}
 use Rattle.constriction_base.proofs.Heads.{shr_below_top}
-use native.Mathlib.Nat.{add-mul-div_right, mul_assoc, pow-zero}
-use lib.Pow.{mod-mod-pow}
+use native.Mathlib.Nat.{add-mul-div_right, mul_assoc}
+use Rattle.constriction_words.proofs.Bits.{bits_joined, bits_left}
 use Rattle.constriction_symbol.specs.Bits.{bits_of}
 use Rattle.constriction_symbol.proofs.BitLemmas.{set_above, clear_above, top_off}
 
@@ -39,12 +38,12 @@ more_at_top b r n m bit within some fits is =
 top_less : (k r n m v h : ℕ) (none : Bool) → n < 2 ^ (k + 1 + r) → m ≡ n % 2 ^ (k + r) → v ≡ m + m → h ≡ n / 2 ^ (k + r) → IsTrue none ↔ (h ≡ 0)
     → bits_of (k + 1) (n / 2 ^ r) ≡ bits_of k (v / 2 ^ (r + 1)) ++ not none ∷ []
 top_less k r n m v h none fits low twice high clear =
-    let turned : k + r ≡ r + k = omega arith in
+    let swapped : k + r ≡ r + k = omega arith in
     let double : v ≡ m * 2 ^ 1 = omega (arith, twice) in
     let half : v / 2 ^ 1 ≡ m = ap (λ x. x / 2 ^ 1) double ∙ shl-shr m 1 in
     let rest : v / 2 ^ (r + 1) ≡ n / 2 ^ r % 2 ^ k =
     ap (λ e. v / 2 ^ e) (omega arith) ∙ (sym (shr-shr v 1 r) ∙ (ap (λ x. x / 2 ^ r) (half ∙ low) ∙ field_of n k r)) in
-    let above : h ≡ n / 2 ^ r / 2 ^ k = high ∙ (ap (λ e. n / 2 ^ e) turned ∙ sym (shr-shr n r k)) in
+    let above : h ≡ n / 2 ^ r / 2 ^ k = high ∙ (ap (λ e. n / 2 ^ e) swapped ∙ sym (shr-shr n r k)) in
     top_off k (n / 2 ^ r) (v / 2 ^ (r + 1)) h none (shr_below n (k + 1) r fits) rest above clear
 
 -- a bit less in a word of b bits, of which r mean nothing
@@ -79,38 +78,12 @@ highest_room b n false some small =
     let two : 2 ^ (b - 1 + 1) ≡ 2 ^ (b - 1) * 2 ^ 1 = pow-add 2 (b - 1) 1 in
     subst (λ e. n + 0 < 2 ^ e) whole (omega (arith, two, small))
 
--- bits of a sum of which the second part stands above the first
-pub bits_joined : (k c n v : ℕ) → n < 2 ^ k → bits_of (k + c) (n + v * 2 ^ k) ≡ bits_of k n ++ bits_of c v
-bits_joined zero c n v small =
-    let none : n + v * 2 ^ 0 ≡ v = omega (arith, small, pow-zero 2) in
-    let here : 0 + c ≡ c = omega arith in
-    rw (none, here) refl
-bits_joined (suc k) c n v small =
-    let two = pow-succ' 2 k in
-    let half : n / 2 < 2 ^ k = omega (arith, small, two) in
-    let split : v * 2 ^ suc k ≡ 2 * (v * 2 ^ k) = ap (λ x. v * x) two ∙ swapped in
-    let low : (n + v * 2 ^ suc k) % 2 ≡ n % 2 = omega (arith, split) in
-    let high : (n + v * 2 ^ suc k) / 2 ≡ n / 2 + v * 2 ^ k = omega (arith, split) in
-    let here : suc k + c ≡ suc (k + c) = omega arith in
-    rw here (ap₂ (λ b x. (b == 1) ∷ bits_of (k + c) x) low high ∙ ap (λ bs. (n % 2 == 1) ∷ bs) (bits_joined k c (n / 2) v half))
-  where
-    swapped : v * (2 * 2 ^ k) ≡ 2 * (v * 2 ^ k)
-    swapped = grind arith
-
 -- the lower of some bits
 pub bits_below : (k c n : ℕ) → take k (bits_of (k + c) n) ≡ bits_of k n
 bits_below zero c n = refl
 bits_below (suc k) c n =
     let here : suc k + c ≡ suc (k + c) = omega arith in
     rw here (ap (λ bs. (n % 2 == 1) ∷ bs) (bits_below k c (n / 2)))
-
--- and as those of what the number leaves
-pub bits_left : (k n : ℕ) → bits_of k (n % 2 ^ k) ≡ bits_of k n
-bits_left zero n = refl
-bits_left (suc k) n =
-    let low : n % 2 ^ suc k % 2 ≡ n % 2 = rw add-one at (mod-mod-pow n k 1) in
-    let high : n % 2 ^ suc k / 2 ≡ n / 2 % 2 ^ k = rw add-one at (field_of n k 1) in
-    ap₂ (λ b x. (b == 1) ∷ bits_of k x) low high ∙ ap (λ bs. (n % 2 == 1) ∷ bs) (bits_left k (n / 2))
 
 -- c bits more in a word of b bits, of which r mean nothing
 pub all_at_top : (b r c n v m : ℕ) → r ≤ b → c ≤ r → n < 2 ^ b → m ≡ n / 2 ^ c + v * 2 ^ (b - c)
@@ -133,10 +106,10 @@ some_less b r c n m within is =
     let place : b - c ≡ b - (r + c) + r = omega (arith, within) in
     let count : b - r ≡ b - (r + c) + c = omega (arith, within) in
     let kept : b - r - c ≡ b - (r + c) = omega (arith, within) in
-    let turned : r + c ≡ c + r = omega arith in
+    let swapped : r + c ≡ c + r = omega arith in
     let half : m / 2 ^ c ≡ n % 2 ^ (b - c) = ap (λ x. x / 2 ^ c) is ∙ shl-shr (n % 2 ^ (b - c)) c in
     let rest : m / 2 ^ (r + c) ≡ n / 2 ^ r % 2 ^ (b - (r + c)) =
-    ap (λ e. m / 2 ^ e) turned ∙ (sym (shr-shr m c r) ∙ (ap (λ x. x / 2 ^ r) (half ∙ ap (λ e. n % 2 ^ e) place) ∙ field_of n (b - (r + c)) r)) in
+    ap (λ e. m / 2 ^ e) swapped ∙ (sym (shr-shr m c r) ∙ (ap (λ x. x / 2 ^ r) (half ∙ ap (λ e. n % 2 ^ e) place) ∙ field_of n (b - (r + c)) r)) in
     ap (λ x. bits_of (b - (r + c)) x) rest
     ∙ (bits_left (b - (r + c)) (n / 2 ^ r) ∙ (sym (bits_below (b - (r + c)) c (n / 2 ^ r)) ∙ ap₂ (λ k j. take k (bits_of j (n / 2 ^ r))) (sym kept) (sym count)))
 

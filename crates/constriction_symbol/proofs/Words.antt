@@ -11,8 +11,8 @@ after_zeros zero (suc k) xs ys is = absurd cc
 after_zeros (suc j) zero xs ys is = absurd cc
 after_zeros (suc j) (suc k) xs ys is = let rest : replicate j false ++ true ∷ xs ≡ replicate k false ++ true ∷ ys = cc in after_zeros j k xs ys rest
 
-turned : (bits : List Bool) (k : ℕ) → reverse (bits ++ true ∷ replicate k false) ≡ replicate k false ++ true ∷ reverse bits
-turned bits k =
+reversed : (bits : List Bool) (k : ℕ) → reverse (bits ++ true ∷ replicate k false) ≡ replicate k false ++ true ∷ reverse bits
+reversed bits k =
     let end : reverse (true ∷ replicate k false) ≡ replicate k false ++ true ∷ [] = reverse-append (true ∷ []) (replicate k false) ∙ ap (λ bs. bs ++ true ∷ []) (reverse_zeros k) in
     reverse-append bits (true ∷ replicate k false) ∙ (ap (λ bs. bs ++ reverse bits) end ∙ joined (replicate k false) (reverse bits))
   where
@@ -25,5 +25,5 @@ one_stack w [] bits others first second = first ∙ sym second
 one_stack w (v ∷ vs) bits others first second =
     let same : reverse bits ≡ reverse others =
     after_zeros first.zeros second.zeros (reverse bits) (reverse others)
-    (sym (turned bits first.zeros) ∙ (ap reverse (sym first.is ∙ second.is) ∙ turned others second.zeros)) in
+    (sym (reversed bits first.zeros) ∙ (ap reverse (sym first.is ∙ second.is) ∙ reversed others second.zeros)) in
     sym (reverse-reverse bits) ∙ (ap reverse same ∙ reverse-reverse others)

@@ -1,5 +1,5 @@
 -- The words that hold the bits of a queue or a stack, and reads and writes of bits.
-use Rattle.std.specs.Prelude.{◌≡◌, ℕ, zero, suc, ◌/◌, ◌%◌, ◌^◌, ◌<◌, ◌≤◌, ◌+◌, ◌-◌, Bool, true, false, List, [], ◌∷◌, ◌++◌, ◌==◌, ◌⊎◌, flat_map, map, replicate, reverse, length, if◌then◌else◌, Result, Ok, Err, Option, Some, None}
+use Rattle.std.specs.Prelude.{◌≡◌, ℕ, ◌/◌, ◌^◌, ◌<◌, ◌≤◌, ◌+◌, ◌-◌, Bool, true, false, List, [], ◌∷◌, ◌++◌, ◌⊎◌, flat_map, map, replicate, reverse, length, Result, Ok, Err, Option, Some, None}
 use Rattle.constriction_base.specs.Backends.{IsWrite}
 pub use Rattle.constriction_words.specs.Bits.{bits_of}
 
@@ -205,11 +205,6 @@ abbrev pub ReadsWritten : {W B E D : Type 0} → ℕ → (W → ℕ) → (B → 
     → (B → W → Result (Unit {0}) E → B → Type 0) → (B → E → Type 0) → (B → D → Type 0) → BitsValue B → D → Type 0
 ReadsWritten w number words room writes write_fails becomes coder decoder =
     ReadsClosed w number words (IsWrite words room writes write_fails) becomes coder decoder
-
--- The bits of a number below its highest 1, lowest first. The number is below 2 ^ w.
-abbrev pub bits_below_highest : ℕ → ℕ → List Bool
-bits_below_highest zero x = []
-bits_below_highest (suc w) x = if x / 2 == 0 then [] else (x % 2 == 1) ∷ bits_below_highest w (x / 2)
 
 -- The `count` highest of the w bits of a number, highest first.
 abbrev pub top_bits : ℕ → ℕ → ℕ → List Bool

@@ -10,7 +10,7 @@ ghost use Rattle.constriction_symbol.specs.Codewords.{LacksMemory, NoCodewordFit
 ghost use Rattle.std.specs.Iterator.{IsFinite};
 ghost use Rattle.std.specs.Prelude.{Bool, IfSome, List, Option, Some, reverse, ◌++◌, ◌<◌, ◌^◌, ◌≡◌, ◌≤◌};
 
-use crate::turning::first_lowest;
+use crate::numbers::first_lowest;
 use constriction_base::backends::{Queue, Semantics, Stack};
 use constriction_base::errors::{CoderError, DefaultEncoderError};
 use constriction_words::BitArray;
@@ -222,9 +222,11 @@ pub trait DecoderCodebook: Codebook {
 
     /// Reads the bits of the next codeword, and returns the codeword's symbol.
     ///
-    /// # Errors
+    /// The caller proves that `source.next` may be called. After any result but `Frontend(OutOfCompressedData)`, it may
+    /// be called again and returns what follows the last bit read, and a finite source is still finite. After
+    /// `Frontend(OutOfCompressedData)`, the source has returned `None`, and the contract promises neither.
     ///
-    /// After an error, the source continues after the last bit read.
+    /// # Errors
     ///
     /// - `Frontend(OutOfCompressedData)` if the bits end before a codeword is complete.
     /// - `Frontend(InvalidCodeword(error))` if no codeword begins with the bits read.

@@ -24,7 +24,7 @@ impl<Word: BitArray> PartialEq for WordBits<Word> {
 
     /// Returns whether both lists have the same bits in the same order.
     fn eq(&self, other: &Self) -> bool {
-        self.count() == other.count() && is_same_word(self.turned_word(), other.turned_word())
+        self.count() == other.count() && is_same_word(self.reversed_word(), other.reversed_word())
     }
 }
 

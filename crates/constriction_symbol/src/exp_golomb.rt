@@ -7,8 +7,8 @@ ghost use Rattle.std.specs.Prelude.{Some, reverse, ◌-◌, ◌<◌, ◌≡◌};
 
 use crate::codebooks::{Codebook, DecoderCodebook, EncoderCodebook, SymbolCodeError};
 use crate::emitting::{emit_down, emit_lone, emit_up, emit_zeros};
+use crate::numbers::same_number;
 use crate::taking::{Refusal, count_zeros, read_bits};
-use crate::turning::same_number;
 use constriction_base::errors::{CoderError, DefaultEncoderError};
 use constriction_words::BitArray;
 use std::alloc::AllocError;
@@ -91,7 +91,7 @@ fn emit_number<N: BitArray, E, F: FnMut(bool) -> Result<(), E>>(
 /// The call stops at the first error of `emit`, and returns `Backend(error)`. The caller proves that `after` is above
 /// 0.
 #[inline]
-fn emit_number_turned<N: BitArray, E, F: FnMut(bool) -> Result<(), E>>(
+fn emit_reversed_number<N: BitArray, E, F: FnMut(bool) -> Result<(), E>>(
     after: N,
     emit: &mut F,
 ) -> Result<(), DefaultEncoderError<E>>
@@ -137,7 +137,7 @@ impl<N: BitArray> EncoderCodebook for ExpGolomb<N> {
         emit: &mut F,
     ) -> Result<(), DefaultEncoderError<E>> {
         if symbol.is_below(N::greatest()) {
-            emit_number_turned(symbol.plus(N::unit()), emit)
+            emit_reversed_number(symbol.plus(N::unit()), emit)
         } else {
             emit_lone(N::BITS, emit)
         }
@@ -182,7 +182,7 @@ impl<N: BitArray> DecoderCodebook for ExpGolomb<N> {
     ///
     /// # Errors
     ///
-    /// After an error, the source continues after the last bit read.
+    /// After an error other than `Frontend(OutOfCompressedData)`, the source continues after the last bit read.
     ///
     /// - `Frontend(InvalidCodeword(..))` if the first `N::BITS + 1` bits read are zeros. The call returns the same
     ///   error if it reads `N::BITS` zeros, a 1, and then `N::BITS` bits that aren't all 0.

@@ -166,15 +166,12 @@ impl<Word: BitArray, B: ReadWords<Word, Queue> + Drop> ReadBitStream<Queue>
         &mut self,
         codebook: C,
     ) -> Result<C::Symbol, CoderError<SymbolCodeError<C::InvalidCodeword>, B::ReadError>> {
-        let bits = self.last.turned_top();
+        let bits = self.last.reversed_top();
         if let Some((symbol, count)) = codebook.symbol_at_once(bits, self.last.count()) {
             self.last.drop_first(count);
             return Ok(symbol);
         }
-        self.last.set_turns(true);
-        let decoded = codebook.decode_symbol(self);
-        self.last.set_turns(false);
-        decoded
+        codebook.decode_symbol(self)
     }
 
     ghost list_law = { λ known old item new given. given.1 known };

@@ -7,7 +7,7 @@ ghost use Rattle.std.specs.Prelude.{IfErr, IfOk, [], false, length, replicate};
 ghost use Rattle.std.specs.Prelude.{ℕ, ◌*◌, ◌+◌, ◌<◌, ◌^◌, ◌∷◌, ◌≡◌, ◌≤◌};
 
 use crate::codebooks::SymbolCodeError;
-use crate::turning::doubled;
+use crate::numbers::doubled;
 use constriction_base::errors::CoderError;
 use constriction_words::BitArray;
 

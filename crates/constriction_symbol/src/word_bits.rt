@@ -2,35 +2,27 @@
 
 ghost use Rattle.constriction_symbol.specs.Bits.{AreZeros, bits_of, top_bits};
 ghost use Rattle.std.specs.Prelude.{IsTrue, List, [], drop, length, reverse};
-ghost use Rattle.std.specs.Prelude.{◌++◌, ◌<◌, ◌≤◌, ◌∷◌, ◌^◌, ◌↔◌, ◌≡◌, ◌⊎◌};
+ghost use Rattle.std.specs.Prelude.{◌<◌, ◌≤◌, ◌∷◌, ◌^◌, ◌↔◌, ◌≡◌};
 
-use crate::low_bits::LowBits;
 use crate::top_bits::TopBits;
-use crate::turning::turned;
 use constriction_words::BitArray;
 use std::marker::Model;
 
 /// A list of at most `Word::BITS` bits. Calls remove bits from its front.
 ///
-/// The list has two forms, and at most one of them holds bits. In `first`, the list's first bit is the lowest bit of
-/// the stored word. In `turned`, the list is stored in reverse order: its first bit is the highest bit of the stored
-/// word. Reads of single bits use `first`, so they don't have to reverse each word. Reads of a codeword at once need
-/// `turned`. Contracts describe a `WordBits` by the list.
+/// The list is stored in reverse order: its first bit is the highest bit of the stored word. So a call removes bits by
+/// one shift, and a codebook finds a codeword in the highest bits. Contracts describe a `WordBits` by the list.
 #[derive(Debug, Drop)]
 pub struct WordBits<Word: BitArray> {
-    first: LowBits<Word>,
-    turned: TopBits<Word>,
-    turns: bool,
+    reversed: TopBits<Word>,
 }
 
 impl<Word: BitArray> Model for WordBits<Word> {
-    ghost use Rattle.std.specs.Prelude.{Bool, List, [], reverse, ◌++◌, ◌≡◌, ◌⊎◌};
+    ghost use Rattle.std.specs.Prelude.{Bool, List, reverse};
 
     ghost Value = { List Bool };
 
-    ghost view = { λ b. b.first ++ reverse b.turned };
-
-    ghost invariant = { λ b. (b.first ≡ []) ⊎ (b.turned ≡ []) };
+    ghost view = { λ b. reverse b.reversed };
 }
 
 impl<Word: BitArray> WordBits<Word> {
@@ -40,9 +32,7 @@ impl<Word: BitArray> WordBits<Word> {
         ensures { result ≡ [] }
     {
         WordBits {
-            first: LowBits::none(),
-            turned: TopBits::none(),
-            turns: false,
+            reversed: TopBits::none(),
         }
     }
 
@@ -54,20 +44,8 @@ impl<Word: BitArray> WordBits<Word> {
         requires { self.old ≡ [] }
         ensures { bits_of Word.BITS (Word.number word) ≡ result ∷ self.new }
     {
-        if self.turns {
-            self.turned = TopBits::all(turned(word));
-            return self.turned.pop();
-        }
-        self.first = LowBits::after_first(word);
-        !word.low_bits(1).is_nothing()
-    }
-
-    /// Sets whether the next `refill` stores the bits in reverse order. The list is unchanged.
-    #[inline]
-    pub fn set_turns(&mut self, turns: bool)
-        ensures { self.new ≡ self.old }
-    {
-        self.turns = turns;
+        self.reversed = TopBits::all(word.reversed_bits());
+        self.reversed.pop()
     }
 
     /// Returns a copy of the list.
@@ -76,21 +54,8 @@ impl<Word: BitArray> WordBits<Word> {
         ensures { result ≡ self.now }
     {
         WordBits {
-            first: self.first.copied(),
-            turned: self.turned.copied(),
-            turns: self.turns,
+            reversed: self.reversed.copied(),
         }
-    }
-
-    /// Returns the list in reverse order.
-    #[inline]
-    fn as_turned(&self) -> TopBits<Word>
-        ensures { result ≡ reverse self.now }
-    {
-        if self.first.is_empty() {
-            return self.turned.copied();
-        }
-        self.first.turned()
     }
 
     /// Returns the number of bits in the list.
@@ -99,10 +64,7 @@ impl<Word: BitArray> WordBits<Word> {
         ensures value { result ≡ length self.now }
         ensures within { result ≤ Word.BITS }
     {
-        if self.first.is_empty() {
-            return self.turned.count();
-        }
-        self.first.count()
+        self.reversed.count()
     }
 
     /// Returns whether the list is empty.
@@ -110,32 +72,30 @@ impl<Word: BitArray> WordBits<Word> {
     pub fn is_empty(&self) -> bool
         ensures { IsTrue result ↔ (self.now ≡ []) }
     {
-        self.first.is_empty() && self.turned.is_empty()
+        self.reversed.is_empty()
     }
 
     /// Returns a word that has the list in its lowest bits.
     ///
     /// The list's first bit is the highest of these bits. All other bits of the word are 0.
     #[inline]
-    pub fn turned_word(&self) -> Word
+    pub fn reversed_word(&self) -> Word
         ensures bits { reverse (bits_of (length self.now) (Word.number result)) ≡ self.now }
         ensures small { Word.number result < 2 ^ length self.now }
         ensures within { length self.now ≤ Word.BITS }
     {
-        TopBits::word(&self.as_turned())
+        self.reversed.word()
     }
 
-    /// Returns a word that has the list in its highest bits. The list is unchanged.
+    /// Returns a word that has the list in its highest bits.
     ///
     /// The list's first bit is the highest bit of the word. All bits below the list are unspecified.
     #[inline]
-    pub fn turned_top(&mut self) -> Word
-        ensures kept { self.new ≡ self.old }
-        ensures bits { top_bits Word.BITS (length self.old) (Word.number result) ≡ self.old }
-        ensures within { length self.old ≤ Word.BITS }
+    pub fn reversed_top(&self) -> Word
+        ensures bits { top_bits Word.BITS (length self.now) (Word.number result) ≡ self.now }
+        ensures within { length self.now ≤ Word.BITS }
     {
-        turn(&mut self.first, &mut self.turned);
-        self.turned.top_word()
+        self.reversed.top_word()
     }
 
     /// Removes the first bit of the list and returns it. The caller proves that the list isn't empty.
@@ -144,10 +104,7 @@ impl<Word: BitArray> WordBits<Word> {
         requires { 0 < length self.old }
         ensures { self.old ≡ result ∷ self.new }
     {
-        if self.first.is_empty() {
-            return self.turned.pop();
-        }
-        self.first.pop_first()
+        self.reversed.pop()
     }
 
     /// Removes the first `count` bits. The caller proves that `count` is at least 1 and below the list's length.
@@ -157,8 +114,7 @@ impl<Word: BitArray> WordBits<Word> {
         requires within { count < length self.old }
         ensures { self.new ≡ drop count self.old }
     {
-        turn(&mut self.first, &mut self.turned);
-        self.turned.drop_last(count);
+        self.reversed.drop_last(count);
     }
 
     /// Returns whether all bits of the list are 0. Returns `true` for an empty list.
@@ -166,22 +122,6 @@ impl<Word: BitArray> WordBits<Word> {
     pub fn is_zeros(&self) -> bool
         ensures { IsTrue result ↔ AreZeros self.now }
     {
-        self.as_turned().word().is_nothing()
+        self.reversed.word().is_nothing()
     }
-}
-
-/// Moves the bits of `first`, in reverse order, to the end of `turned`.
-///
-/// The caller proves that one of the lists is empty.
-#[inline]
-fn turn<Word: BitArray>(first: &mut LowBits<Word>, turned: &mut TopBits<Word>)
-    requires { (first.old ≡ []) ⊎ (turned.old ≡ []) }
-    ensures first { first.new ≡ [] }
-    ensures turned { turned.new ≡ turned.old ++ reverse first.old }
-{
-    if first.is_empty() {
-        return;
-    }
-    *turned = first.turned();
-    *first = LowBits::none();
 }

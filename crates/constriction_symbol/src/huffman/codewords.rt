@@ -8,7 +8,7 @@ ghost use Rattle.constriction_symbol.specs.EncoderTree.{HasBelowOne, HasCodeword
 ghost use Rattle.constriction_symbol.specs.Huffman.{GoesUp};
 ghost use Rattle.std.specs.Prelude.{Bool, IfOk, IfSome, List, OnSome, Some, length, ◌<◌};
 
-use crate::turning::same_number;
+use crate::numbers::same_number;
 use constriction_words::BitArray;
 use std::alloc::{AllocError, Global};
 

@@ -234,7 +234,7 @@ impl DecoderCodebook for DecoderHuffmanTree {
     ///
     /// # Errors
     ///
-    /// After an error, the source continues after the last bit read.
+    /// After an error other than `Frontend(OutOfCompressedData)`, the source continues after the last bit read.
     ///
     /// - `Frontend(OutOfCompressedData)` if the bits end before the codeword is complete.
     /// - `Backend(error)` if the source returns this error in place of a bit.

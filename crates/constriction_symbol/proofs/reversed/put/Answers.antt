@@ -1,5 +1,5 @@
 use Rattle.constriction_symbol.proofs.Coding.{puts_bits}
-use Rattle.constriction_symbol.proofs.Turned.{refused_by, refused_full}
+use Rattle.constriction_symbol.proofs.ReversedCodewords.{refused_by, refused_full}
 use Rattle.constriction_symbol.proofs.reversed.put.Goals as goal
 
 pub returns-clause-bits : goal.returns-clause-bits

@@ -1,4 +1,4 @@
-use Rattle.constriction_symbol.proofs.Turned.{two_words}
+use Rattle.constriction_symbol.proofs.ReversedCodewords.{two_words}
 use Rattle.constriction_symbol.proofs.reversed.put_small.Goals as goal
 
 pub returns-clause-err : goal.returns-clause-err

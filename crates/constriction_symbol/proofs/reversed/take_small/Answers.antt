@@ -1,4 +1,4 @@
-use Rattle.constriction_symbol.proofs.Turned.{taken_off}
+use Rattle.constriction_symbol.proofs.ReversedCodewords.{taken_off}
 use Rattle.constriction_symbol.proofs.reversed.take_small.Goals as goal
 
 pub returns : goal.returns

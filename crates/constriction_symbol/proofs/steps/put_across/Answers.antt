@@ -1,7 +1,8 @@
 use Rattle.std.proofs.Common.{◌≡◌, ◌≤◌, ◌+◌, ◌-◌, ◌/◌, ◌^◌, ◌++◌, arith, ap, sym, inr, ◌∙◌, length}
 use Rattle.constriction_base.proofs.Heads.{shr_below_top}
 use Rattle.constriction_symbol.specs.Bits.{bits_of}
-use Rattle.constriction_symbol.proofs.TurningLemmas.{bits_split, filled_length}
+use Rattle.constriction_symbol.proofs.WordLemmas.{filled_length}
+use Rattle.constriction_words.proofs.Bits.{bits_split}
 use Rattle.constriction_symbol.proofs.PutAtOnce.{first_bit}
 use Rattle.constriction_symbol.proofs.steps.put_across.Goals as goal
 

@@ -1,10 +1,10 @@
 use Rattle.std.proofs.Common.{◌≡◌, length, arith}
-use Rattle.constriction_symbol.proofs.Equal.{same_turned_bits}
+use Rattle.constriction_symbol.proofs.Equal.{same_reversed_bits}
 use Rattle.constriction_symbol.proofs.equality.WordBitsPartialEq.eq.Goals as goal
 
 pub returns-then-count : goal.returns-then-count
 returns-then-count g c =
     let number = g.Word.BitArray.number in
     let long : length c.args.self.now ≡ length c.args.other.now = grind (arith, c.if-count.true, c.count.ensures.value, c.count-2.ensures.value) in
-    same_turned_bits c.args.self.now c.args.other.now (number c.turned_word.result) (number c.turned_word-then-count.result) c.is_same_word.result long
-    c.turned_word.ensures.bits c.turned_word.ensures.small c.turned_word-then-count.ensures.bits c.turned_word-then-count.ensures.small c.is_same_word.ensures
+    same_reversed_bits c.args.self.now c.args.other.now (number c.reversed_word.result) (number c.reversed_word-then-count.result) c.is_same_word.result long
+    c.reversed_word.ensures.bits c.reversed_word.ensures.small c.reversed_word-then-count.ensures.bits c.reversed_word-then-count.ensures.small c.is_same_word.ensures

@@ -1,16 +1,16 @@
 use Rattle.std.proofs.Common.{of_calls}
-use Rattle.constriction_symbol.proofs.Climbing.{climbed_turned, parent_within}
+use Rattle.constriction_symbol.proofs.Climbing.{climbed_reversed, parent_within}
 use Rattle.constriction_symbol.proofs.GolombLemmas.{emitted_more, emitted_failed}
 use Rattle.constriction_symbol.proofs.huffman.parents.climb.Goals as goal
 
 pub returns-in-Err : goal.returns-in-Err
 returns-in-Err g c =
-    let top = climbed_turned c.args.nodes.now c.climb.index c.requires.rising c.climb-test.true in
+    let top = climbed_reversed c.args.nodes.now c.climb.index c.requires.rising c.climb-test.true in
     c.climb.invariant.all _ _ (emitted_failed g.F.FnMut top c.in-Err.is c.emit.ensures)
 
 pub climb-preserved : goal.climb-preserved
 climb-preserved g c =
-    let top = climbed_turned c.args.nodes.now c.climb.index c.requires.rising c.climb-test.true in
+    let top = climbed_reversed c.args.nodes.now c.climb.index c.requires.rising c.climb-test.true in
     record {
       callable = search of_calls;
       within = parent_within c.args.nodes.now c.climb.index c.requires.rising c.climb-test.true;

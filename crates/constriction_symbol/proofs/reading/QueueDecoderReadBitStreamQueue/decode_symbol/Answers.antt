@@ -1,19 +1,19 @@
 use Rattle.std.proofs.Common.{◌-◌, ◌/◌, ◌^◌, reverse, drop, length, ap, ◌∙◌}
 use Rattle.constriction_symbol.specs.Bits.{bits_of}
 use Rattle.constriction_symbol.proofs.TakenAtOnce.{first_given}
-use Rattle.constriction_symbol.proofs.TurningLemmas.{queue_begins_top}
+use Rattle.constriction_symbol.proofs.WordLemmas.{queue_begins_top}
 use Rattle.constriction_symbol.proofs.reading.QueueDecoderReadBitStreamQueue.decode_symbol.Goals as goal
 
 pub returns-in-Some : goal.returns-in-Some
 returns-in-Some g c =
-    let n = g.Word.BitArray.number c.turned_top-bits.result in
+    let n = g.Word.BitArray.number c.reversed_top-bits.result in
     let begun = c.in-Some.ensures in
     let last = c.self.inside.last in
-    let same = c.turned_top-bits.ensures.kept in
+    let same = c.reversed_top-bits.ensures.kept in
     let code = reverse (bits_of c.in-Some.count (n / 2 ^ (g.Word.BitArray.BITS - c.in-Some.count))) in (
       code,
       begun.is,
       rw (← c.self.view_is)
           (first_given g.Word.BitArray.BITS g.Word.BitArray.number g.B.Holds.is_list g.B.ReadWords.reads g.B.Holds.words c.self.inside.backend code last (drop c.in-Some.count last) c.drop_first.new.self
-          (queue_begins_top last n g.Word.BitArray.BITS c.count.result c.in-Some.count (c.count.ensures.value ∙ ap length same) c.turned_top-bits.ensures.within begun.part c.turned_top-bits.ensures.bits) (c.drop_first.ensures ∙ ap (λ bs. drop c.in-Some.count bs) same)),
+          (queue_begins_top last n g.Word.BitArray.BITS c.count.result c.in-Some.count (c.count.ensures.value ∙ ap length same) c.reversed_top-bits.ensures.within begun.part c.reversed_top-bits.ensures.bits) (c.drop_first.ensures ∙ ap (λ bs. drop c.in-Some.count bs) same)),
     )

@@ -1,7 +1,7 @@
 use Rattle.std.proofs.Common.{◌-◌, ◌/◌, ◌^◌, reverse, take, length}
 use Rattle.constriction_symbol.specs.Bits.{bits_of}
 use Rattle.constriction_symbol.proofs.TakenAtOnce.{last_given}
-use Rattle.constriction_symbol.proofs.TurningLemmas.{stack_ends_top}
+use Rattle.constriction_symbol.proofs.WordLemmas.{stack_ends_top}
 use Rattle.constriction_symbol.proofs.reading.StackCoderReadBitStreamStack.decode_symbol.Goals as goal
 
 pub returns-in-Some : goal.returns-in-Some

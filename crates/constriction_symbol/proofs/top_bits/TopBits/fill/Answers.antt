@@ -1,6 +1,6 @@
 use Rattle.std.proofs.Common.{◌≡◌, ◌-◌, ◌++◌, arith, length, ap, ◌∙◌}
 use Rattle.constriction_symbol.specs.Bits.{bits_of}
-use Rattle.constriction_symbol.proofs.TopLemmas.{bits_left}
+use Rattle.constriction_words.proofs.Bits.{bits_left}
 use Rattle.constriction_symbol.proofs.top_bits.TopBits.fill.Goals as goal
 
 pub returns-then-room-gt0 : goal.returns-then-room-gt0

@@ -1,11 +1,7 @@
-use Rattle.constriction_symbol.proofs.TwoForms.{none_joined, parts_empty}
+use Rattle.std.proofs.Common.{ap, reverse}
+use Rattle.constriction_base.proofs.Ends.{reverse_empty}
 use Rattle.constriction_symbol.proofs.word_bits.WordBits.is_empty.Goals as goal
 
-pub returns-then-is_empty : goal.returns-then-is_empty
-returns-then-is_empty g c =
-    let first = c.self.inside.first in
-    let turned = c.self.inside.turned in
-    rw (← c.self.view_is) (
-      λ is. none_joined first turned (c.is_empty.ensures.0 c.if-is_empty.true) (c.is_empty-then-is_empty.ensures.0 is),
-      λ empty. c.is_empty-then-is_empty.ensures.1 (parts_empty first turned empty).1,
-    )
+pub returns : goal.returns
+returns g c =
+    rw (← c.self.view_is) (λ is. ap reverse (c.is_empty.ensures.0 is), λ none. c.is_empty.ensures.1 (reverse_empty c.self.inside.reversed none))

@@ -1,6 +1,6 @@
 use Rattle.std.proofs.Common.{arith, ◌≡◌, ◌<◌}
-use Rattle.constriction_symbol.proofs.TurningLemmas.{down_room, down_step}
-use Rattle.constriction_symbol.proofs.turning.same_down_to.Goals as goal
+use Rattle.constriction_symbol.proofs.WordLemmas.{down_room, down_step}
+use Rattle.constriction_symbol.proofs.numbers.same_down_to.Goals as goal
 
 pub doubled-same-requires : goal.doubled-same-requires
 doubled-same-requires g c =

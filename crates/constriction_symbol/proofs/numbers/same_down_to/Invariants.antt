@@ -1,5 +1,5 @@
 use Rattle.std.proofs.Common.{◌≤◌, ◌≡◌, ◌/◌, ◌^◌}
-use Rattle.constriction_symbol.proofs.turning.same_down_to.Given as goal
+use Rattle.constriction_symbol.proofs.numbers.same_down_to.Given as goal
 
 abbrev pub invariant-bits : goal.invariant-bits
 invariant-bits g l = record {

@@ -1,27 +1,14 @@
-//! Reverses the bits of a word, and converts a number to another word type.
+//! Reverses the lowest bits of a word, and converts a number to another word type.
 //!
-//! `BitArray` has no operation for these two tasks, so [`turned`] and [`same_number`] loop over the bits. The compiler
-//! turns a loop of up to about twenty iterations into a few masks and shifts, or a move. So each of the two functions
-//! runs four loops. A loop of `turned` goes over one quarter of the word, which is 16 bits of a `u64`. A loop of
-//! `same_number` goes over one quarter of the bits of the smaller type.
+//! `BitArray` has no conversion between word types, so [`same_number`] loops over the bits. The compiler turns a loop
+//! of up to about twenty iterations into a move. So [`same_number`] runs four loops, and each loop goes over one
+//! quarter of the bits of the smaller type.
 
 ghost use Rattle.constriction_symbol.specs.Bits.{bits_of};
 ghost use Rattle.constriction_symbol.specs.Golomb.{number_after};
 ghost use Rattle.std.specs.Prelude.{[], reverse, ◌*◌, ◌+◌, ◌/◌, ◌<◌, ◌^◌, ◌∷◌, ◌≡◌, ◌≤◌};
 
 use constriction_words::BitArray;
-
-/// Returns `word` with its bits in reverse order.
-#[inline]
-pub fn turned<Word: BitArray>(word: Word) -> Word
-    ensures { Word.number result ≡ number_after 0 (bits_of Word.BITS (Word.number word)) }
-{
-    let quarter = Word::BITS / 4;
-    let first = turned_to(word, Word::nothing(), 0, quarter);
-    let half = turned_to(word, first, quarter, 2 * quarter);
-    let most = turned_to(word, half, 2 * quarter, 3 * quarter);
-    turned_to(word, most, 3 * quarter, Word::BITS)
-}
 
 /// Returns the lowest `count` bits of `bits` in reverse order.
 ///
@@ -36,27 +23,7 @@ pub fn first_lowest<Word: BitArray>(bits: Word, count: u32) -> Word
     if count == 0 {
         return bits;
     }
-    turned(bits).shift_right(Word::BITS - count)
-}
-
-/// Returns the lowest `to` bits of `word` in reverse order, given the result `done` for the lowest `from` bits.
-///
-/// The caller proves that `done` is the lowest `from` bits of `word` in reverse order. The caller also proves that
-/// `from` is at most `to`, and `to` at most `Word::BITS`.
-#[inline]
-fn turned_to<Word: BitArray>(word: Word, done: Word, from: u32, to: u32) -> Word
-    requires order { from ≤ to }
-    requires within { to ≤ Word.BITS }
-    requires done { Word.number done ≡ number_after 0 (bits_of from (Word.number word)) }
-    ensures { Word.number result ≡ number_after 0 (bits_of to (Word.number word)) }
-{
-    let mut turned = done;
-    let mut place = from;
-    'bits: while place < to {
-        turned = doubled(turned, !word.shift_right(place).low_bits(1).is_nothing());
-        place += 1;
-    }
-    turned
+    bits.reversed_bits().shift_right(Word::BITS - count)
 }
 
 /// Converts `number` to another word type. The caller proves that `number` fits that type.

@@ -1,4 +1,4 @@
--- The bits of a small stack, on which a codeword is turned round.
+-- The bits of a small stack, by which a codeword is reversed.
 use Rattle.std.proofs.Common.{◌≡◌, ◌<◌, ◌≤◌, ◌+◌, ◌*◌, ℕ, Bool, List, [], ◌∷◌, ◌++◌, Option, Some, None, Result, Ok, Err, ap, subst, sym, refl, ◌∙◌, arith, inl, inr, length, length-append, reverse}
 use Rattle.std.specs.Prelude.{OnErr, IfErr, MatchOption}
 use Rattle.std.proofs.lemmas.List.{length-reverse, reverse-append, reverse-reverse}
@@ -39,9 +39,9 @@ taken_off E old new None gives = reverse_empty old gives.0
 taken_off E old new (Some bit) gives =
     sym (reverse-reverse old) ∙ (ap reverse gives ∙ (reverse-append (bit ∷ []) (reverse new) ∙ ap (λ xs. xs ++ bit ∷ []) (reverse-reverse new)))
 
--- so it comes first of the bits turned round
-pub first_turned : (old new : List Bool) (bit : Bool) → old ≡ new ++ bit ∷ [] → reverse old ≡ bit ∷ reverse new
-first_turned old new bit is = ap reverse is ∙ reverse-append new (bit ∷ [])
+-- so it comes first of the bits in reverse order
+pub first_reversed : (old new : List Bool) (bit : Bool) → old ≡ new ++ bit ∷ [] → reverse old ≡ bit ∷ reverse new
+first_reversed old new bit is = ap reverse is ∙ reverse-append new (bit ∷ [])
 
 -- what putting a codeword's suffix form onto a stack without bits makes of it
 stacked : {C E : Type 0} (bits : C → List Bool) (puts : C → Bool → Result (Unit {0}) E → C → Type 0) (old : C) (count : ℕ) (code : Option (List Bool)) (r : Answer E) (new : C)
@@ -75,10 +75,10 @@ module _ {F C E T : Type 0} (g : Mut F (Bool × Unit {0}) (Result (Unit {0}) E))
   long_refused f (Some code) r last (inr (refusal, never, refused, same)) none e is = absurd never
 
 -- a codeword's suffix form that was emitted to a stack without bits
-pub put_turned : {F C E T : Type 0} {g : Mut F (Bool × Unit {0}) (Result (Unit {0}) E)} {f : F} (code : Option (List Bool)) (r : Answer E) {last : F} → EmitsCodeword g (λ _. ⊥) f (formed reverse code) r last
+pub put_reversed : {F C E T : Type 0} {g : Mut F (Bool × Unit {0}) (Result (Unit {0}) E)} {f : F} (code : Option (List Bool)) (r : Answer E) {last : F} → EmitsCodeword g (λ _. ⊥) f (formed reverse code) r last
     → (stream : F → C) (bits : C → List Bool) (count : ℕ) (name : F → T) → PutsBits g stream bits (λ c b r new. OnErr r (count ≤ length (bits c))) name → bits (stream f) ≡ []
     → StacksCodeword count code r (bits (stream last)) × (name last ≡ name f)
-put_turned {g = g} {f = f} code r {last = last} run stream bits count name h none =
+put_reversed {g = g} {f = f} code r {last = last} run stream bits count name h none =
     let all = put_all (λ _. ⊥) (formed reverse code) r run stream bits (λ c b r new. OnErr r (count ≤ length (bits c))) name h in
     (stacked bits (λ c b r new. OnErr r (count ≤ length (bits c))) (stream f) count code r (stream last) all.0 (long_refused g stream bits count name h f code r last run none) none, all.1)
 

@@ -1,71 +1,15 @@
--- Words with their bits in the other order, and numbers that are made again from their bits.
-use Rattle.std.proofs.Common.{◌≡◌, ◌<◌, ◌≤◌, ◌+◌, ◌*◌, ◌-◌, ◌/◌, ◌%◌, ◌^◌, ℕ, zero, suc, Bool, true, false, not, List, [], ◌∷◌, ◌++◌, length, reverse, replicate, take, drop, refl, sym, ap, subst, ◌∙◌, arith, pow_pos, pow_mono, if◌then◌else◌, ◌≢◌, length-drop, length-append, ap₂, map, append_assoc}
+-- Words with their bits in reverse order, and numbers that are made again from their bits.
+use Rattle.std.proofs.Common.{◌≡◌, ◌<◌, ◌≤◌, ◌+◌, ◌*◌, ◌-◌, ◌/◌, ◌%◌, ◌^◌, ℕ, zero, suc, Bool, true, false, not, List, [], ◌∷◌, ◌++◌, length, reverse, replicate, take, drop, refl, sym, ap, subst, ◌∙◌, arith, ◌≢◌, length-drop, length-append, ap₂, map, append_assoc}
 use Rattle.std.specs.Prelude.{IsTrue, ◌↔◌}
-use Rattle.std.proofs.lemmas.Nat.{shr-shr, shl-shr, shr_le, shr_split, mod_below}
-use Rattle.std.proofs.lemmas.List.{reverse-append, reverse-reverse, length-reverse, length-replicate, take-append-drop}
+use Rattle.std.proofs.lemmas.Nat.{shr-shr, shr_below, shr_le}
+use Rattle.std.proofs.lemmas.List.{reverse-append, reverse-reverse, length-reverse, take-append-drop}
 use Rattle.std.proofs.Math.Nat.{pow-succ'}
-use native.Mathlib.Nat.{pow-zero}
 use Rattle.constriction_symbol.specs.Bits.{AreZeros, bits_above, bits_of, bits_of_words}
 use Rattle.constriction_symbol.specs.Golomb.{number_after}
-use Rattle.constriction_symbol.specs.GolombLaws.{number_push, number_above}
-use Rattle.constriction_symbol.proofs.Coding.{length_bits, filled_up, words_more}
-use Rattle.constriction_symbol.proofs.GolombLemmas.{top_bit, reverse_zeros, number_zeros}
-use Rattle.constriction_symbol.proofs.TopLemmas.{bits_below, bits_joined, bits_left}
-
--- a number of so many bits
-number_small : (xs : List Bool) → number_after 0 xs < 2 ^ length xs
-number_small [] = omega (arith, pow-zero 2)
-number_small (true ∷ xs) = omega (arith, number_above (2 * 0 + 1) xs, number_small xs, pow-succ' 2 (length xs))
-number_small (false ∷ xs) = omega (arith, number_small xs, pow-succ' 2 (length xs))
-
--- there is room for a bit more
-pub turned_room : (k b n t : ℕ) → k < b → t ≡ number_after 0 (bits_of k n) → 2 * t + 1 < 2 ^ b
-turned_room k b n t less is =
-    let small : t < 2 ^ k = rw is (subst (λ j. number_after 0 (bits_of k n) < 2 ^ j) (length_bits k n) (number_small (bits_of k n))) in
-    let up : 2 ^ suc k ≤ 2 ^ b = pow_mono (omega (arith, less)) in
-    omega (arith, small, up, pow-succ' 2 k)
-
--- one bit more of the word
-pub turned_more : (k n t m h s : ℕ) (none : Bool) → t ≡ number_after 0 (bits_of k n) → m ≡ n / 2 ^ k → h ≡ m % 2 ^ 1 → IsTrue none ↔ (h ≡ 0) → s ≡ number_after t (not none ∷ []) → s ≡ number_after 0 (bits_of (k + 1) n)
-turned_more k n t m h s none is high low clear step =
-    step ∙ (ap (λ x. number_after x (not none ∷ [])) is ∙ (sym (number_push 0 (bits_of k n) (not none)) ∙ ap (λ bs. number_after 0 bs) (sym (top_bit k n m h none high low clear))))
-
--- the bits of the number that a list is, the highest first
-pub number_bits : (xs : List Bool) → bits_of (length xs) (number_after 0 xs) ≡ reverse xs
-number_bits [] = refl
-number_bits (true ∷ xs) =
-    let k = length xs in
-    let split : number_after (2 * 0 + 1) xs ≡ number_after 0 xs + 1 * 2 ^ k = omega (arith, number_above (2 * 0 + 1) xs) in
-    let more : suc k ≡ k + 1 = omega arith in
-    ap (λ x. bits_of (suc k) x) split
-    ∙ (ap (λ j. bits_of j (number_after 0 xs + 1 * 2 ^ k)) more
-    ∙ (bits_joined k 1 (number_after 0 xs) 1 (number_small xs) ∙ (ap (λ bs. bs ++ true ∷ []) (number_bits xs) ∙ sym (reverse-append (true ∷ []) xs))))
-number_bits (false ∷ xs) =
-    let k = length xs in
-    let split : number_after 0 xs ≡ number_after 0 xs + 0 * 2 ^ k = omega arith in
-    let more : suc k ≡ k + 1 = omega arith in
-    ap (λ x. bits_of (suc k) x) split
-    ∙ (ap (λ j. bits_of j (number_after 0 xs + 0 * 2 ^ k)) more
-    ∙ (bits_joined k 1 (number_after 0 xs) 0 (number_small xs) ∙ (ap (λ bs. bs ++ false ∷ []) (number_bits xs) ∙ sym (reverse-append (false ∷ []) xs))))
-
--- the word turned round has the bits in the other order
-pub turned_bits : (b n t : ℕ) → t ≡ number_after 0 (bits_of b n) → bits_of b t ≡ reverse (bits_of b n)
-turned_bits b n t is = ap (λ x. bits_of b x) is ∙ (ap (λ k. bits_of k (number_after 0 (bits_of b n))) (sym (length_bits b n)) ∙ number_bits (bits_of b n))
-
-number_then : (n : ℕ) (xs ys : List Bool) → number_after n (xs ++ ys) ≡ number_after (number_after n xs) ys
-number_then n [] ys = refl
-number_then n (x ∷ xs) ys = number_then (2 * n + (if x then 1 else 0)) xs ys
-
--- the lowest bits of a word, turned round by turning the word and dropping what came from the zeros above them
-pub turned_low : (b count n t r : ℕ) → count ≤ b → n < 2 ^ count → t ≡ number_after 0 (bits_of b n) → r ≡ t / 2 ^ (b - count) → (bits_of count r ≡ reverse (bits_of count n)) × (r < 2 ^ count)
-turned_low b count n t r within small is low =
-    let zeros = replicate (b - count) false in
-    let kept = number_after 0 (bits_of count n) in
-    let whole : t ≡ kept * 2 ^ (b - count) =
-    is ∙ (ap (λ bs. number_after 0 bs) (filled_up b count n within small) ∙ (number_then 0 (bits_of count n) zeros ∙ (number_above kept zeros ∙ rw (length-replicate, number_zeros) (omega arith)))) in
-    let same : r ≡ kept = low ∙ (ap (λ x. x / 2 ^ (b - count)) whole ∙ shl-shr kept (b - count)) in
-    let room : kept < 2 ^ count = subst (λ k. kept < 2 ^ k) (length_bits count n) (number_small (bits_of count n)) in
-    (ap (λ x. bits_of count x) same ∙ turned_bits count n kept refl, subst (λ x. x < 2 ^ count) (sym same) room)
+use Rattle.constriction_symbol.proofs.Coding.{length_bits, words_more}
+use Rattle.constriction_symbol.proofs.GolombLemmas.{reverse_zeros}
+use Rattle.constriction_symbol.proofs.TopLemmas.{bits_below}
+use Rattle.constriction_words.proofs.Bits.{bits_split}
 
 -- there is room for a bit more of a number
 pub down_room : (b left n s : ℕ) → 0 < b → 0 < left → n < 2 ^ b → s ≡ n / 2 ^ left → 2 * s + 1 < 2 ^ b
@@ -98,7 +42,32 @@ pub past : (front back : List Bool) → drop (length front) (front ++ back) ≡ 
 past [] back = refl
 past (x ∷ front) back = past front back
 
--- the first of some bits are the last ones of them turned round
+-- the highest bits of a word in reverse order are the lowest of the word, the other way round
+pub highest_reversed : (b count x t : ℕ) → count ≤ b → bits_of b t ≡ reverse (bits_of b x) → bits_of count (t / 2 ^ (b - count)) ≡ reverse (bits_of count x)
+highest_reversed b count x t within is =
+    let rest = b - count in
+    let whole : rest + count ≡ b = omega (arith, within) in
+    let other : count + rest ≡ b = omega (arith, within) in
+    let left : bits_of b t ≡ bits_of rest t ++ bits_of count (t / 2 ^ rest) = ap (λ k. bits_of k t) (sym whole) ∙ bits_split rest count t in
+    let right : bits_of b x ≡ bits_of count x ++ bits_of rest (x / 2 ^ count) = ap (λ k. bits_of k x) (sym other) ∙ bits_split count rest x in
+    let high = reverse (bits_of rest (x / 2 ^ count)) in
+    let both : bits_of rest t ++ bits_of count (t / 2 ^ rest) ≡ high ++ reverse (bits_of count x) =
+    sym left ∙ (is ∙ (ap reverse right ∙ reverse-append (bits_of count x) (bits_of rest (x / 2 ^ count)))) in
+    let long : length (bits_of rest t) ≡ rest = length_bits rest t in
+    let long_high : length high ≡ rest = length-reverse (bits_of rest (x / 2 ^ count)) ∙ length_bits rest (x / 2 ^ count) in
+    let front : drop rest (bits_of rest t ++ bits_of count (t / 2 ^ rest)) ≡ bits_of count (t / 2 ^ rest) =
+    subst (λ k. drop k (bits_of rest t ++ bits_of count (t / 2 ^ rest)) ≡ bits_of count (t / 2 ^ rest)) long (past (bits_of rest t) (bits_of count (t / 2 ^ rest))) in
+    let back : drop rest (high ++ reverse (bits_of count x)) ≡ reverse (bits_of count x) =
+    subst (λ k. drop k (high ++ reverse (bits_of count x)) ≡ reverse (bits_of count x)) long_high (past high (reverse (bits_of count x))) in
+    sym front ∙ (ap (λ bs. drop rest bs) both ∙ back)
+
+-- there are so many of them
+pub highest_small : (b count t r : ℕ) → count ≤ b → t < 2 ^ b → r ≡ t / 2 ^ (b - count) → r < 2 ^ count
+highest_small b count t r within fits is =
+    let whole : count + (b - count) ≡ b = omega (arith, within) in
+    subst (λ x. x < 2 ^ count) (sym is) (shr_below t count (b - count) (subst (λ e. t < 2 ^ e) (sym whole) fits))
+
+-- the first of some bits are the last ones of them in reverse order
 pub reverse_kept : (c : ℕ) (xs : List Bool) → c ≤ length xs → reverse (take (length xs - c) xs) ≡ drop c (reverse xs)
 reverse_kept c xs within =
     let j = length xs - c in
@@ -106,13 +75,7 @@ reverse_kept c xs within =
     let count : length (reverse (drop j xs)) ≡ c = length-reverse (drop j xs) ∙ (length-drop j xs ∙ omega (arith, within)) in
     sym (ap (λ bs. drop c bs) parts ∙ (ap (λ k. drop k (reverse (drop j xs) ++ reverse (take j xs))) (sym count) ∙ past (reverse (drop j xs)) (reverse (take j xs))))
 
--- the lower bits of a number, and then the higher ones
-pub bits_split : (j c n : ℕ) → bits_of (j + c) n ≡ bits_of j n ++ bits_of c (n / 2 ^ j)
-bits_split j c n =
-    let whole : n ≡ n % 2 ^ j + n / 2 ^ j * 2 ^ j = sym (omega (arith, shr_split n j)) in
-    ap (λ x. bits_of (j + c) x) whole ∙ (bits_joined j c (n % 2 ^ j) (n / 2 ^ j) (mod_below n (2 ^ j) (pow_pos j)) ∙ ap (λ bs. bs ++ bits_of c (n / 2 ^ j)) (bits_left j n))
-
--- the first of the bits that a word turned round has
+-- the first of the bits that a word has in reverse order
 pub queue_begins : (last : List Bool) (n all count : ℕ) → all ≡ length last → count < all → reverse (bits_of (length last) n) ≡ last
     → last ≡ reverse (bits_of count (n / 2 ^ (all - count))) ++ drop count last
 queue_begins last n all count long fewer is =
@@ -138,11 +101,11 @@ stack_ends last n all count long fewer is =
     ap (λ k. take k last) kept ∙ (ap (λ bs. take j bs) (sym is ∙ ap (λ k. bits_of k n) (sym whole)) ∙ bits_below j count n) in
     parts ∙ (ap (λ bs. bs ++ bits_of count (n / 2 ^ j)) (sym below) ∙ ap (λ bs. take (length last - count) last ++ bs) (sym (reverse-reverse (bits_of count (n / 2 ^ j)))))
 
-zeros_turned : (xs : List Bool) → AreZeros xs → AreZeros (reverse xs)
-zeros_turned xs is = ap reverse is ∙ (reverse_zeros (length xs) ∙ ap (λ k. replicate k false) (sym (length-reverse xs)))
+zeros_reversed : (xs : List Bool) → AreZeros xs → AreZeros (reverse xs)
+zeros_reversed xs is = ap reverse is ∙ (reverse_zeros (length xs) ∙ ap (λ k. replicate k false) (sym (length-reverse xs)))
 
 pub zeros_both : (xs : List Bool) → (AreZeros xs → AreZeros (reverse xs)) × (AreZeros (reverse xs) → AreZeros xs)
-zeros_both xs = (zeros_turned xs, λ is. subst (λ bs. AreZeros bs) (reverse-reverse xs) (zeros_turned (reverse xs) is))
+zeros_both xs = (zeros_reversed xs, λ is. subst (λ bs. AreZeros bs) (reverse-reverse xs) (zeros_reversed (reverse xs) is))
 
 -- bits fill the last word, which is written, and the others begin the next
 pub across : {W : Type 0} (w : ℕ) (number : W → ℕ) (words words' : List W) (word : W) (last full last' front back bits : List Bool) → words' ≡ word ∷ words → bits_of (length full) (number word) ≡ full → length full ≡ w
