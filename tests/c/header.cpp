@@ -1,12 +1,14 @@
 // The header in C++: it compiles, it can come twice, and its functions link.
 #include "constriction.h"
 #include "constriction.h"
+#include "families.h"
 
 #include <cstdint>
 #include <cstdio>
 
 static_assert(CONSTRICTION_NO_SPACE == 5 && CONSTRICTION_OUT_OF_DATA == 8, "the results' numbers");
-static_assert(CONSTRICTION_GAUSSIAN == 0 && CONSTRICTION_LAPLACE == 1 && CONSTRICTION_LOGISTIC == 2, "the families' numbers");
+#define IS_NUMBERED(name, NAME, number) static_assert(CONSTRICTION_##NAME == number, "the number of " #name);
+FAMILIES_BY(IS_NUMBERED)
 static_assert(CONSTRICTION_PRECISION_U32 == 24 && CONSTRICTION_PRECISION_U16 == 12, "the precisions");
 
 int main() {

@@ -13,10 +13,11 @@ struct mixed {
     word remainders[16];
 };
 
+#include "families.h"
 #include "rows_of_mixtures.h"
 
 #define LENGTH(list) (sizeof(list) / sizeof *(list))
-enum { FAMILIES = 3, WIDEST = 4 };
+enum { WIDEST = 4 };
 
 /* What a call is given. */
 static struct {

@@ -29,10 +29,10 @@ struct coded {
     word remainders[16];
 };
 
+#include "families.h"
 #include "rows_of_models.h"
 
 #define LENGTH(list) (sizeof(list) / sizeof *(list))
-enum { FAMILIES = 3 };
 
 /* What a call is given. */
 static struct {
@@ -87,7 +87,7 @@ static uint32_t chain_pairs(struct world *w) {
 }
 
 /* The same by a family's name. */
-#define NAMED(name) \
+#define NAMED(name, NAME, number) \
     static uint32_t name##_ans_encode(struct world *w) { \
         return C(ans_encode_##name##_reverse)(&w->head, BUFFER, RANGE, GIVEN, &w->needed); \
     } \
@@ -111,15 +111,13 @@ static uint32_t chain_pairs(struct world *w) {
         return C(name##_interval)(in.min, in.max, in.locations[0], in.scales[0], in.symbols[0], w->lefts, w->ps); \
     }
 
-NAMED(gaussian)
-NAMED(laplace)
-NAMED(logistic)
+FAMILIES_BY(NAMED)
 
 enum { ANS_ENCODE, ANS_DECODE, RANGE_ENCODE, RANGE_DECODE, CHAIN_ENCODE, CHAIN_DECODE, INTERVALS, INTERVAL, CALLS };
-#define CALLS_OF(name) \
+#define CALLS_OF(name, NAME, number) \
     {name##_ans_encode, name##_ans_decode, name##_range_encode, name##_range_decode, \
-     name##_chain_encode, name##_chain_decode, name##_intervals_of, name##_interval_of}
-static call *const named[FAMILIES][CALLS] = {CALLS_OF(gaussian), CALLS_OF(laplace), CALLS_OF(logistic)};
+     name##_chain_encode, name##_chain_decode, name##_intervals_of, name##_interval_of},
+static call *const named[FAMILIES][CALLS] = {FAMILIES_BY(CALLS_OF)};
 
 /* ==== Lists at random, and what holds of each call ==== */
 
@@ -458,9 +456,9 @@ static void nulls(void) {
                                                     NOTHING, NULL, 0, &needed));
     CHECK("null: intervals", !C(quantized_intervals)(NOTHING, NULL, 0, NULL, 0, NULL, 0));
     CHECK("null: weights", C(weights_of_counts)(NULL, 0, NULL, 0) == CONSTRICTION_WRONG_WEIGHTS);
-    uint32_t result = C(quantized_intervals)(CONSTRICTION_LAPLACE, 5, 5, NULL, 0, NULL, 0, NULL, 0, NULL, 0, NULL, 0);
+    uint32_t result = C(quantized_intervals)(FAMILIES - 1, 5, 5, NULL, 0, NULL, 0, NULL, 0, NULL, 0, NULL, 0);
     CHECK("null: a range all the same", result == CONSTRICTION_WRONG_INTERVAL);
-    result = C(quantized_intervals)(3, 0, 5, NULL, 0, NULL, 0, NULL, 0, NULL, 0, NULL, 0);
+    result = C(quantized_intervals)(FAMILIES, 0, 5, NULL, 0, NULL, 0, NULL, 0, NULL, 0, NULL, 0);
     CHECK("null: a family all the same", result == CONSTRICTION_WRONG_WEIGHTS);
 }
 
@@ -471,12 +469,11 @@ static void widest(void) {
     int32_t last = (int32_t)(WHOLE - 1);
     for (size_t symbol = 0; symbol < (size_t)WHOLE; symbol += (size_t)WHOLE / 64 + 1) {
         word left = 7, p = 7;
-        uint32_t result = C(gaussian_interval)(0, last, location, scale, symbol, &left, &p);
-        CHECK("the widest range: Gaussian", !result && left == symbol && p == 1);
-        result = C(laplace_interval)(0, last, location, scale, symbol, &left, &p);
-        CHECK("the widest range: Laplace", !result && left == symbol && p == 1);
-        result = C(logistic_interval)(0, last, location, scale, symbol, &left, &p);
-        CHECK("the widest range: logistic", !result && left == symbol && p == 1);
+        uint32_t result;
+#define IS_WIDEST(name, NAME, number) \
+    left = p = 7, result = C(name##_interval)(0, last, location, scale, symbol, &left, &p); \
+    CHECK("the widest range: " #name, !result && left == symbol && p == 1);
+        FAMILIES_BY(IS_WIDEST)
     }
 }
 

@@ -1,5 +1,6 @@
 /* Compares the C functions of one size, which -DBITS=32 or -DBITS=16 chooses, with the test vectors of docs/vectors.txt.
    The only argument is that file's path. Cases of the kinds `values` and `uniform` have no C function. */
+#include "families.h"
 #include "world.h"
 
 enum { VALUES = 300, LINES = 12, KINDS = 10 };
@@ -53,8 +54,9 @@ static struct {
 } given;
 
 static void read_family(const struct line *family) {
-    static const char *const names[] = {"gaussian", "laplace", "logistic"};
-    while (given.family < 3 && strcmp(names[given.family], family->text)) given.family++;
+#define NAME_OF(name, NAME, number) #name,
+    static const char *const names[] = {FAMILIES_BY(NAME_OF)};
+    while (given.family < FAMILIES && strcmp(names[given.family], family->text)) given.family++;
     given.first = (int32_t)of("range")->values[0], given.last = (int32_t)of("range")->values[1];
     const struct line *locations = of("locations"), *scales = of("scales");
     for (size_t i = 0; i < given.count || i < locations->count; i++) {
