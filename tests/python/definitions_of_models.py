@@ -16,7 +16,21 @@ sys.path.insert(0, str(Path(__file__).resolve().parents[2] / "tools"))
 import distributions  # noqa: E402
 
 ALL, UNIT = 1 << 32, 1 << 16
-GAUSSIAN, LAPLACE, LOGISTIC = FAMILIES = "gaussian", "laplace", "logistic"
+#: The names of the families of distributions, in the order of their numbers in C, and two of them.
+FAMILIES: tuple[str, ...] = tuple(distributions.FAMILIES)
+GAUSSIAN, LOGISTIC = "gaussian", "logistic"
+
+
+def type_of(family: str) -> str:
+    """Returns the name of the family's type in Rattle, which follows `Quantized` in the name of the Python class."""
+    name: str = distributions.FAMILIES[family].type
+    return name
+
+
+def scale_name(family: str) -> str:
+    """Returns the name of the family's scale in Python."""
+    name: str = distributions.FAMILIES[family].parameter
+    return name
 
 
 @lru_cache(maxsize=None)

@@ -21,7 +21,7 @@ from constriction.store import Store
 from constriction.stream.chain import ChainCoder
 
 from constriction.stream.model import (
-    Bernoulli, Binomial, Categorical, CustomModel, QuantizedCauchy, QuantizedGaussian, QuantizedLaplace, QuantizedMixture, Uniform,
+    Bernoulli, Binomial, Categorical, CustomModel, QuantizedCauchy, QuantizedGaussian, QuantizedMixture, Uniform,
     WeightTable,
 )  # fmt: skip
 from constriction.stream.queue import RangeDecoder, RangeEncoder
@@ -34,6 +34,7 @@ from constriction.symbol import (
     QueueEncoder,
     StackCoder,
 )
+from classes_of_families import KINDS
 
 THREE = WeightTable([1 << 22, 1 << 22, 1 << 23])
 FAMILY, FIXED = QuantizedGaussian(-9, 9), QuantizedGaussian(-9, 9, 0.0, 3.0)
@@ -143,7 +144,7 @@ class Lists(Misuse):
     def test_text_is_no_number(self) -> None:
         """Texts and bytes are refused as numbers and as lists of numbers."""
         for call in (
-            lambda: QuantizedGaussian(-50, 50, "0", "1"), lambda: QuantizedGaussian(-50, 50, 0.0, b"1"), lambda: QuantizedLaplace(0, 9, "1", 2.0),
+            lambda: QuantizedGaussian(-50, 50, "0", "1"), lambda: QuantizedGaussian(-50, 50, 0.0, b"1"), *(lambda kind=kind: kind(0, 9, "1", 2.0) for kind in KINDS.values()),
             lambda: QuantizedCauchy(0, 9, "1", 2.0), lambda: Bernoulli("0.5"), lambda: Binomial(4, "0.5"),
             lambda: AnsCoder().decode(FAMILY, "0", "1"), lambda: AnsCoder().encode_reverse(3, FAMILY, "0", 1.0),
             lambda: AnsCoder().decode(FAMILY, ["0"], [1.0]), lambda: AnsCoder().decode(Bernoulli(), "0.5"),
@@ -321,7 +322,7 @@ class Places(Misuse):
             ),
             (lambda: AnsCoder().decode(FAMILY, 0.0, -1.0), "^expected a std .*, got -1.0$"),
             (lambda: QuantizedGaussian(0, 9, std=-1.0), "^expected a std .*, got -1.0$"),
-            (lambda: QuantizedLaplace(0, 9, math.inf), "^expected a mean .*, got inf$"),
+            *((lambda kind=kind: kind(0, 9, math.inf), "^expected a mean .*, got inf$") for kind in KINDS.values()),
             (lambda: Bernoulli(1.5), "^expected a probability between 0 and 1, got 1.5$"),
             (
                 lambda: Categorical([0.5, -0.5]),
@@ -386,7 +387,7 @@ class Ranges(Misuse):
 
     def test_ranges_past_63_bits(self) -> None:
         """A range past 63 bits is refused, and the ends of 63 bits are coded."""
-        kinds: tuple[Any, ...] = (QuantizedGaussian, QuantizedLaplace, QuantizedCauchy)
+        kinds: tuple[Any, ...] = (*KINDS.values(), QuantizedCauchy)
         for least, greatest in ((1 << 63, (1 << 63) + 10), ((1 << 63) - 4, 1 << 63), (-(1 << 63) - 1, -(1 << 63) + 4)):
             for kind in kinds:
                 self.refused(

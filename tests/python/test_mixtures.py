@@ -12,15 +12,11 @@ import definitions_of_models as models
 from constriction import errors
 from constriction.stream.chain import ChainCoder
 
-from constriction.stream.model import (
-    QuantizedGaussian, QuantizedLaplace, QuantizedLogistic, QuantizedMixture, Uniform,
-)  # fmt: skip
+from constriction.stream.model import QuantizedGaussian, QuantizedLogistic, QuantizedMixture, Uniform
 from constriction.stream.queue import RangeDecoder, RangeEncoder
 from constriction.stream.stack import AnsCoder
+from classes_of_families import KINDS
 
-FAMILIES: Any = {
-    models.GAUSSIAN: QuantizedGaussian, models.LAPLACE: QuantizedLaplace, models.LOGISTIC: QuantizedLogistic,
-}  # fmt: skip
 LEAST, GREATEST = -50, 50
 SYMBOLS = [-31, -12, 8, 27, 50, -50]
 WEIGHTS = [[0.25, 0.5, 0.25], [0.0, 0.0, 1.0], [0.1, 0.2, 0.7], [2e-10, 1.0, 0.5], [0.9, 0.05, 0.05], [0.3, 0.3, 0.3]]
@@ -44,7 +40,7 @@ def tables(family: str) -> list[list[int]]:
 
 
 def mixture(family: str = models.LOGISTIC) -> QuantizedMixture:
-    return QuantizedMixture(FAMILIES[family](LEAST, GREATEST))
+    return QuantizedMixture(KINDS[family](LEAST, GREATEST))
 
 
 class Words(unittest.TestCase):
@@ -77,7 +73,7 @@ class Words(unittest.TestCase):
 
     def test_one_component_is_that_component(self) -> None:
         """A mixture of one component has the words of that component."""
-        for kind in FAMILIES.values():
+        for kind in KINDS.values():
             alone, model = AnsCoder(), AnsCoder()
             means, scales = [it[0] for it in MEANS], [it[0] for it in SCALES]
             alone.encode_reverse(SYMBOLS, kind(LEAST, GREATEST), means, scales)

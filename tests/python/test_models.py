@@ -16,16 +16,14 @@ from constriction import errors
 from constriction.stream.chain import ChainCoder
 
 from constriction.stream.model import (
-    Bernoulli, Binomial, Categorical, CustomModel, Model, QuantizedCauchy, QuantizedGaussian, QuantizedLaplace,
+    Bernoulli, Binomial, Categorical, CustomModel, Model, QuantizedCauchy, QuantizedGaussian,
     QuantizedLogistic, QuantizedMixture,
     Uniform, WeightTable,
 )  # fmt: skip
 from constriction.stream.queue import RangeDecoder, RangeEncoder
 from constriction.stream.stack import AnsCoder
+from classes_of_families import KINDS, SCALES
 
-FAMILIES: Any = {
-    models.GAUSSIAN: QuantizedGaussian, models.LAPLACE: QuantizedLaplace, models.LOGISTIC: QuantizedLogistic,
-}  # fmt: skip
 UNIT = 2.0**-16
 MESSAGE = [-31, -12, 8, 27, 40, 33, 14, -7, -50]
 MEANS = [-28.5, -15.75, 6.0, 29.25, 38.0, 35.5, 11.0, -4.5, -47.0]
@@ -33,9 +31,9 @@ STDS = [4.0, 4.0, 2.5, 2.5, 0.75, 6.0, 3.25, 3.25, 12.0]
 #: The words of MESSAGE over -50 .. 50 under these means and deviations, by the definitions: of the stack coder, of
 #: the range coder.
 PINNED = {
-    models.GAUSSIAN: ([4030485604, 122806], [1268923203, 0]),
-    models.LAPLACE: ([4215675605, 219727], [1249158367, 4112299828]),
-    models.LOGISTIC: ([2354376886, 271638], [1554933605, 4204548397]),
+    "gaussian": ([4030485604, 122806], [1268923203, 0]),
+    "laplace": ([4215675605, 219727], [1249158367, 4112299828]),
+    "logistic": ([2354376886, 271638], [1554933605, 4204548397]),
 }
 
 
@@ -77,7 +75,7 @@ class Weights(unittest.TestCase):
             Uniform(7),
             Uniform(1 << 16), QuantizedGaussian(-60, 60, 4.5, 31.0), QuantizedGaussian(0, 0, 1.0, 1.0),
             QuantizedGaussian(-1000, 1000, 1e9, 1e-9), QuantizedGaussian(5, 70, -3.0, 6e4),
-            QuantizedLaplace(-9, 9, 0.5, 2.0),
+            *(kind(-9, 9, 0.5, 2.0) for kind in KINDS.values()),
             QuantizedLogistic(-100000, 100000, 5.0, 40.0), QuantizedCauchy(-9, 9, 0.5, 2.0), Binomial(10, 0.3),
             CustomModel(lambda x: 1 / (1 + math.exp(-x)), None, -30, 30), Categorical([1e308] * 10),
             Categorical([5e-324] * 3),
@@ -133,7 +131,7 @@ class Weights(unittest.TestCase):
             lambda: Uniform(0),
             lambda: Uniform((1 << 24) + 1), lambda: QuantizedGaussian(5, 4, 0.0, 1.0),
             lambda: AnsCoder().decode(Uniform(), [2.5]),
-            lambda: Categorical(array("d", [1.0]) * ((1 << 24) + 1)), lambda: QuantizedLaplace(0, 1 << 24, 0.0, 1.0),
+            lambda: Categorical(array("d", [1.0]) * ((1 << 24) + 1)), *(lambda kind=kind: kind(0, 1 << 24, 0.0, 1.0) for kind in KINDS.values()),
             lambda: AnsCoder().encode_reverse([1], Bernoulli(), [0.5, 0.5]),
             lambda: AnsCoder().decode(Bernoulli(), 3),
             lambda: AnsCoder().encode_reverse([1], Categorical(), [[0.5, -0.5]]),
@@ -155,10 +153,10 @@ class Weights(unittest.TestCase):
 
 
 class Families(unittest.TestCase):
-    """``QuantizedGaussian``, ``QuantizedLaplace``, ``QuantizedLogistic``."""
+    """Models of the families of distributions."""
 
     def agrees(self, family: str, least: int, greatest: int, mean: float, std: float) -> None:
-        found = read(FAMILIES[family](least, greatest, mean, std))
+        found = read(KINDS[family](least, greatest, mean, std))
         wanted = models.table_of(family, mean, std, least, greatest)
         self.assertEqual(found, wanted, (family, least, greatest, mean, std))
         self.assertEqual(sum(found), 1 << 24)
@@ -167,7 +165,7 @@ class Families(unittest.TestCase):
     def test_tables(self) -> None:
         """Random parameters have the tables of the definitions."""
         dice = random.Random(3)
-        for family in FAMILIES:
+        for family in KINDS:
             for least, greatest in ((-50, 50), (0, 1), (7, 7), (-1000, 200)):
                 for _ in range(8):
                     mean, std = dice.uniform(least - 20, greatest + 20), math.exp(dice.uniform(-12, 6))
@@ -186,7 +184,7 @@ class Families(unittest.TestCase):
             UNIT / 2,
             UNIT / 3,
         ]
-        for family in FAMILIES:
+        for family in KINDS:
             for std in [*stds, 5e-324]:
                 for mean in (
                     0.0,
@@ -206,7 +204,7 @@ class Families(unittest.TestCase):
 
     def test_scales_past_the_limit(self) -> None:
         """Scales past the limit are refused in all calls, and the error names the limit."""
-        for kind, name in ((QuantizedGaussian, "std"), (QuantizedLaplace, "scale"), (QuantizedLogistic, "scale")):
+        for kind, name in zip(KINDS.values(), SCALES.values()):
             for wide in (65536.0, 65536, 200000.0, 1e30, 1e308):
                 text, family, mixture = (
                     f"^expected a {name} below 65536, got ",
@@ -225,7 +223,7 @@ class Families(unittest.TestCase):
 
     def test_ranges(self) -> None:
         """Ranges at the ends of 32 bits, past them, and wide ones have the tables of the definitions."""
-        for family in FAMILIES:
+        for family in KINDS:
             for least in (-(1 << 31), (1 << 31) - 10, (1 << 31) - 9, -(1 << 31) - 1, 10**12, -(10**15)):
                 for mean in (least + 4.25, least + 3.5, least - 1000.0, 0.0):
                     self.agrees(family, least, least + 9, mean, 1.5)
@@ -242,7 +240,7 @@ class Families(unittest.TestCase):
     def test_pinned_words(self) -> None:
         """A list has pinned words, from lists, tuples and arrays."""
         for family, (ans, queue) in PINNED.items():
-            rows, model = tables(family, MEANS, STDS, -50, 50), FAMILIES[family](-50, 50)
+            rows, model = tables(family, MEANS, STDS, -50, 50), KINDS[family](-50, 50)
             places = [symbol + 50 for symbol in MESSAGE]
             self.assertEqual(by.ans_words(rows, places), ans)
             self.assertEqual(by.range_words(rows, places), queue)
@@ -253,7 +251,7 @@ class Families(unittest.TestCase):
     def test_words_of_random_lists(self) -> None:
         """Random lists have the words of the definitions, with all three coders."""
         dice = random.Random(5)
-        for family, kind in FAMILIES.items():
+        for family, kind in KINDS.items():
             for least, greatest in ((-20, 20), (3, 4), (-5, -5), (0, 300)):
                 means = [dice.uniform(least - 9, greatest + 9) for _ in range(60)]
                 stds = [math.exp(dice.uniform(-11, 4)) for _ in means]
@@ -277,7 +275,7 @@ class Families(unittest.TestCase):
         means = array("d", (dice.uniform(-30, 30) for _ in range(count)))
         stds = array("d", (dice.uniform(0.1, 20) for _ in range(count)))
         symbols = [max(-40, min(40, round(dice.gauss(mean, std)))) for mean, std in zip(means, stds)]
-        for kind in FAMILIES.values():
+        for kind in KINDS.values():
             model, ans, encoder = kind(-40, 40), AnsCoder(), RangeEncoder()
             ans.encode_reverse(symbols, model, means, stds)
             encoder.encode(symbols, model, means, stds)
@@ -299,7 +297,7 @@ class Families(unittest.TestCase):
 
     def test_own_parameters(self) -> None:
         """A model's own mean or deviation, and one for each symbol, give the same words."""
-        for kind in FAMILIES.values():
+        for kind in KINDS.values():
             name = kind._names[1]
             for coder in ("ans", "range"):
                 wanted = words_of(coder, MESSAGE, kind(-50, 50), [1.25] * 9, [3.5] * 9)
@@ -364,7 +362,7 @@ class Families(unittest.TestCase):
         """Invalid means, deviations and scales are refused everywhere."""
         wrong = [(math.nan, 1.0), (math.inf, 1.0), (-math.inf, 1.0)]
         wrong += [(0.0, it) for it in (0.0, -0.0, -1.0, -5e-324, math.nan, math.inf, -math.inf)]
-        for kind in FAMILIES.values():
+        for kind in KINDS.values():
             for least, greatest in ((0, 9), (4, 4), (10**12, 10**12 + 9)):
                 for mean, std in wrong:
                     family = kind(least, greatest)

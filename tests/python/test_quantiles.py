@@ -15,10 +15,11 @@ from constriction import errors
 from constriction.stream.chain import ChainCoder
 
 from constriction.stream.model import (
-    Binomial, Categorical, Model, QuantizedCauchy, QuantizedGaussian, QuantizedLaplace, QuantizedLogistic, WeightTable,
+    Binomial, Categorical, Model, QuantizedCauchy, QuantizedGaussian, WeightTable,
 )  # fmt: skip
 from constriction.stream.queue import RangeDecoder, RangeEncoder
 from constriction.stream.stack import AnsCoder
+from classes_of_families import KINDS
 
 
 class Quantiles(unittest.TestCase):
@@ -29,7 +30,7 @@ class Quantiles(unittest.TestCase):
         dice = random.Random(13)
         words = array("I", (dice.randrange(1, 1 << 31) for _ in range(500)))
         families: list[Model] = [
-            QuantizedGaussian(-50, 50), QuantizedLaplace(-5, 50), QuantizedLogistic(-500, 50), QuantizedCauchy(0, 9),
+            *(kind(least, 50) for kind in KINDS.values() for least in (-50, -5, -500)), QuantizedCauchy(0, 9),
             QuantizedGaussian(7, 7), Binomial(12), QuantizedGaussian(-9, 9, 0.5),
         ]  # fmt: skip
         for family in families:

@@ -22,7 +22,7 @@ from constriction import _library, _words, errors
 from constriction.stream.chain import ChainCoder
 
 from constriction.stream.model import (
-    Bernoulli, Binomial, Categorical, CustomModel, QuantizedCauchy, QuantizedGaussian, QuantizedLaplace, QuantizedLogistic, Uniform, WeightTable,
+    Bernoulli, Binomial, Categorical, CustomModel, QuantizedCauchy, QuantizedGaussian, QuantizedLogistic, Uniform, WeightTable,
 )  # fmt: skip
 from constriction.stream.queue import RangeDecoder, RangeEncoder
 from constriction.stream.stack import AnsCoder
@@ -34,6 +34,7 @@ from constriction.symbol import (
     QueueEncoder,
     StackCoder,
 )
+from classes_of_families import KINDS, SCALES
 
 PACKAGE = str(Path(_library.__file__).parents[1])
 HALVES = WeightTable([8388608, 8388608])
@@ -131,7 +132,7 @@ class Copies(unittest.TestCase):
             for model, given in (
                 (Categorical([0.1, 0.6, 0.3]), ()), (WeightTable(array("I", [5, 1 << 23, (1 << 23) - 5])), ()), (Uniform(3), ()),
                 (QuantizedGaussian(0, 2, 1.0, 1.0), ()), (QuantizedGaussian(0, 2), ([1.0] * 3, [2.0] * 3)), (Categorical(), ([[1, 2, 3]] * 3,)),
-                (Bernoulli(0.5), ()), (QuantizedLogistic(0, 2, 1.0), ([2.0] * 3,)), (QuantizedLaplace(0, 1, 0.5, 1.0), ()),
+                (Bernoulli(0.5), ()), (QuantizedLogistic(0, 2, 1.0), ([2.0] * 3,)), *((kind(0, 1, 0.5, 1.0), ()) for kind in KINDS.values()),
             ):  # fmt: skip
                 symbols, coder = [1, 0, 1], AnsCoder()
                 coder.encode_reverse(symbols, model, *given)
@@ -207,8 +208,8 @@ class Equal(unittest.TestCase):
         def made() -> list[Any]:
             """Returns new models."""
             return [
-                QuantizedGaussian(-9, 9), QuantizedGaussian(-9, 9, 0.5), QuantizedGaussian(-9, 9, 0.5, 2.0), QuantizedGaussian(-9, 9, std=2.0),
-                QuantizedLaplace(-9, 9, 0.5, 2.0), QuantizedLogistic(-9, 9), Uniform(7), Uniform(), Uniform(8), Bernoulli(0.25), Bernoulli(),
+                QuantizedGaussian(-9, 9), QuantizedGaussian(-9, 9, 0.5), QuantizedGaussian(-9, 9, std=2.0),
+                *(kind(-9, 9, 0.5, 2.0) for kind in KINDS.values()), QuantizedLogistic(-9, 9), Uniform(7), Uniform(), Uniform(8), Bernoulli(0.25), Bernoulli(),
                 WeightTable([1, (1 << 24) - 1]), WeightTable(), Categorical([1, 3]), Categorical(), WeightTable([1 << 20] * 16), Binomial(5, 0.5),
                 QuantizedCauchy(0, 9, 1.0), CustomModel(abs, None, 0, 9),
             ]  # fmt: skip
@@ -221,8 +222,8 @@ class Equal(unittest.TestCase):
                 AnsCoder([5]).decode(twin, 3), AnsCoder([5]).decode(twin)
                 self.assertEqual(model, twin)  # Tables that were made in between make no difference.
         self.assertEqual([repr(it) for it in models], [
-            "QuantizedGaussian(-9, 9)", "QuantizedGaussian(-9, 9, mean=0.5)", "QuantizedGaussian(-9, 9, mean=0.5, std=2.0)",
-            "QuantizedGaussian(-9, 9, std=2.0)", "QuantizedLaplace(-9, 9, mean=0.5, scale=2.0)", "QuantizedLogistic(-9, 9)", "Uniform(7)", "Uniform()",
+            "QuantizedGaussian(-9, 9)", "QuantizedGaussian(-9, 9, mean=0.5)", "QuantizedGaussian(-9, 9, std=2.0)",
+            *(f"{kind.__name__}(-9, 9, mean=0.5, {SCALES[name]}=2.0)" for name, kind in KINDS.items()), "QuantizedLogistic(-9, 9)", "Uniform(7)", "Uniform()",
             "Uniform(8)", "Bernoulli(0.25)", "Bernoulli()", "WeightTable([1, 16777215])", "WeightTable()", "Categorical([4194304, 12582912])",
             "Categorical()", "WeightTable(<16 weights>)", "Binomial(n=5, p=0.5)", "QuantizedCauchy(0, 9, loc=1.0)", "CustomModel(abs, 0, 9)",
         ])  # fmt: skip

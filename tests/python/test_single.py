@@ -18,10 +18,11 @@ from constriction import _single, errors
 from constriction.stream.chain import ChainCoder
 
 from constriction.stream.model import (
-    Bernoulli, Categorical, CustomModel, Model, QuantizedCauchy, QuantizedGaussian, QuantizedLaplace, QuantizedLogistic, Uniform, WeightTable,
+    Bernoulli, Categorical, CustomModel, Model, QuantizedCauchy, QuantizedGaussian, Uniform, WeightTable,
 )  # fmt: skip
 from constriction.stream.queue import RangeEncoder
 from constriction.stream.stack import AnsCoder
+from classes_of_families import KINDS
 
 Step = tuple[int, Model, tuple[Any, ...]]
 KEPT: list[Model] = [
@@ -37,7 +38,7 @@ def some_steps(dice: random.Random, count: int) -> list[Step]:
     for _ in range(count):
         mean, std = dice.uniform(-15, 15), math.exp(dice.uniform(-12, 11))
         weights = by.random_weights(dice, dice.choice((1, 2, 16, 70)))
-        kind: Any = dice.choice((QuantizedGaussian, QuantizedLaplace, QuantizedLogistic))
+        kind: Any = dice.choice([*KINDS.values()])
         model, given = dice.choice((
             (dice.choice(KEPT), ()), (kind(-9, 9), (mean, std)), (kind(-9, 9, mean), (std,)), (kind(-9, 9, mean, std), ()),
             (WeightTable(weights), ()), (WeightTable(), (weights,)), (Bernoulli(), (dice.random(),)), (QuantizedCauchy(-9, 9), (mean, std)),
@@ -127,11 +128,7 @@ class Single(unittest.TestCase):
 
     def test_it_is_the_quick_way(self) -> None:
         """Plain calls of one symbol never use the code for lists."""
-        table, family, fixed = (
-            WeightTable([3, 2, 16777211]),
-            QuantizedGaussian(-9, 9),
-            QuantizedLaplace(-9, 9, 0.5, 2.0),
-        )
+        table, family = WeightTable([3, 2, 16777211]), QuantizedGaussian(-9, 9)
         slow = mock.patch("constriction._coder.Coder._changed", side_effect=AssertionError("the way of lists"))
         coder, encoder, chain = AnsCoder(), RangeEncoder(), ChainCoder(array("I", range(1, 50)))
         decoder = encoder.get_decoder()
@@ -140,7 +137,7 @@ class Single(unittest.TestCase):
                 (table, (), 1),
                 (family, (0.5, 2.0), 3),
                 (family, (1, 2), 3),
-                (fixed, (), 4),
+                *((kind(-9, 9, 0.5, 2.0), (), 4) for kind in KINDS.values()),
                 (Bernoulli(), (0.5,), 1),
             ):
                 for _ in range(5):

@@ -16,16 +16,14 @@ from constriction import errors
 from constriction.stream.chain import ChainCoder, SmallChainCoder
 
 from constriction.stream.model import (
-    Bernoulli, Binomial, Categorical, CustomModel, Model, QuantizedCauchy, QuantizedGaussian, QuantizedLaplace, QuantizedLogistic, QuantizedMixture,
+    Bernoulli, Binomial, Categorical, CustomModel, Model, QuantizedCauchy, QuantizedGaussian, QuantizedLogistic, QuantizedMixture,
     Uniform, WeightTable,
 )  # fmt: skip
 from constriction.stream.queue import RangeDecoder, RangeEncoder, SmallRangeDecoder, SmallRangeEncoder
 from constriction.stream.stack import AnsCoder, SmallAnsCoder
+from classes_of_families import KINDS
 
 TOTAL = 1 << 12
-FAMILIES: list[tuple[Any, str]] = [
-    (QuantizedGaussian, models.GAUSSIAN), (QuantizedLaplace, models.LAPLACE), (QuantizedLogistic, models.LOGISTIC),
-]  # fmt: skip
 #: A model with its parameters, and the weights of its symbols by the definitions.
 Case = tuple[Model, tuple[Any, ...], list[int]]
 
@@ -47,7 +45,7 @@ def some_case(dice: random.Random) -> Case:
         dice.random(),
     )
     counts = [dice.choice((0, 1, 5, dice.randrange(1 << 40))) for _ in range(dice.choice((1, 2, 9, 300)))] + [3]
-    kind, family = dice.choice(FAMILIES)
+    family, kind = dice.choice([*KINDS.items()])
     shares = [dice.uniform(0.1, 0.3) for _ in range(3)]
     means, stds = [dice.uniform(-15, 15) for _ in shares], [dice.uniform(0.1, 9) for _ in shares]
     places = [units(*it) for it in zip(means, stds)]
@@ -208,8 +206,9 @@ class Small(unittest.TestCase):
                     encode(symbols, Uniform(5001))
             with self.assertRaisesRegex(errors.WrongWeightsError, r"below 2\^16, got 70000"):
                 encode([0], WeightTable(), [[70000, 1]])
-            with self.assertRaisesRegex(ValueError, r"1 to 2\^12 symbols, got 5001"):
-                encode([0], QuantizedMixture(QuantizedLaplace(0, 5000)), [[1.0]], [[0.0]], [[1.0]])
+            for kind in KINDS.values():
+                with self.assertRaisesRegex(ValueError, r"1 to 2\^12 symbols, got 5001"):
+                    encode([0], QuantizedMixture(kind(0, 5000)), [[1.0]], [[0.0]], [[1.0]])
             with self.assertRaises(errors.ImpossibleSymbolError):
                 encode([1, 5], Uniform(5))
             with self.assertRaisesRegex(errors.WrongWeightsError, "sum of 16777216, got a sum of 4096"):

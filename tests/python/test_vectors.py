@@ -13,13 +13,13 @@ from ctypes import CDLL, Structure, byref, c_int32, c_size_t, c_uint16, c_uint32
 from pathlib import Path
 from typing import Any
 
+import definitions_of_models as models
 from constriction import _library
 from constriction._sizes import LARGE, SMALL
 from constriction.stream.model import Categorical, Uniform
 
 TOP = Path(__file__).resolve().parents[2]
 PROGRAM = Path(os.environ.get("CONSTRICTION_PROGRAM", TOP / "crates/constriction_cli/out/constriction_cli"))
-FAMILIES = ["gaussian", "laplace", "logistic"]
 LIBRARY = CDLL(str(_library.PATH))
 
 
@@ -90,7 +90,7 @@ class Given:
             count = len(case["locations"])
             locations, scales = (array(code, case[key]) for code, key in (("q", "locations"), ("I", "scales")))
             self.kept = locations, scales
-            family, least, greatest = FAMILIES.index(case["family"][0]), *case["range"]
+            family, least, greatest = models.FAMILIES.index(case["family"][0]), *case["range"]
             given = [c_uint32(family), c_int32(least), c_int32(greatest)]
             self.model = [*given, address(locations), count, address(scales), count]
         else:
@@ -106,7 +106,7 @@ class Given:
             return
         self.first, self.kind = case["range"][0], "_mixture"
         lists = [array(code, case[key]) for code, key in (("I", "weights"), ("q", "locations"), ("I", "scales"))]
-        family, least, greatest = FAMILIES.index(case["family"][0]), *case["range"]
+        family, least, greatest = models.FAMILIES.index(case["family"][0]), *case["range"]
         self.kept = tuple(lists)
         self.model = [c_uint32(family), c_int32(least), c_int32(greatest), width]
         self.model += [it for numbers in lists for it in (address(numbers), len(numbers))]

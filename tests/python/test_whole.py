@@ -24,12 +24,13 @@ from constriction import _buffers, _coding, errors
 from constriction.stream.chain import ChainCoder, SmallChainCoder
 
 from constriction.stream.model import (
-    Bernoulli, Categorical, CustomModel, Model, QuantizedGaussian, QuantizedLaplace, QuantizedLogistic, QuantizedMixture, Uniform, WeightTable,
+    Bernoulli, Categorical, CustomModel, Model, QuantizedGaussian, QuantizedMixture, Uniform, WeightTable,
 )  # fmt: skip
 from constriction.stream.model import _finite, _table
 from constriction.stream.queue import RangeEncoder, SmallRangeEncoder
 from constriction.stream.stack import AnsCoder, SmallAnsCoder
 from constriction.symbol import EncoderHuffmanTree, ExpGolomb, QueueDecoder, QueueEncoder, StackCoder
+from classes_of_families import KINDS
 
 #: The number of calls that are refused, interrupted, or made from inside another call.
 CALLS = 20_400
@@ -139,7 +140,7 @@ class Case:
 
     #: The names of the calls.
     encode, decode = "encode_reverse", "decode"
-    kinds: tuple[Any, ...] = (QuantizedGaussian, QuantizedLaplace, QuantizedLogistic)
+    kinds: tuple[Any, ...] = tuple(KINDS.values())
     #: The forms of lists of symbols, and those of lists of parameters.
     forms: tuple[Callable[[Any], Any], ...] = (list, list, tuple, iter, lambda it: array("q", it), narrow)
     forms_of_parameters: tuple[Callable[[Any], Any], ...] = (list, list, tuple, iter)

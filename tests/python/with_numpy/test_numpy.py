@@ -11,6 +11,7 @@ import subprocess
 import sys
 import unittest
 from array import array
+from pathlib import Path
 from typing import Any
 from unittest import mock
 
@@ -20,7 +21,7 @@ from constriction.store import Store
 from constriction.stream.chain import ChainCoder
 
 from constriction.stream.model import (
-    Bernoulli, Categorical, QuantizedGaussian, QuantizedLaplace, QuantizedLogistic, Uniform, WeightTable,
+    Bernoulli, Categorical, QuantizedGaussian, Uniform, WeightTable,
 )  # fmt: skip
 from constriction.stream.queue import RangeDecoder, RangeEncoder
 from constriction.stream.stack import AnsCoder
@@ -38,6 +39,10 @@ try:
     import numpy
 except ImportError:
     raise unittest.SkipTest("numpy is not there") from None
+
+sys.path.insert(0, str(Path(__file__).resolve().parents[1]))
+
+from classes_of_families import KINDS  # noqa: E402
 
 TEN, WEIGHTS, WORDS = [0, 1, 2, 0, 1, 2, 0, 0, 0, 1], [1, 2, 16777213], [0, 16777218, 2307, 16777218, 0, 64]
 WHOLE_KINDS = ("int64", "uint64", "int32", "uint8", ">i8", ">i4", "<i2", ">u2", "int8")
@@ -156,7 +161,7 @@ print(calls > 0, found, type(coder.decode(family, [0.5] * 60, [2.0] * 60)).__nam
         dice = numpy.random.default_rng(3)
         means, stds = dice.uniform(-30, 30, 150_000), dice.uniform(0.1, 20, 150_000)
         symbols = numpy.clip(numpy.rint(dice.normal(means, stds)), -40, 40).astype("int32")
-        for kind in (QuantizedGaussian, QuantizedLaplace, QuantizedLogistic):
+        for kind in KINDS.values():
             family, coder, encoder = kind(-40, 40), AnsCoder(), RangeEncoder()
             coder.encode_reverse(symbols, family, means, stds)
             encoder.encode(symbols, family, means, stds)

@@ -3,11 +3,13 @@
 from __future__ import annotations
 
 import random
+import sys
 import unittest
 from array import array
 from importlib import import_module
 from importlib.util import find_spec
 from itertools import product
+from pathlib import Path
 from typing import Any
 from unittest import mock
 
@@ -17,15 +19,18 @@ try:
 except ImportError:
     raise unittest.SkipTest("numpy is not there") from None
 
+sys.path.insert(0, str(Path(__file__).resolve().parents[1]))
+
 from constriction import errors
 from constriction._sizes import Size
 from constriction.stream.chain import ChainCoder
 
 from constriction.stream.model import (
-    Bernoulli, Binomial, Categorical, CustomModel, Model, QuantizedCauchy, QuantizedGaussian, QuantizedLaplace, QuantizedMixture, Uniform, WeightTable,
+    Bernoulli, Binomial, Categorical, CustomModel, Model, QuantizedCauchy, QuantizedGaussian, QuantizedMixture, Uniform, WeightTable,
 )  # fmt: skip
 from constriction.stream.queue import RangeDecoder, RangeEncoder
 from constriction.stream.stack import AnsCoder
+from classes_of_families import KINDS
 
 
 def orders(table: Any) -> list[Any]:
@@ -67,7 +72,7 @@ class Shapes(unittest.TestCase):
         dice = self.dice
         means, stds, symbols = dice.uniform(-5, 5, shape), dice.uniform(0.5, 5, shape), dice.integers(-9, 10, shape)
         rows, three = dice.random((*shape, 4)) + 0.01, dice.integers(0, 3, shape)
-        mixture = QuantizedMixture(QuantizedLaplace(-9, 9))
+        mixture = QuantizedMixture([*KINDS.values()][len(shape) % len(KINDS)](-9, 9))
         components = [
             dice.random((*shape, 2)) + 0.1,
             dice.uniform(-5, 5, (*shape, 2)),

@@ -25,6 +25,7 @@ import constriction
 import definitions as by
 import definitions_of_models as models
 from constriction import errors
+from classes_of_families import KINDS, SCALES
 
 model, stack, queue, chain = (
     constriction.stream.model, constriction.stream.stack, constriction.stream.queue, constriction.stream.chain,
@@ -37,6 +38,15 @@ def symbols(*given: int) -> Any:
 
 def floats(*given: float) -> Any:
     return np.array(given, dtype=np.float32)
+
+
+def makers(family: str, kind: Any) -> tuple[Any, ...]:
+    """Returns three ways to make a model of a family, and its parameters, from the symbol before."""
+    return (
+        lambda it: (kind(-64, 63, 0.5 * it, 9.5), ()),
+        lambda it: (kind(-64, 63), (0.5 * it, 9.5)),
+        lambda it: (kind(-64, 63, **{SCALES[family]: 9.5}), (np.float32(0.5 * it),)),
+    )
 
 
 class Readings(unittest.TestCase):
@@ -100,11 +110,7 @@ class Readings(unittest.TestCase):
     def test_a_model_from_the_symbols_before(self) -> None:
         """Each change is guessed from the one before, so both sides make a model for each symbol."""
         before = [0, *self.changes[:-1].tolist()]
-        for make in (
-            lambda it: (model.QuantizedLaplace(-64, 63, 0.5 * it, 9.5), ()),
-            lambda it: (model.QuantizedLaplace(-64, 63), (0.5 * it, 9.5)),
-            lambda it: (model.QuantizedLaplace(-64, 63, scale=9.5), (np.float32(0.5 * it),)),
-        ):
+        for make, family in ((it, family) for family, kind in KINDS.items() for it in makers(family, kind)):
             coder, encoder = stack.AnsCoder(), queue.RangeEncoder()
             for change, last in zip(self.changes, before):
                 which, given = make(last)
@@ -112,7 +118,7 @@ class Readings(unittest.TestCase):
             for change, last in list(zip(self.changes, before))[::-1]:
                 which, given = make(last)
                 coder.encode_reverse(change, which, *given)
-            rows = [models.table_of(models.LAPLACE, 0.5 * it, 9.5, -64, 63) for it in before]
+            rows = [models.table_of(family, 0.5 * it, 9.5, -64, 63) for it in before]
             places = [int(it) + 64 for it in self.changes]
             self.assertEqual(encoder.get_compressed().tolist(), by.range_words(rows, places))
             self.assertEqual(coder.get_compressed().tolist(), by.ans_words(rows, places))
@@ -198,12 +204,7 @@ class Readings(unittest.TestCase):
         shares = np.array([[1, 2, 4], [4, 2, 1], [1, 1, 1], [3, 1, 9]], dtype=np.float32)
         cases: list[tuple[Any, tuple[Any, ...]]] = [
             (kind(-7, 7, *own), given)
-            for kind in (
-                model.QuantizedGaussian,
-                model.QuantizedLaplace,
-                model.QuantizedLogistic,
-                model.QuantizedCauchy,
-            )
+            for kind in (*KINDS.values(), model.QuantizedCauchy)
             for own, given in (((), (fifths, fifths)), ((0.75,), (fifths,)), ((0.75, 3.5), ()))
         ]
         cases += [
