@@ -2,7 +2,6 @@
 
 from __future__ import annotations
 
-import glob
 import os
 import re
 
@@ -66,28 +65,6 @@ def prints():
     page.has(f"The codewords {', '.join(codewords[:-1])} and {codewords[-1]}")
 
 
-def paths(text):
-    """Yields the paths of a table's cell: `FOLDER/{A,B}.END` stands for two files."""
-    for path in re.findall(r"`([^`]+)`", text):
-        before, _, rest = path.partition("{") if "{" in path else (path, "", "}")
-        inner, _, after = rest.partition("}")
-        yield from (f"{before}{it}{after}" for it in inner.split(","))
-
-
-def family():
-    """Checks that the files of the steps for a family exist for `Laplace` and name it, and their number."""
-    text = read(MODEL).partition("\n## A family of distributions\n")[2]
-    files = [path for cells in re.findall(r"^\|.*\|(.*)\|$", text, flags=re.M)[2:] for path in paths(cells)]
-    for path in files:
-        found = glob.glob(f"{TOP}/{path.replace('NAME', '[Ll]aplace')}")
-        judge(len(found) == 1, f"{MODEL}: there is no {path}")
-        judge(
-            all("laplace" in f"{it}{read(os.path.relpath(it, TOP))}".lower() for it in found),
-            f"{MODEL}: {path} doesn't name Laplace",
-        )
-    judge(f"change or add {len(files)} files" in text, f"{MODEL}: the steps name {len(files)} files")
-
-
 def model():
     """Checks that code of the guide is in the named files, and that commands of `rt` name functions."""
     for above, language, text in blocks(MODEL):
@@ -105,4 +82,3 @@ def test():
     programs()
     prints()
     model()
-    family()

@@ -50,9 +50,9 @@ class Mixed(NamedTuple):
 class QuantizedMixture(Model):
     """A model of whole numbers with a mixture of distributions of one family.
 
-    ``components`` is a :class:`QuantizedGaussian`, :class:`QuantizedLaplace` or :class:`QuantizedLogistic` without
-    parameters. It is the family and the range. Pass weights, means and scales to the coder's calls, each of shape ``(n,
-    K)``: a row of ``K`` components for each of the ``n`` symbols. For a single symbol pass lists of ``K`` numbers.
+    ``components`` is a model of a family, such as :class:`QuantizedLogistic`, without parameters. It is the family and
+    the range. Pass weights, means and scales to the coder's calls, each of shape ``(n, K)``: a row of ``K`` components
+    for each of the ``n`` symbols. For a single symbol pass lists of ``K`` numbers.
 
     The mixture's distribution function is the weighted mean of the components' distribution functions. The weights of
     each row add up to more than 0 and at most 2. Weights are rounded to multiples of 2^-31, and only their proportions
