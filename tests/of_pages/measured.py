@@ -73,6 +73,24 @@ def program(rows):
             yield " ".join([command.split("`")[1], *(it[end] for it in ends)])
 
 
+def gate(rows):
+    """Yields the lines of .ci/run: of crates, of parts, and of all other parts as one."""
+    text = tables()["gate"][0]
+    date, processors, speed = re.search(r"ran on (\S+) \((\d+) processors at ([\d.]+) GHz\)", text).groups()
+    yield f"gate: {date}, {processors} processors, A processor @ {speed}GHz"
+    one, proofs = int(re.search(r"took (\d+)\s", text.replace("processor seconds", ""))[1]), 0.0
+    for name, share in ((row[at].strip("`"), row[at + 1]) for row in rows[:-1] for at in (0, 2) if row[at]):
+        seconds = one * float(share)
+        if name.startswith("constriction"):
+            proofs += seconds
+            yield f"crate {name}: {seconds}"
+        elif name == "other parts":
+            others = seconds
+        else:
+            yield f"| `{name}` | {seconds / 60} |"
+    yield f"| `rt ci` | {(proofs + others) / 60} |"
+
+
 def sentences(found):
     """Judges what other pages say of tables."""
     names = {"__name__": "table", "__file__": f"{TOP}/bench/table"}
@@ -81,7 +99,7 @@ def sentences(found):
         text, rows = found[name]
         judge(rows, f"{PAGE}: the table '{name}' is empty")
         if rows:
-            shown, wanted = re.findall(pattern, read(page)), said(text)
+            shown, wanted = [" ".join(it.split()) for it in re.findall(pattern, read(page))], said(text)
             judge(shown == [wanted], f"{page} says {shown} of '{name}', not {wanted}")
 
 
@@ -94,6 +112,7 @@ def test():
         "lists from Python": lists_from_python,
         "calls from Python": calls_from_python,
         "program": program,
+        "gate": gate,
     }
     found = tables()
     judge(found.keys() == lines.keys(), f"{PAGE} has the tables {', '.join(found)}")

@@ -53,15 +53,13 @@ def speed(page):
 
 
 def gate():
-    """README has the gate's multiple: the sum of the table of costs and of the number below it."""
-    times = read(PAGE).partition("\n## Cost of the gate\n")[2]
-    *rows, whole = [line.split("|")[1:-1] for line in times.splitlines() if line.startswith("|")][2:]
+    """The sums of the gate's costs, the multiple above the table, and the shares of the first call."""
+    costs = read(PAGE).partition("<!-- table: gate -->\n")[2].partition("<!-- end of table -->")[0]
+    *rows, whole = [line.split("|")[1:-1] for line in costs.splitlines() if line.startswith("|")][2:]
     sums = [round(sum(float(row[column]) for row in rows if row[column].strip())) for column in (1, 3)]
     judge(sums == [int(whole[1]), int(whole[3])], f"{PAGE}: the sums of the gate's parts")
-    said = re.search(r"take about (\d+) times the proof of `constriction_words`", times.replace("\n", " "))
-    others = re.search(r"have an estimated share of (\d+)\.", times.replace("\n", " "))
-    judge(said and others and int(said[1]) == sum(sums) + int(others[1]), f"{PAGE}: the gate's multiple")
-    judge(said and f"about {said[1]} times" in read("README.md"), "README.md: the gate's multiple")
+    said = re.search(r"take about (\d+) times the proof of `constriction_words`", costs.replace("\n", " "))
+    judge(said and int(said[1]) == sum(sums), f"{PAGE}: the gate's multiple")
     shares(rows)
 
 
