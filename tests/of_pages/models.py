@@ -134,7 +134,7 @@ def rows_of_counts(page):
 
 
 def units(page, *texts):
-    """Finds means of 3.5 and -20 and deviations of 2.25 and 0.5 in the units of C and Rattle."""
+    """Finds means of 3.5 and -20 and deviations of 2.25 and 0.5 in the units of C."""
     means, deviations = (series(map(models.location_of, it)) for it in ((3.5, -20.0), (2.25, 0.5)))
     for text in texts:
         page.has(text.format(means=means, deviations=deviations))
@@ -151,8 +151,9 @@ def test():
     histograms(page)
     rows_of_counts(page)
     arrays = "{{{means}}};", "{{{deviations}}};"
-    units(page, "means[] = " + arrays[0], "deviations[] = " + arrays[1], f"symbols[] = {{{{{7 + 100}, {-20 + 100}}}}};")
-    units(Page("docs/C_AND_PYTHON.md"), "means[] = " + arrays[0], "deviations[] = " + arrays[1])
+    pairs = ((7, 3.5, 2.25), (-20, -20.0, 0.5))
+    listed = (f"({symbol}, {models.location_of(mean)}, {models.scale_of(std)})" for symbol, mean, std in pairs)
+    page.has(f"[{', '.join(listed)}]")
     units(Page("docs/EXAMPLES.md"), "means[] = " + arrays[0], "stds[] = " + arrays[1])
     third = models.weights_of([1.0, 1.0, 1.0])
     quick = models.quick_weights([1.0, 1.0, 1.0])
