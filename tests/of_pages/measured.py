@@ -33,6 +33,13 @@ def speed(rows):
     return (" ".join(row) for row in rows)
 
 
+def bits(rows):
+    """Yields the lines of bench/compare on bits per symbol."""
+    for case, written, information, overhead in rows:
+        size, kind = case.split()
+        yield f"# ans_encode_{size}_{kind}: {written} bits per symbol, {information} under the model, overhead {overhead}"
+
+
 def gaussians(rows):
     """Yields the lines of bench/models from C."""
     for symbols, encode, inlined, _, called, _, decode, other, _ in rows:
@@ -107,6 +114,7 @@ def test():
     """Judges each table, and the sentences on tables of other pages."""
     lines = {
         "speed": speed,
+        "bits": bits,
         "Gaussians": gaussians,
         "Gaussians from Python": gaussians_from_python,
         "lists from Python": lists_from_python,
