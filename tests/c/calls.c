@@ -1,10 +1,10 @@
-/* Every C function at one size, which -DBITS=32 or -DBITS=16 chooses: buffers of every length, every refusal, memory that is refused,
-   and random lists there and back. */
+/* Tests every C function at one size, which -DBITS=32 or -DBITS=16 chooses: buffers of every length, every error, refused requests
+   for memory, and random lists that are encoded and decoded. */
 #include "world.h"
 
 enum { KINDS = 7, WEIGHTS = 257, MOST = 1048576 };
 
-/* What a call is given. */
+/* The arguments of the calls. */
 static struct {
     size_t count;
     word weights[WEIGHTS], rows[COUNT * KINDS], lefts[COUNT], ps[COUNT], row_lefts[COUNT], row_ps[COUNT], numbers[COUNT];
@@ -14,7 +14,7 @@ static struct {
     size_t lengths[CHUNKS], chunks, position_count, lower_count, range_count, chunk;
 } in;
 
-/* Weights that add up; each is 1 at least, but where a 0 is wanted at the front. */
+/* Fills `weights` with weights of the right sum. Each is at least 1, except for a 0 at the front on request. */
 static void draw_weights(word *weights, int with_zero) {
     state left = WHOLE - KINDS + with_zero;
     for (size_t i = 0; i < KINDS; i++) {
@@ -45,7 +45,7 @@ static void draw(size_t count) {
         in.numbers[i] = (word)(random_below(4) ? random_below(100) : ~random_below(3));
     }
     in.weight_count = KINDS, in.row_count = count * KINDS, in.p_count = count;
-    /* Chunks, of which some are empty. */
+    /* Fills in chunks, some of them empty. */
     size_t left = count;
     in.chunks = in.position_count = in.lower_count = in.range_count = CHUNKS;
     for (size_t i = 0; i < CHUNKS; i++) {
@@ -150,7 +150,7 @@ static uint32_t golomb_stack(struct world *w) { return C(exp_golomb_encode_stack
 static uint32_t golomb_from_queue(struct world *w) { return C(exp_golomb_decode_queue)(w->words, w->len, w->numbers, in.count); }
 static uint32_t golomb_from_stack(struct world *w) { return C(exp_golomb_decode_stack)(w->words, w->len, w->numbers, in.count); }
 
-/* From a bit on, which is the world's other_len. After an encode len is the number of words up to the bit. */
+/* Starts at a given bit, which is the world's other_len. After an encode, len is the number of words up to that bit. */
 static uint32_t up_to_bit(struct world *w, uint32_t result) {
     if (!result) w->len = (w->other_len + BITS - 1) / BITS;
     return result;
@@ -160,11 +160,11 @@ static uint32_t golomb_at(struct world *w) { return up_to_bit(w, C(exp_golomb_en
 static uint32_t huffman_from_at(struct world *w) { return C(huffman_decode_at)(TREE, w->words, w->len, &w->other_len, TAKEN); }
 static uint32_t golomb_from_at(struct world *w) { return C(exp_golomb_decode_at)(w->words, w->len, &w->other_len, w->numbers, in.count); }
 
-/* ==== What holds of the calls of a coder ==== */
+/* ==== Properties of a coder's calls ==== */
 
 static int same_symbols(const struct world *w) { return !memcmp(w->symbols, in.symbols, in.count * sizeof(size_t)); }
 
-/* What each call over models refuses. */
+/* Checks the errors of each call with models. */
 static void refuses_models(const char *about, call *fixed, call *each, const struct world *start) {
     struct world w = *start;
     in.weights[0]++;
@@ -212,7 +212,7 @@ static void refuses_symbols(const char *about, call *fixed, call *each, call *pa
     refuses(about, pairs, &w, CONSTRICTION_WRONG_LENGTH);
 }
 
-/* ==== Symbols of 8 and of 16 bits: the calls on lists of them, which come from and go back to those of size_t ==== */
+/* ==== Calls on lists of symbols of 8 and 16 bits, which are converted from and to size_t ==== */
 
 #define NARROW(type, kind, put_ans, take_ans, put_range, take_range, put_chain, take_chain) \
     static const type *kind##_given(void) { \
@@ -251,7 +251,7 @@ NARROW(uint8_t, bytes, C(ans_encode_bytes_reverse), C(ans_decode_bytes), C(range
 NARROW(uint16_t, shorts, C(ans_encode_shorts_reverse), C(ans_decode_shorts), C(range_encode_shorts), C(range_decode_shorts),
        C(chain_encode_shorts_reverse), C(chain_decode_shorts))
 
-/* What a call on narrow symbols shares with that on symbols of size_t, from the same world. */
+/* Compares a call on narrow symbols with the call on symbols of size_t, from the same world. */
 static void narrow_encode(const char *about, call *wide, call *narrow, const struct world *start, int keeps) {
     struct world w = *start;
     same(about, wide, narrow, start);
@@ -277,7 +277,7 @@ static void narrow_decode(const char *about, call *wide, call *narrow, int bits,
     in.weights[0]++;
     refuses_without_memory(about, narrow, &w, CONSTRICTION_WRONG_WEIGHTS);
     in.weights[0]--;
-    /* As many weights as a byte has numbers, and one more. */
+    /* As many weights as a byte has values, and one more. */
     size_t kinds = in.weight_count;
     in.weight_count = 256;
     same(about, wide, narrow, start);
@@ -302,7 +302,7 @@ static void narrow(size_t count) {
         narrow_encode("narrow: ANS, encode", wide[0], narrow[i][0], &start, BEHIND);
         narrow_encode("narrow: range, encode", wide[1], narrow[i][1], &start, BEHIND_HELD);
         for (size_t j = 0; j < 3; j++) narrow_decode("narrow: decode", wide[3 + j], narrow[i][3 + j], i ? 16 : 8, &coded[j]);
-        /* The chain coder encodes what it decoded. */
+        /* The chain coder encodes the symbols that it decoded. */
         struct world w = coded[2];
         done("narrow: chain, decode", chain_decode, &w);
         memcpy(in.symbols, w.symbols, sizeof in.symbols);
@@ -459,7 +459,7 @@ static void range(size_t count) {
     }
 }
 
-/* Each chunk is what stands at its place in the list, and a decoder that goes to its position gives the same. */
+/* Each chunk has the symbols at its place in the list. A decoder at its position returns the same symbols. */
 static void looks_up(const struct world *built, size_t chunk) {
     struct world w = *built;
     size_t begins = 0, count = in.lengths[chunk], again[COUNT];
@@ -469,13 +469,13 @@ static void looks_up(const struct world *built, size_t chunk) {
     done("store: a chunk", store_chunk, &w);
     CHECK("store: a chunk", !memcmp(w.symbols, in.symbols + begins, count * sizeof(size_t)));
     CHECK("store: no symbol behind a chunk", !memcmp(w.symbols + count, built->symbols + count, (COUNT - count) * sizeof(size_t)));
-    /* Of no symbols nothing is read, and words that hold none may stand for no decoder. */
+    /* A decode of no symbols reads nothing. Words that encode no symbol may belong to no decoder. */
     if (!count) return;
     CHECK("store: a position", C(range_seek)(&w.decoder, w.words, w.len, w.positions[chunk], w.lowers[chunk], w.ranges[chunk]) == CONSTRICTION_DONE
           && C(range_decode)(&w.decoder, w.words, w.len, TABLE, again, count) == CONSTRICTION_DONE && !memcmp(again, w.symbols, count * sizeof(size_t)));
 }
 
-/* The words and the index are those of one encoder that takes the chunks in order. */
+/* The words and the index are those of one encoder that encodes the chunks in order. */
 static void as_one_encoder(const struct world *built) {
     struct world w = fresh();
     size_t begins = 0;
@@ -487,7 +487,7 @@ static void as_one_encoder(const struct world *built) {
     CHECK("store: the words", w.len == built->len && !memcmp(w.words, built->words, w.len * sizeof(word)));
 }
 
-/* What a build refuses, and the order of refusals: lengths before weights, and these before symbols. */
+/* Checks the errors of a build and their order: lengths, then weights, then symbols. */
 static void refuses_build(const struct world *start) {
     size_t *const counts[] = {&in.position_count, &in.lower_count, &in.range_count, &in.chunks, &in.lengths[0]};
     struct world w = *start;
@@ -512,7 +512,7 @@ static void refuses_build(const struct world *start) {
     in.symbols[0] = kept;
 }
 
-/* What a look-up refuses. */
+/* Checks the errors of a look-up. */
 static void refuses_chunk(const struct world *built) {
     struct world w = *built;
     in.chunk = 0;
@@ -532,7 +532,7 @@ static void refuses_chunk(const struct world *built) {
     done("store: behind the words are zeros", store_chunk, &w);
 }
 
-/* As many symbols as a store holds, and one more. */
+/* The greatest number of symbols of a store, and one more. */
 static void most_symbols(void) {
     size_t *symbols = calloc(MOST + 1, sizeof *symbols), lengths[2] = {MOST - 1, 1}, positions[2], len = 0, needed = 0, last = 7;
     word *words = malloc((MOST + 2) * sizeof *words), weights[2] = {(word)(WHOLE / 2), (word)(WHOLE / 2)};
@@ -560,7 +560,7 @@ static void store(size_t count) {
     as_one_encoder(&w);
     for (size_t i = 0; i < CHUNKS; i++) looks_up(&w, i);
     for (size_t i = CHUNKS; i > 0; i--) looks_up(&w, i - 1);
-    /* Whatever follows. */
+    /* The symbols come back, whatever words follow. */
     struct world longer = w;
     for (size_t i = w.len; i < ROOM; i++) longer.words[i] = (word)-1;
     longer.len = ROOM;
@@ -568,7 +568,7 @@ static void store(size_t count) {
     if (count) refuses_chunk(&w);
 }
 
-/* A call with a state that holds so many words back asks for so much memory at most, and answers how many words are needed. */
+/* A call whose state has this number of pending words requests at most this much memory, and returns the number of words needed. */
 static void holds(call *run, size_t held, size_t len, size_t needed, unsigned long most) {
     struct world w = fresh();
     w.encoder.lower = (state)-1, w.encoder.range = (state)1 << (8 * sizeof(state) - BITS);
@@ -580,8 +580,8 @@ static void holds(call *run, size_t held, size_t len, size_t needed, unsigned lo
     CHECK("range: many words held, memory", requests <= most);
 }
 
-/* A state from outside may hold any number of words back, also more than have bits that can be counted: room is looked at before memory is
-   asked for. */
+/* A caller's state may have any number of pending words, even more than there are countable bits. The call checks the room before it
+   requests memory. */
 static void great_held(void) {
     call *const exports[] = {range_export, range_followed};
     call *const encodes[] = {range_encode, range_encode_each, range_encode_pairs, range_encode_row_pairs};
@@ -601,7 +601,7 @@ static void great_held(void) {
     }
 }
 
-/* A pointer to a list of no items may be null. */
+/* A pointer to an empty list may be null. */
 static void nulls(void) {
     state head = 0;
     size_t len = 0, other_len = 0, needed = 0;
@@ -674,7 +674,7 @@ static void chain(size_t count) {
         every_length("chain: export of remainders", chain_export_remainders, &w, BEHIND);
         refused_memory("chain: export of remainders, memory", chain_export_remainders, &w);
 
-        /* The two sides change places, so that an encode writes behind what was left over. */
+        /* Swaps the two sides, so that an encode writes after the words that were left. */
         struct world back = w;
         memcpy(back.words, w.other, sizeof back.words), memcpy(back.other, w.words, sizeof back.other);
         back.len = w.other_len, back.other_len = w.len;
@@ -721,7 +721,7 @@ static void chain(size_t count) {
     refuses("chain: bits left over", chain_export, &w, CONSTRICTION_INVALID_DATA);
     refuses("chain: bits left over, binary", chain_export_binary, &w, CONSTRICTION_INVALID_DATA);
 
-    /* Through exports and imports. */
+    /* Exports and imports the coder. */
     w = start;
     done("chain: decode", chain_decode, &w);
     done("chain: export of remainders", chain_export_remainders, &w);
@@ -783,7 +783,7 @@ static void codewords(size_t count) {
     }
 }
 
-/* The first `count` bits of two lists of words are the same. */
+/* Returns whether the first `count` bits of two lists of words are equal. */
 static int same_bits(const word *one, const word *other, size_t count) {
     for (size_t i = 0; i < count; i++)
         if ((one[i / BITS] ^ other[i / BITS]) >> i % BITS & 1) return 0;
@@ -821,11 +821,11 @@ static void codewords_at(size_t count) {
     }
 }
 
-/* ==== Lists that are long enough for a lookup model of the weights, at 12 bits ==== */
+/* ==== Lists long enough for a lookup model of the weights, at 12 bits ==== */
 
 enum { LONG = 5000, PART = 100, LONG_ROOM = LONG + 8 };
 
-/* What the calls on a long list change. */
+/* The memory that calls on a long list change. */
 struct long_world {
     state head;
     struct C(range_decoder_state) decoder;
@@ -834,7 +834,7 @@ struct long_world {
     word words[LONG_ROOM], other[LONG_ROOM];
 };
 
-/* A decode of symbols at a place of a long list. */
+/* Decodes symbols at a place of a long list. */
 typedef uint32_t long_call(struct long_world *w, size_t place, size_t count);
 
 static uint32_t long_ans(struct long_world *w, size_t place, size_t count) {
@@ -858,8 +858,8 @@ static int same_long(const struct long_world *a, const struct long_world *b) {
         && !memcmp(a->other, b->other, sizeof a->other);
 }
 
-/* Decodes a long list by one call, by calls on short lists, and with each request for memory refused in turn. A refused request for the
-   rows of a lookup model is no refusal of the call. */
+/* Decodes a long list by one call, by calls on short lists, and with each request for memory refused once. If the request for the rows
+   of a lookup model is refused, the call still succeeds. */
 static void long_decode(const char *about, long_call *decode, const struct long_world *start, struct long_world *whole) {
     static struct long_world parts, w;
     int rows = 0;
@@ -910,7 +910,7 @@ static void long_lists(void) {
           && w.heads.remainders == start.heads.remainders && w.heads.compressed == start.heads.compressed);
 }
 
-/* Encodes by intervals or by rows of weights that write no words ask for no memory; the chain coder asks for a buffer. */
+/* Encodes by intervals or by rows of weights that write no words request no memory. The chain coder requests a buffer. */
 static void intervals_ask_no_memory(void) {
     struct world w = fresh();
     draw(2);
@@ -924,7 +924,7 @@ static void intervals_ask_no_memory(void) {
     CHECK("range: intervals, no memory", !range_encode_pairs(&w) && !range_encode_each(&w) && !w.len && !requests);
 }
 
-/* The chain coder encodes intervals of length 1, one alone and two in a list, and decodes their symbols. */
+/* The chain coder encodes intervals of length 1, first a single one and then a list of two, and decodes their symbols. */
 static void chain_intervals_of_length_one(void) {
     struct world start = fresh();
     draw(2);

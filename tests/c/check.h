@@ -1,4 +1,4 @@
-/* What the tests of the C functions share: checks that are counted, random numbers, and a malloc that can refuse. */
+/* Common code of the tests of the C functions: counted checks, random numbers, and a malloc that can refuse. */
 #ifndef CHECK_H
 #define CHECK_H
 
@@ -11,7 +11,7 @@
 
 static unsigned long passed, failed;
 
-/* One check, with where it stands and what it is about. */
+/* Checks a case, with its place and its name. */
 #define CHECK(about, holds) check(__FILE__, __LINE__, (about), (holds))
 
 static void check(const char *file, int line, const char *about, int holds) {
@@ -27,7 +27,7 @@ static int finish(void) {
     return failed != 0;
 }
 
-/* Xorshift with 64 bits of state: below the limit. */
+/* Returns a random number below the limit, by Xorshift with a state of 64 bits. */
 static inline uint64_t random_below(uint64_t limit) {
     static uint64_t x = 0x123456789abcdef1;
     x ^= x << 13;
@@ -36,8 +36,8 @@ static inline uint64_t random_below(uint64_t limit) {
     return (x >> 8) % limit;
 }
 
-/* Requests for memory are counted, and the one of this number is refused; 0: none is. The linker puts these in place of the C
-   library's, by --wrap. */
+/* Counts requests for memory, and refuses the one with this number; 0: none. By --wrap, the linker calls these functions instead of the
+   C library's. */
 static unsigned long requests, refused_request;
 
 void *__real_malloc(size_t size);

@@ -1,12 +1,12 @@
-/* Rows of counts at one size, which -DBITS=32 or -DBITS=16 chooses. The words are those of rows of weights, which this
-   test computes by the rule of docs/MODELS.md in 128 bits; and every refusal, memory that is refused, and random lists
-   there and back. */
+/* Tests rows of counts at one size, which -DBITS=32 or -DBITS=16 chooses. The expected words are those of rows of weights,
+   which this test computes by the rule of docs/MODELS.md in 128 bits. It also tests every error, refused requests for
+   memory, and random lists that are encoded and decoded. */
 #include "world.h"
 
 enum { WIDEST = 70 };
 #define LARGEST UINT32_MAX
 
-/* What a call is given. */
+/* The arguments of the calls. */
 static struct {
     size_t count, width, count_count;
     uint32_t counts[COUNT * WIDEST];
@@ -30,7 +30,7 @@ static uint32_t chain_encode(struct world *w) {
 }
 static uint32_t chain_decode(struct world *w) { return C(chain_decode_counts)(&w->heads, OTHER, BUFFER, MODEL, TAKEN, &w->needed); }
 
-/* The same under the weights of the rule. */
+/* Makes the same call with the weights of the rule. */
 static uint32_t ans_encode_rows(struct world *w) { return C(ans_encode_each_reverse)(&w->head, BUFFER, ROWS, GIVEN, &w->needed); }
 static uint32_t ans_decode_rows(struct world *w) { return C(ans_decode_each)(&w->head, BUFFER, ROWS, TAKEN); }
 static uint32_t range_encode_rows(struct world *w) { return C(range_encode_each)(&w->encoder, BUFFER, ROWS, GIVEN, &w->needed); }
@@ -40,7 +40,7 @@ static uint32_t chain_encode_rows(struct world *w) {
 }
 static uint32_t chain_decode_rows(struct world *w) { return C(chain_decode_each)(&w->heads, OTHER, BUFFER, ROWS, TAKEN, &w->needed); }
 
-/* The start of symbol i of a row: before * (2^P - n) / total, rounded down, plus i. */
+/* Returns the start of symbol i of a row: before * (2^P - n) / total, rounded down, plus i. */
 static uint64_t start_of(const uint32_t *row, size_t symbol) {
     unsigned __int128 before = 0, total = 0;
     for (size_t i = 0; i < in.width; i++) {
@@ -59,7 +59,7 @@ static void weigh(void) {
 
 static void counted(size_t count, size_t width) { in.count = count, in.width = width, in.count_count = count * width; }
 
-/* Rows of any counts, of which one at least isn't 0, and symbols of them. A sum is below 2^40, since 70 * 2^32 is. */
+/* Draws rows of counts with at least one count above 0, and symbols of them. A sum is at most 70 * 2^32, below 2^40. */
 static void draw(size_t count) {
     counted(count, 1 + random_below(random_below(2) ? WIDEST : 4));
     for (size_t i = 0; i < COUNT * WIDEST; i++) {
@@ -156,7 +156,7 @@ static void chain(size_t count) {
     refuses_models("chain: encode refuses", chain_encode, &back);
 }
 
-/* Sums up to 2^40 - 1, as many counts as the precision allows, and one more. */
+/* Tests sums up to 2^40 - 1, the greatest number of counts for the precision, and one more. */
 static void limits(void) {
     enum { MANY = 256 };
     static uint32_t counts[MANY + 1], row[(size_t)1 << PRECISION];

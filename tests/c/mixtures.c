@@ -1,9 +1,9 @@
-/* Mixtures at one size, which -DBITS=32 or -DBITS=16 chooses: worked words, which come from the definitions and not from
-   this library; every refusal, memory that is refused, and random lists there and back. */
+/* Tests mixtures at one size, which -DBITS=32 or -DBITS=16 chooses: worked words, computed by definitions and not by this
+   library; every error, refused requests for memory, and random lists that are encoded and decoded. */
 #include "world.h"
 
-/* What the stack coder and the range coder make of the list under mixtures of one family, and what the chain coder
-   takes from its words and leaves. */
+/* The list's words under mixtures of one family, by the stack coder and the range coder; the symbols that the chain coder
+   decodes from its words, and the words that it leaves. */
 struct mixed {
     size_t ans_len;
     word ans[16];
@@ -19,7 +19,7 @@ struct mixed {
 #define LENGTH(list) (sizeof(list) / sizeof *(list))
 enum { WIDEST = 4 };
 
-/* What a call is given. */
+/* The arguments of the calls. */
 static struct {
     size_t count, width, weight_count, location_count, scale_count;
     uint32_t family;
@@ -54,7 +54,7 @@ static uint32_t chain_decode(struct world *w) {
     return C(chain_decode_mixture)(&w->heads, OTHER, BUFFER, MODEL, TAKEN, &w->needed);
 }
 
-/* The same under the one component that each symbol has. */
+/* Makes the same call with the only component of each symbol. */
 #define ALONE in.family, in.min, in.max, in.locations, in.location_count, in.scales, in.scale_count
 static uint32_t ans_alone(struct world *w) {
     return C(ans_encode_quantized_reverse)(&w->head, BUFFER, ALONE, GIVEN, &w->needed);
@@ -65,7 +65,7 @@ static void counted(size_t count, size_t width) {
     in.weight_count = in.location_count = in.scale_count = count * width;
 }
 
-/* Any range of at most so many symbols, components near it, and symbols of it. */
+/* Draws a range of at most so many symbols, components near it, and symbols of it. */
 static void draw(size_t count) {
     uint64_t kinds = 2 + random_below(random_below(2) ? 300 : 8);
     counted(count, 1 + random_below(WIDEST));
@@ -143,7 +143,7 @@ static void range(size_t count) {
     struct world start = fresh(), w;
     draw(count);
     every_length("range: encode", range_encode, &start, 1);
-    /* A single symbol is first encoded without memory for words. If its model finds no memory, the call asks again. */
+    /* An encode of a single symbol first requests no memory for words. If its model's request is refused, the call tries again. */
     (count == 1 ? asks_again : refused_memory)("range: encode, memory", range_encode, &start);
     w = start;
     done("range: encode", range_encode, &w);
@@ -183,7 +183,7 @@ static void chain(size_t count) {
     refuses_models("chain: encode refuses", chain_encode, &back);
 }
 
-/* Does this call in memory that has no block left. */
+/* Makes a call in memory without a free block. */
 static void needs_none(const char *about, call *run, struct world *w) {
     requests = 0, refused_request = 1;
     done(about, run, w);
@@ -191,7 +191,7 @@ static void needs_none(const char *about, call *run, struct world *w) {
     CHECK(about, !requests);
 }
 
-/* Mixtures of no symbols have no components, whatever their width: no call asks for memory. */
+/* Mixtures of no symbols have no components, whatever their width: no call requests memory. */
 static void no_symbols(void) {
     static const size_t widths[] = {1, (size_t)1 << 28, (size_t)1 << 59, SIZE_MAX};
     for (size_t k = 0; k < LENGTH(widths); k++) {

@@ -1,6 +1,6 @@
-/* Models in whole numbers at one size, which -DBITS=32 or -DBITS=16 chooses: worked intervals, weights and words,
-   which come from the definitions and not from this library; buffers of every length, every refusal, memory that is
-   refused, and random lists there and back. */
+/* Tests models in whole numbers at one size, which -DBITS=32 or -DBITS=16 chooses: worked intervals, weights and words,
+   computed by definitions and not by this library; buffers of every length, every error, refused requests for memory,
+   and random lists that are encoded and decoded. */
 #include "world.h"
 
 struct interval {
@@ -18,8 +18,8 @@ struct proportion {
     word weights[16];
 };
 
-/* What the stack coder and the range coder make of the list, and what the chain coder takes from its words and
-   leaves. */
+/* The list's words by the stack coder and the range coder; the symbols that the chain coder decodes from its words, and
+   the words that it leaves. */
 struct coded {
     size_t ans_len;
     word ans[16];
@@ -34,7 +34,7 @@ struct coded {
 
 #define LENGTH(list) (sizeof(list) / sizeof *(list))
 
-/* What a call is given. */
+/* The arguments of the calls. */
 static struct {
     size_t count, location_count, scale_count, left_count;
     uint32_t family;
@@ -74,7 +74,7 @@ static uint32_t chain_decode(struct world *w) {
 static uint32_t intervals_of(struct world *w) { return C(quantized_intervals)(MODEL, GIVEN, ENDS); }
 static uint32_t weights_of(struct world *w) { return C(weights_of_counts)(in.counts, in.count, w->ps, in.left_count); }
 
-/* The same by the intervals that are in the world. */
+/* The same calls with the world's intervals. */
 #define PAIRS w->lefts, in.count, w->ps, in.count
 static uint32_t ans_pairs(struct world *w) {
     return C(ans_encode_intervals_reverse)(&w->head, BUFFER, PAIRS, &w->needed);
@@ -86,7 +86,7 @@ static uint32_t chain_pairs(struct world *w) {
     return C(chain_encode_intervals_reverse)(&w->heads, BUFFER, OTHER, PAIRS, &w->needed);
 }
 
-/* The same by a family's name. */
+/* The same calls by a family's name. */
 #define NAMED(name, NAME, number) \
     static uint32_t name##_ans_encode(struct world *w) { \
         return C(ans_encode_##name##_reverse)(&w->head, BUFFER, RANGE, GIVEN, &w->needed); \
@@ -119,9 +119,9 @@ enum { ANS_ENCODE, ANS_DECODE, RANGE_ENCODE, RANGE_DECODE, CHAIN_ENCODE, CHAIN_D
      name##_chain_encode, name##_chain_decode, name##_intervals_of, name##_interval_of},
 static call *const named[FAMILIES][CALLS] = {FAMILIES_BY(CALLS_OF)};
 
-/* ==== Lists at random, and what holds of each call ==== */
+/* ==== Random lists, and properties of each call ==== */
 
-/* Any range of at most so many symbols, parameters near it, and symbols of it. */
+/* Draws a range of at most so many symbols, parameters near it, and symbols of it. */
 static void draw(size_t count) {
     uint64_t kinds = 2 + random_below(random_below(2) ? 300 : 8);
     in.count = in.location_count = in.scale_count = in.left_count = count;
@@ -137,7 +137,7 @@ static void draw(size_t count) {
     in.counts[0]++;
 }
 
-/* What each call refuses, and which refusal comes first. behind: what else the call would refuse. */
+/* Checks the errors of each call and their order. `behind`: a later error that the call would also return. */
 static void refuses_models(const char *about, call *run, const struct world *start, uint32_t behind) {
     struct world w = *start;
     int32_t min = in.min, max = in.max;
@@ -182,7 +182,7 @@ static void refuses_symbols(const char *about, call *run, struct world *w) {
 
 static int same_symbols(const struct world *w) { return !memcmp(w->symbols, in.symbols, in.count * sizeof(size_t)); }
 
-/* A call by the family's name does what the one by its number does. */
+/* A call by the family's name does the same as the call by its number. */
 static void same_by_name(const char *about, call *run, int which, const struct world *start) {
     same(about, run, named[in.family][which], start);
 }
@@ -268,7 +268,7 @@ static void chain(size_t count) {
 
     w = start;
     done("chain: decode", chain_decode, &w);
-    /* The two sides change places, so that an encode writes behind what was left over. */
+    /* Swaps the two sides, so that an encode writes after the words that were left. */
     struct world back = w;
     memcpy(back.words, w.other, sizeof back.words), memcpy(back.other, w.words, sizeof back.other);
     back.len = w.other_len, back.other_len = w.len;
@@ -317,7 +317,7 @@ static void intervals_at_random(size_t count) {
     refuses("intervals: one, a scale of 0", named[in.family][INTERVAL], &start, CONSTRICTION_WRONG_WEIGHTS);
 }
 
-/* The intervals of all symbols of a range cut the quantiles, and each decodes to its symbol. */
+/* The intervals of all symbols of a range partition the quantiles, and each quantile decodes to its symbol. */
 static void cut(int32_t min, size_t kinds) {
     struct world w = fresh();
     draw(kinds);
@@ -375,7 +375,7 @@ static void proportions_of_counts(size_t count) {
     refuses("weights: of zeros", weights_of, &start, CONSTRICTION_WRONG_WEIGHTS);
 }
 
-/* As many counts above 0 as there can be, and one more. */
+/* The greatest number of counts above 0, and one more. */
 static void most_counts(void) {
     size_t most = (size_t)WHOLE;
     uint64_t *counts = malloc((most + 2) * sizeof *counts);
@@ -440,7 +440,7 @@ static void worked_words(void) {
     }
 }
 
-/* A pointer to a list of no items may be null. */
+/* A pointer to an empty list may be null. */
 static void nulls(void) {
     state head = 0;
     size_t len = 0, other_len = 0, needed = 0;
@@ -462,7 +462,7 @@ static void nulls(void) {
     CHECK("null: a family all the same", result == CONSTRICTION_WRONG_WEIGHTS);
 }
 
-/* As many symbols as a range can have, each of which has 1. */
+/* The greatest number of symbols in a range, each with the weight 1. */
 static void widest(void) {
     int64_t location = 0;
     uint32_t scale = 65536;

@@ -1,6 +1,6 @@
-/* tools/heap.c with a planted fault, which the tests of the C functions have to find. With -DHEAP_FAULT=1 a refused
-   request returns a block. With 2 a block loses its contents when it is resized. With 3 no block is freed, which the
-   address sanitizer finds. */
+/* tools/heap.c with a planted fault, which the tests of the C functions have to find. With -DHEAP_FAULT=1, a refused
+   request returns a block. With 2, a resized block loses its contents. With 3, no block is freed, which the address
+   sanitizer finds. */
 #include <stdlib.h>
 #include <string.h>
 

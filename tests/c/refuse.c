@@ -1,6 +1,6 @@
-/* Put in front of the C library by LD_PRELOAD: refuses the request for memory whose number the variable
-   REFUSED_REQUEST says, counted from 1 in each process, and says so by a line on standard error. It needs no
-   header, so that any C compiler builds it. */
+/* Preloaded before the C library by LD_PRELOAD. Refuses the request for memory with the number in the variable
+   REFUSED_REQUEST, counted from 1 in each process, and reports it by a line on standard error. It needs no header, so
+   any C compiler builds it. */
 
 typedef __SIZE_TYPE__ size_t;
 
@@ -10,12 +10,12 @@ long write(int file, const void *bytes, size_t count);
 void *malloc(size_t size);
 void *realloc(void *block, size_t size);
 
-/* Of the C library's <dlfcn.h>: the next one of that name, behind this one. */
+/* From the C library's <dlfcn.h>: the next function of that name, after this one. */
 #define BEHIND ((void *)-1L)
 
 static const char variable[] = "REFUSED_REQUEST=", line[] = "refused a request\n";
 
-/* The number that the variable says; 0: none is refused. */
+/* The variable's number; 0: no request is refused. */
 static unsigned long number(void) {
     for (char **it = environ; it && *it; it++) {
         size_t same = 0;

@@ -1,10 +1,10 @@
-/* Each request for memory of every C function, refused in turn, at one size, which -DBITS=32 or -DBITS=16
-   chooses. The worlds and the calls are those of calls.c. A refused call has to say NO_MEMORY and to leave each
-   byte of its world; the same call in the same world then has to do what it does where no request is refused.
-   Blocks that are not given back are seen by the address sanitizer's run.
+/* Refuses each request for memory of every C function once, at one size, which -DBITS=32 or -DBITS=16 chooses. The
+   worlds and the calls are those of calls.c. A call whose request is refused has to return NO_MEMORY and leave each byte
+   of its world unchanged. Then the same call in the same world has to succeed. The run under the address sanitizer finds
+   blocks that aren't freed.
 
-   -DPLANTED=1 to 3 plants a fault, which has to be found: an encode that changes a word where it finds no
-   memory, one that says that it was done, and one that does something else when it is called again. */
+   -DPLANTED=1 to 3 plants a fault, which the test has to find: an encode that changes a word without memory, one that
+   reports success, and one that does something else when it is called again. */
 #define main every_call
 #include "calls.c"
 #undef main
@@ -27,12 +27,12 @@ static unsigned long *refused_of(const char *name) {
     return &tally[at].refused;
 }
 
-/* Whether the call, made now, does this. */
+/* Returns whether a call returns this result and leaves this world. */
 static int does(call *run, struct world *w, uint32_t wanted, const struct world *whole) {
     return run(w) == wanted && equal(w, whole);
 }
 
-/* Has each request of a call refused in turn, up to a run without a refusal. */
+/* Refuses each request of a call once, up to a run in which no request is refused. */
 static void tries(const char *name, call *run, const struct world *start) {
     static struct world w, whole;
     unsigned long *refused = refused_of(name), n;
@@ -56,7 +56,7 @@ static void tries(const char *name, call *run, const struct world *start) {
     CHECK(name, 0);
 }
 
-/* The same, and what the call leaves. */
+/* Does the same, and returns the world that the call leaves. */
 static struct world after(const char *name, call *run, const struct world *start) {
     struct world w = *start;
     tries(name, run, start);
@@ -64,7 +64,7 @@ static struct world after(const char *name, call *run, const struct world *start
     return w;
 }
 
-/* ==== The calls that calls.c makes by hand, and faults that are planted ==== */
+/* ==== The calls that calls.c makes by hand, and planted faults ==== */
 
 static uint32_t range_new(struct world *w) { return C(range_encoder)(&w->encoder); }
 static uint32_t range_to(struct world *w) { return C(range_seek)(&w->decoder, w->words, w->len, 0, 0, (state)-1); }
@@ -86,7 +86,7 @@ static uint32_t planted(struct world *w) {
 
 /* ==== The coders ==== */
 
-/* Weights under which a list has as many words as it can: all but one of 1. Its symbols are those of 1. */
+/* Weights under which a list has the greatest number of words: all but one are 1. The list's symbols have the weight 1. */
 static void draw_heavy(void) {
     for (size_t i = 0; i < KINDS; i++) in.weights[i] = 1;
     in.weights[0] = (word)(WHOLE - KINDS + 1);
@@ -134,7 +134,7 @@ static void refused_store(const struct world *start) {
     for (in.chunk = 0; in.chunk < CHUNKS; in.chunk++) tries("store_chunk", store_chunk, &w);
 }
 
-/* The symbols that a world was given are what the next encodes put back. */
+/* The next encodes encode the symbols that a world was given. */
 static void take_over(const struct world *w) {
     memcpy(in.symbols, w->symbols, sizeof in.symbols);
     for (size_t i = 0; i < in.count; i++) {
@@ -144,7 +144,7 @@ static void take_over(const struct world *w) {
     }
 }
 
-/* What was left over is written on by the converse. */
+/* Returns a world with swapped sides, so that the inverse call writes after the words that were left. */
 static struct world turned(const struct world *w) {
     struct world back = *w;
     memcpy(back.words, w->other, sizeof back.words), memcpy(back.other, w->words, sizeof back.other);
@@ -209,7 +209,7 @@ static void every_coder(size_t count, int heavy) {
     refused_chain(&chain), refused_imports(&chain);
 }
 
-/* The functions that ask for no memory. All others have to be refused some. */
+/* The functions that request no memory. Each other function has to have a refused request. */
 static const char *const without[] = {
     "ans_from_compressed", "ans_from_binary",
     "range_encoder", "range_from_compressed", "range_seek", "range_maybe_exhausted",

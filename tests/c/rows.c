@@ -1,4 +1,4 @@
-/* Worked rows: values that come from the definitions and from outside, and not from this library. -DBITS=32 or -DBITS=16 chooses the size. */
+/* Worked rows: values computed by definitions and by other programs, not by this library. -DBITS=32 or -DBITS=16 chooses the size. */
 #include "check.h"
 
 #define GLUE(a, b, c) a##b##c
@@ -107,8 +107,8 @@ static void range(void) {
           && C(range_decode)(&decoder, greatest, 2, halves, 2, symbols, 1) == CONSTRICTION_INVALID_DATA);
 }
 
-/* Intervals that hold the point 1/2 of the whole, until words are held back; then one behind it, or one in front of it. The words
-   are the first digits of 1/2, or all those just below it. */
+/* Intervals that hold the point 1/2 of the whole, until words are pending; then an interval above or below the point. The words are the
+   first digits of 1/2, or all digits of the number just below it. */
 static void carries(size_t steps, int carry) {
     struct C(range_encoder_state) encoder;
     state distance = (state)1 << (8 * sizeof(state) - 1);
@@ -163,7 +163,7 @@ static void chain(void) {
     CHECK("chain_too_short: zero", C(chain_from_compressed)(zero, 2, &len, &heads) == CONSTRICTION_INVALID_DATA);
 }
 
-/* Whether the words hold these bits, from the lowest up, and then zeros. Blanks part codewords. */
+/* Returns whether the words hold these bits, from the lowest up, and then zeros. Blanks separate codewords. */
 static int are_bits(const char *bits) {
     size_t count = 0;
     word wanted[ROOM] = {0};
@@ -196,7 +196,7 @@ static void bits(void) {
     CHECK("huffman_refusals: sum", C(huffman_encode_queue)(too_large, 2, fifth, 0, words, ROOM, &len, &needed) == CONSTRICTION_WRONG_WEIGHTS);
     CHECK("huffman_unknown_and_short", C(huffman_encode_queue)(five, 5, fifth, 1, words, ROOM, &len, &needed) == CONSTRICTION_IMPOSSIBLE_SYMBOL);
     const word three[] = {3}, twelve[] = {12}, zero_last[] = {7, 0}, full[] = {(word)-1, 1}, all_ones[] = {(word)-1};
-    /* A stack of the one bit 1, and then the bit that closes it. */
+    /* A stack with the single bit 1, and then the end bit. */
     CHECK("huffman_unknown_and_short: short", C(huffman_decode_stack)(five, 5, three, 1, symbols, 1) == CONSTRICTION_OUT_OF_DATA);
     CHECK("stack_end_bit", !C(huffman_encode_stack)(equal, 2, ones, 1, words, ROOM, &len, &needed) && are_words(three, 1));
     const size_t last_first[] = {1, 0, 0};
@@ -228,7 +228,7 @@ static void bits(void) {
     CHECK("golomb_byte_limits: none", C(exp_golomb_decode_queue)(zeros, 0, numbers, 1) == CONSTRICTION_OUT_OF_DATA);
 }
 
-/* Three lists by two codebooks, one behind another, from bit 3 of words whose bits are 1 but for one. */
+/* Three lists by two codebooks, one after another, from bit 3 of words in which all bits but one are 1. */
 static void from_a_bit(void) {
     const uint32_t five[] = {2, 2, 4, 1, 1};
     const size_t all[] = {0, 1, 2, 3, 4}, two_more[] = {4, 0}, many[] = {2, 2, 2, 2, 2, 2, 2, 2, 2, 2, 2, 2, 2, 2, 2, 2, 2};

@@ -38,7 +38,7 @@ static int are(const word *found, size_t count, const struct line *wanted) {
     return 1;
 }
 
-/* ==== A case's symbols, and its models: one list of weights, or a family with parameters for each symbol, or a row of
+/* ==== A case's symbols and models: one list of weights, or a family with parameters for each symbol, or a row of
    components or of counts for each symbol ==== */
 
 enum models { WEIGHED, OF_FAMILY, MIXED, COUNTED };
@@ -94,7 +94,7 @@ static int are_found(void) { return !memcmp(given.found, given.symbols, given.co
 #define FOUND given.found, given.count
 #define BUFFER words, VALUES, &len
 
-/* A call under the case's models. Between the two parts of its name stands the kind of the models. */
+/* A call under the case's models. The kind of the models is between the two parts of its name. */
 #define UNDER(begin, end, ...) \
     (given.models == COUNTED     ? C(GLUE(begin, _counts, end))(__VA_ARGS__ ROWS, REST) \
      : given.models == MIXED     ? C(GLUE(begin, _mixture, end))(__VA_ARGS__ MIXTURE, REST) \
@@ -205,7 +205,7 @@ static void counts(void) {
     CHECK("counts: weights", are(words, from->count, of("weights")));
 }
 
-/* The head in which a symbol ends up, from this head, tells the start and the weight of the symbol's interval. */
+/* From this head, an encode leads to a head that shows the start and the weight of the symbol's interval. */
 static void row(void) {
     const struct line *from = of("counts");
     size_t count = from->count;

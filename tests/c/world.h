@@ -1,5 +1,5 @@
-/* A caller's world of buffers and numbers at one size, which -DBITS=32 or -DBITS=16 chooses; and what holds of each
-   call: a refusal changes nothing, buffers of every length, memory that is refused. */
+/* A caller's world of buffers and numbers at one size, which -DBITS=32 or -DBITS=16 chooses; and properties of each call: an
+   error changes nothing, with buffers of every length and with refused requests for memory. */
 #ifndef WORLD_H
 #define WORLD_H
 
@@ -22,7 +22,7 @@ typedef uint32_t state;
 enum { COUNT = 40, CHUNKS = 6, GUARD = 4, ROOM = 3 * COUNT + 8, RESULTS = 9 };
 #define WHOLE ((state)1 << PRECISION)
 
-/* ==== What a call changes: all of it in one place, so that what it must not change can be seen ==== */
+/* ==== All that a call may change, in one place, so that the tests find any other change ==== */
 
 struct world {
     state head;
@@ -39,7 +39,7 @@ struct world {
     word lefts[COUNT], ps[COUNT];
 };
 
-/* Equal up to what pads the structs. */
+/* Returns whether two worlds are equal, except for the padding of structs. */
 static inline int equal(const struct world *a, const struct world *b) {
     return a->head == b->head
         && a->encoder.lower == b->encoder.lower && a->encoder.range == b->encoder.range
@@ -57,7 +57,7 @@ static inline int equal(const struct world *a, const struct world *b) {
         && !memcmp(a->lefts, b->lefts, sizeof a->lefts) && !memcmp(a->ps, b->ps, sizeof a->ps);
 }
 
-/* A world of which every place has its own value. */
+/* Returns a world with a different value at each place. */
 static inline struct world fresh(void) {
     struct world w;
     memset(&w, 0, sizeof w);
@@ -73,14 +73,14 @@ static inline struct world fresh(void) {
     return w;
 }
 
-/* A call, on a world. */
+/* A call on a world. */
 typedef uint32_t call(struct world *w);
 
-/* ==== What holds of each call ==== */
+/* ==== Properties of each call ==== */
 
 static unsigned long seen[RESULTS];
 
-/* The call answers this, and unless it is done nothing changes. */
+/* The call returns this result, and changes nothing unless it is DONE. */
 static inline void refuses(const char *about, call *run, struct world *w, uint32_t wanted) {
     struct world old = *w;
     uint32_t result = run(w);
@@ -91,7 +91,7 @@ static inline void refuses(const char *about, call *run, struct world *w, uint32
     CHECK(about, equal(w, &old));
 }
 
-/* The call is done, and leaves what stands around the buffer, and in front of what is added, as it is. */
+/* The call succeeds, and leaves the words around the buffer and before the new words unchanged. */
 static inline void done(const char *about, call *run, struct world *w) {
     struct world old = *w;
     uint32_t result = run(w);
@@ -104,11 +104,11 @@ static inline void done(const char *about, call *run, struct world *w) {
     CHECK(about, from <= ROOM && !memcmp(w->words + from, old.words + from, (ROOM - from) * sizeof(word)));
 }
 
-/* Where a call writes: from the beginning of a buffer on, or behind what is in use, which stays; and then it may want room for the
-   words held back first. */
+/* Where a call writes: from the beginning of a buffer, or after the words in use, which stay. It may also need room for the pending words
+   first. */
 enum { FROM_FRONT, BEHIND, BEHIND_HELD };
 
-/* With buffers of every length: too short for what is in use, too short for what is added, and long enough. */
+/* Makes a call with buffers of every length: too short for the words in use, too short for the new words, and long enough. */
 static inline void every_length(const char *about, call *run, const struct world *start, int keeps) {
     struct world whole = *start;
     done(about, run, &whole);
@@ -134,8 +134,7 @@ static inline void every_length(const char *about, call *run, const struct world
     }
 }
 
-/* With each request for memory refused in turn: want of memory, nothing changed, and the same call then does what it does
-   without a refusal. */
+/* Refuses each request for memory once: the call returns NO_MEMORY and changes nothing, and then the same call succeeds. */
 static inline void refused_memory(const char *about, call *run, const struct world *start) {
     struct world whole = *start;
     CHECK(about, run(&whole) == CONSTRICTION_DONE);
@@ -155,8 +154,8 @@ static inline void refused_memory(const char *about, call *run, const struct wor
     CHECK(about, 0);
 }
 
-/* With each request for memory refused in turn: want of memory, and nothing changed; or, since the call takes another way
-   that asks again, what it does without a refusal. */
+/* Refuses each request for memory once: the call returns NO_MEMORY and changes nothing, or takes another way that requests
+   memory again, and succeeds. */
 static inline void asks_again(const char *about, call *run, const struct world *start) {
     struct world whole = *start;
     CHECK(about, run(&whole) == CONSTRICTION_DONE);
@@ -171,7 +170,7 @@ static inline void asks_again(const char *about, call *run, const struct world *
     CHECK(about, 0);
 }
 
-/* With each request for memory refused in turn: this refusal all the same, and nothing changed. */
+/* Refuses each request for memory once: the call returns the wanted error all the same, and changes nothing. */
 static inline void refuses_without_memory(const char *about, call *run, const struct world *start, uint32_t wanted) {
     for (unsigned long n = 1; n < 1000; n++) {
         struct world w = *start;
@@ -183,7 +182,7 @@ static inline void refuses_without_memory(const char *about, call *run, const st
     CHECK(about, 0);
 }
 
-/* Two calls do the same. */
+/* Returns whether two calls do the same. */
 static inline void same(const char *about, call *one, call *another, const struct world *start) {
     struct world a = *start, b = *start;
     done(about, one, &a), done(about, another, &b);
