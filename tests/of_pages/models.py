@@ -154,6 +154,12 @@ def test():
     pairs = ((7, 3.5, 2.25), (-20, -20.0, 0.5))
     listed = (f"({symbol}, {models.location_of(mean)}, {models.scale_of(std)})" for symbol, mean, std in pairs)
     page.has(f"[{', '.join(listed)}]")
+    units(
+        Page("docs/C_AND_PYTHON.md"),
+        "means[] = " + arrays[0],
+        "deviations[] = " + arrays[1],
+        f"symbols[] = {{{{{7 + 100}, {-20 + 100}}}}};",
+    )
     units(Page("docs/EXAMPLES.md"), "means[] = " + arrays[0], "stds[] = " + arrays[1])
     third = models.weights_of([1.0, 1.0, 1.0])
     quick = models.quick_weights([1.0, 1.0, 1.0])
