@@ -1,19 +1,19 @@
 //! `Counts`: a row of counts for each symbol.
 
-ghost use Rattle.std.specs.Prelude.{◌≡◌, ◌↔◌, ◌+◌, ◌*◌, ◌<◌, ◌≤◌, length, IfSome, IsSome, IsTrue};
+ghost use Rattle.std.specs.Prelude.{◌≡◌, ◌↔◌, ◌+◌, ◌*◌, ◌<◌, ◌≤◌, length, map, IfOk, IsTrue};
 ghost use Rattle.constriction_inputs.specs.Counts.{AreCountRows, IsCountPrecision, by_counts, count_tables};
 ghost use Rattle.constriction_inputs.specs.Mixtures.{row_at_index};
 ghost use Rattle.constriction_models.specs.Categorical.{MakeCategorical, categorical};
 
 use crate::models::families::are_below;
-use crate::models::{DecoderModelList, DecoderModels, ModelList, Models};
+use crate::models::{DecoderModels, Each, ModelList, Models};
 use crate::refusal::Refusal;
 use crate::rows::adding::is_product;
 use crate::symbol::Symbol;
 use constriction_base::model::EntropyModel;
 use constriction_models::categorical::CategoricalCounts;
 use constriction_words::{BitArray, Reciprocal, WordOf};
-use std::alloc::Global;
+use std::alloc::{AllocError, Global};
 use std::marker::PhantomData;
 
 /// Rows of `width` counts, one after another in `counts`, with one row for each symbol to encode or decode.
@@ -68,20 +68,16 @@ impl<'a, P: WordOf<u32>, const PRECISION: usize> Models<P, PRECISION> for Counts
 }
 
 impl<'a, P: WordOf<u32>, const PRECISION: usize> DecoderModels<P, PRECISION> for Counts<'a> {
-    type DecoderList = CountDecoderList<'a, P, PRECISION>;
+    type DecoderList = Each<CategoricalCounts<'a, P, PRECISION>>;
 
     fn decoder_list(
         &self,
         alloc: Global,
         count: usize,
-    ) -> Option<CountDecoderList<'a, P, PRECISION>> {
-        match Models::<P, PRECISION>::list(self, alloc, count, false) {
-            Some(rows) => Some(CountDecoderList {
-                rows,
-                place: count,
-                model: None,
-            }),
-            None => None,
+    ) -> Option<Each<CategoricalCounts<'a, P, PRECISION>>> {
+        match count_models(alloc, self.counts, self.width, count) {
+            Ok(models) => Some(Each { models, place: 0 }),
+            Err(_) => None,
         }
     }
 }
@@ -124,53 +120,6 @@ impl<'a, P: WordOf<u32>, const PRECISION: usize> ModelList<P, PRECISION>
         match CategoricalCounts::<P, PRECISION>::interval_of(row, symbol) {
             Some(found) => Some((found.0, found.1, None)),
             None => None,
-        }
-    }
-}
-
-/// Models of rows of counts. The list keeps only one row's model in memory.
-///
-/// Each call of `select` adds up the counts of the row at the index, and replaces this model by the row's model.
-///
-/// # Examples
-///
-/// ```
-/// let rows = Counts { counts: &[3, 1, 0, 4], width: 2 };
-/// if let Some(mut list) = DecoderModels::<u16, 12>::decoder_list(&rows, alloc, 2) {
-///     DecoderModelList::<u16, 12>::select(&mut list, 1);
-///     DecoderModelList::<u16, 12>::model(&list).quantile_function(0) // (0, 0, 1)
-/// }
-/// ```
-#[derive(Drop)]
-pub struct CountDecoderList<'a, P: WordOf<u32>, const PRECISION: usize> {
-    rows: CountList<'a, P, PRECISION>,
-    place: usize,
-    model: Option<CategoricalCounts<'a, P, PRECISION>>,
-    ghost made: { place < rows.count → IsSome model },
-    ghost filled: { IfSome model (λ m. ⟦<CategoricalCounts<'a, P, PRECISION> as EntropyModel<PRECISION>>⟧.table m
-        ≡ categorical PRECISION (row_at_index rows.width place rows.counts.now)) },
-}
-
-impl<'a, P: WordOf<u32>, const PRECISION: usize> DecoderModelList<P, PRECISION>
-    for CountDecoderList<'a, P, PRECISION> {
-    type Model = CategoricalCounts<'a, P, PRECISION>;
-
-    ghost tables = { λ list. count_tables PRECISION list.rows.width list.rows.count list.rows.counts.now };
-
-    ghost turned_to = { λ list. list.place };
-
-    #[inline]
-    fn select(&mut self, place: usize) {
-        let model = model_at::<P, PRECISION>(self.rows.counts, self.rows.width, place);
-        self.model = Some(model);
-        self.place = place;
-    }
-
-    #[inline]
-    fn model(&self) -> &CategoricalCounts<'a, P, PRECISION> {
-        match &self.model {
-            Some(model) => model,
-            None => unreachable!(),
         }
     }
 }
@@ -248,4 +197,32 @@ fn are_rows<P: WordOf<u32>, const PRECISION: usize>(
         start = end;
     }
     true
+}
+
+/// Returns `count` models, one for each row of `width` counts. `counts` has the rows one after another.
+///
+/// The caller proves that `counts` has `count` rows, and that each row has a table.
+///
+/// # Errors
+///
+/// Returns `AllocError` if there is no memory for the list of models.
+fn count_models<'a, P: WordOf<u32>, const PRECISION: usize>(
+    alloc: Global,
+    counts: &'a [u32],
+    width: usize,
+    count: usize,
+) -> Result<Vec<CategoricalCounts<'a, P, PRECISION>>, AllocError>
+    requires precision { 1 ≤ PRECISION }
+    requires sizes { IsCountPrecision P.BITS PRECISION }
+    requires counted { length counts.now ≡ width * count }
+    requires counts { AreCountRows PRECISION width count counts.now }
+    ensures { IfOk result (λ models.
+        map ⟦<CategoricalCounts<'a, P, PRECISION> as EntropyModel<PRECISION>>⟧.table models.items
+        ≡ count_tables PRECISION width count counts.now) }
+{
+    let mut models = Vec::with_capacity(alloc, count)?;
+    for place in 0..count {
+        models.push_reserved(model_at::<P, PRECISION>(counts, width, place));
+    }
+    Ok(models)
 }
