@@ -9,7 +9,7 @@ import tempfile
 from edit import edits_of
 from repository import ROOT, Crates, read
 from sources import checkout
-from stamps import STAMPS, Stamp, kept_stamps, put_stamps, stamps_of
+from stamps import STAMPS, Key, Stamp, kept_stamps, put_stamps, stamps_of
 
 SIGNS = re.compile(r"\w[\w']*|[^\w\s]")
 COMMENT_MARKS = re.compile(r"^ *(?:///|//!|//|--)(?= |$)", re.M)
@@ -30,8 +30,7 @@ def check(found, revision):
     """Prints what is another than a name, and returns the status."""
     wanted, used, faults = set(found.pairs()), collections.Counter(), []
     allowed = wanted | {it for old, new, *_ in found.texts for it in zip(signs(old), signs(new)) if it[0] != it[1]}
-    modules = {os.path.basename(new)[: -len(".rt")] for _, new in found.paths if new.endswith(".rt")}
-    news = {new for _, new in wanted} - modules  # a module may be called as a type is
+    news = {new for _, new in wanted} - modules_in(found)
     for path in git("ls-tree", "-r", "--name-only", revision, "--", *PARTS).split("\n"):
         if not path.endswith(ENDINGS):
             continue
@@ -46,6 +45,11 @@ def check(found, revision):
     faults += [f"{old} {new}: nothing was renamed" for old, new in sorted(wanted) if not used[old, new]]
     print("".join(f"{it}\n" for it in faults) + f"{sum(used.values())} names are others, {len(faults)} faults")
     return 1 if faults else 0
+
+
+def modules_in(found):
+    """Returns the new names of modules of sources. A module may be called as a type is."""
+    return {os.path.basename(new)[: -len(".rt")] for _, new in found.paths if new.endswith(".rt")}
 
 
 def moved(path, found):
@@ -95,9 +99,10 @@ def sorted_alike(before, now, allowed):
 def contracts(found, revision):
     """Runs tools/contracts, and returns its status."""
     lines = []
-    for it in found.names:
-        modules = modules_of(it, revision) if it.modules else []
-        lines.append(" ".join([it.old, it.new, *modules]))
+    for it in (it for it in found.names if it.new not in modules_in(found)):
+        scopes = modules_of(it, revision) if it.modules else []
+        scopes += [path.removeprefix("crates/") for path in it.paths if path.startswith("crates/")]
+        lines += [" ".join([it.old, it.new, *scopes])] if scopes or it.is_everywhere() else []
     path = f"{ROOT}/tools/renamed"
     with open(path, "w", encoding="utf-8") as file:
         file.write("".join(f"{line}\n" for line in lines))
@@ -129,13 +134,24 @@ def stamps(found, revision, is_carried):
         kept = kept_stamps(f"{folder}/STAMPS")
     now = sums_of(ROOT)
     held = [it for it in kept if it in before and before[it] == kept[it].sum]
-    others = [it for it in held if now.get(it) != kept[it].sum]
+    keys = {it: renamed_key(found, it, now) for it in held}
+    others = [it for it in held if keys[it] != it or now.get(it) != kept[it].sum]
     print("".join(f"{' '.join(it)}\n" for it in others), end="")
-    same = f"{len(held) - len(others)} hold as they are, {len(others)} have a name in their sum"
+    same = f"{len(held) - len(others)} hold as they are, {len(others)} have another name in their line or their sum"
     print(f"{len(held)} of {len(kept)} stamps held at {revision}: {same}")
     if is_carried:
-        put_stamps({it: Stamp(now[it], kept[it].kit) for it in others if it in now})
+        put_stamps({it: None for it in others if keys[it] != it})
+        put_stamps({keys[it]: Stamp(now[keys[it]], kept[it].kit) for it in others if keys[it] in now})
     return 0
+
+
+def renamed_key(found, key, now):
+    """Returns the key that a stamp has after the renaming, or the same one."""
+    file = moved(f"crates/{key.crate}/edits/{key.path}.edits", found)
+    path = file.removeprefix(f"crates/{key.crate}/edits/").removesuffix(".edits")
+    pairs = {*found.pairs(), *(it for old, new, *_ in found.texts for it in zip(signs(old), signs(new)))}
+    names = [key.function, *(new for old, new in pairs if old == key.function)]
+    return next((it for it in (Key(key.crate, path, name) for name in names) if it in now), key)
 
 
 def sums_of(root):

@@ -24,24 +24,25 @@ def lines_of(path):
 
 
 class Renames:
-    """Lines `OLD NEW`, or `OLD NEW MODULE..` for a name that only these files of specs/ and their users rename."""
+    """Lines `OLD NEW`, or `OLD NEW SCOPE..` for a name that only these files rename: a file of specs/, given as a
+    module, with its users, or a path below crates/, which has a slash."""
 
     def __init__(self, path):
         """Reads a file of renames, which may be absent."""
-        self.new, self.within = {}, collections.defaultdict(dict)
-        for old, new, *modules in map(self.checked, lines_of(path)):
-            for names in [self.within[it] for it in modules] or [self.new]:
+        self.new, self.within, self.below = {}, collections.defaultdict(dict), collections.defaultdict(dict)
+        for old, new, *scopes in map(self.checked, lines_of(path)):
+            for names in [(self.below if "/" in it else self.within)[it] for it in scopes] or [self.new]:
                 if old in names or new in names.values():
                     raise ValueError(f"renamed: '{old} {new}' repeats a name of another line")
                 names[old] = new
 
     def checked(self, words):
-        """Returns the words of a line, if they are a name, its new name and modules."""
+        """Returns the words of a line, if they are a name, its new name, modules and paths."""
         if (
             len(words) < 2
             or words[0] == words[1]
             or not all(re.fullmatch(NAME, it) for it in words[:2])
-            or not all("." in it for it in words[2:])
+            or not all("." in it or "/" in it for it in words[2:])
         ):
             raise ValueError(f"renamed: '{' '.join(words)}' is not a name and its new name")
         return words
@@ -64,7 +65,7 @@ class Renames:
             raise ValueError(f"renamed: '{old} {new}', but {why}: the comparison can't tell the two apart")
 
     def meant_in(self, file, text):
-        """Returns the names that a text uses from modules, or defines as one, with their new names."""
+        """Returns the names that a text uses from modules, or defines as one, or has at a path, with their new names."""
         used = collections.defaultdict(set)
         for path, names in USE.findall(text) if self.within else []:
             used[path.strip(" .")] |= words_of(names)
@@ -72,7 +73,8 @@ class Renames:
             module: names if module == module_of(file) else {it: names[it] for it in names if it in used[module]}
             for module, names in self.within.items()
         }
-        return {old: new for names in here.values() for old, new in names.items()}
+        at = [names for path, names in self.below.items() if file.startswith(path)]
+        return {old: new for names in (*here.values(), *at) for old, new in names.items()}
 
     def applied(self, text, file=""):
         """Returns an earlier text with the new names."""
