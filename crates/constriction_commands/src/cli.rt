@@ -108,7 +108,7 @@ pub fn run<R: Read, O: Write, E: Write>(
 ) -> u8
     ensures ok { result ≡ 0 →
         AppendsAnswer (map string_bytes args.now) (R.remaining input.old) O.contents output.old output.new }
-    ensures quiet { result ≡ 0 → faults.new ≡ faults.old }
+    ensures no_fault { result ≡ 0 → faults.new ≡ faults.old }
     ensures usage { (result ≡ 2) ↔ IsUnknownCommand (map string_bytes args.now) }
     ensures kept { result ≡ 2 → (output.new ≡ output.old) × (input.new ≡ input.old) }
     // Whatever the status, the bytes written are a beginning of the answer.
@@ -145,7 +145,7 @@ pub fn start<R: Read, O: Write, E: Write>(
 ) -> ExitCode
     ensures ok { exit_status result ≡ 0 →
         ProgramAnswers given (R.remaining input.old) O.contents output.old output.new }
-    ensures quiet { exit_status result ≡ 0 → faults.new ≡ faults.old }
+    ensures no_fault { exit_status result ≡ 0 → faults.new ≡ faults.old }
     ensures usage { exit_status result ≡ 2 → IfText given IsUnknownCommand }
     // Without memory for the arguments, the line of that fault replaces the usage line.
     ensures unknown { IfUnknownCommand given (exit_status result ≢ 2 →

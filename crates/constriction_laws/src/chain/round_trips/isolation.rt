@@ -59,7 +59,7 @@ where
     ensures first { C.is_list → IfOk result (λ both. ChainDecodesPairs Word.BITS State.BITS PRECISION M.table
         both.0.items
         models.now coder.old coder.new) }
-    ensures other { C.is_list → IfOk result (λ both. ChainDecodesPairs Word.BITS State.BITS PRECISION L.table
+    ensures second { C.is_list → IfOk result (λ both. ChainDecodesPairs Word.BITS State.BITS PRECISION L.table
         both.1.items
         others.now same.old same.new) }
     ensures reads { IfOk result (λ both. DecodesByReads Word.number C.Holds C.ReadWords.own R.Holds R.WriteWords.own
