@@ -1,4 +1,4 @@
-use Rattle.std.proofs.Common.{◌-◌, ◌/◌, ◌^◌, reverse, drop, length, ap, ◌∙◌}
+use Rattle.std.proofs.Common.{◌-◌, ◌/◌, ◌^◌, reverse, drop, length}
 use Rattle.constriction_symbol.specs.Bits.{bits_of}
 use Rattle.constriction_symbol.proofs.TakenAtOnce.{first_given}
 use Rattle.constriction_symbol.proofs.WordLemmas.{queue_begins_top}
@@ -9,11 +9,10 @@ returns-in-Some g c =
     let n = g.Word.BitArray.number c.reversed_top-bits.result in
     let begun = c.in-Some.ensures in
     let last = c.self.inside.last in
-    let same = c.reversed_top-bits.ensures.kept in
     let code = reverse (bits_of c.in-Some.count (n / 2 ^ (g.Word.BitArray.BITS - c.in-Some.count))) in (
       code,
       begun.is,
       rw (← c.self.view_is)
           (first_given g.Word.BitArray.BITS g.Word.BitArray.number g.B.Holds.is_list g.B.ReadWords.reads g.B.Holds.words c.self.inside.backend code last (drop c.in-Some.count last) c.drop_first.new.self
-          (queue_begins_top last n g.Word.BitArray.BITS c.count.result c.in-Some.count (c.count.ensures.value ∙ ap length same) c.reversed_top-bits.ensures.within begun.part c.reversed_top-bits.ensures.bits) (c.drop_first.ensures ∙ ap (λ bs. drop c.in-Some.count bs) same)),
+          (queue_begins_top last n g.Word.BitArray.BITS c.count.result c.in-Some.count c.count.ensures.value c.reversed_top-bits.ensures.within begun.part c.reversed_top-bits.ensures.bits) c.drop_first.ensures),
     )
