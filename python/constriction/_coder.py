@@ -31,13 +31,26 @@ class Coder:
 
     _lock: Any
     _busy: bool
-    _state: Any
+    #: The state, or a plain tuple with the same items. This saves time in calls with one symbol.
+    _held: Any
+    #: Returns the state from a plain tuple.
+    _named: Any
     #: The memory for calls with one symbol, or None before the first such call.
     _lane: Lane | None
 
     def _begin(self, state: Any) -> None:
         """Initializes the coder with this state."""
-        self._lock, self._busy, self._state, self._lane = RLock(), False, state, None
+        self._lock, self._busy, self._held, self._lane = RLock(), False, state, None
+
+    @property
+    def _state(self) -> Any:
+        """The state. An assignment replaces it."""
+        state = self._held
+        return self._named(state) if type(state) is tuple else state
+
+    @_state.setter
+    def _state(self, state: Any) -> None:
+        self._held = state
 
     def _made_lane(self) -> Lane:
         """Creates the memory for calls with one symbol."""
@@ -56,7 +69,7 @@ class Coder:
             try:
                 self._busy = True
                 state, found = change(self._state)
-                self._state = state
+                self._held = state
                 return found
             finally:
                 self._busy = False
@@ -120,7 +133,7 @@ class Coder:
 
     def _extras(self) -> dict[str, Any]:
         """Returns the attributes that a subclass or a caller added."""
-        return {name: it for name, it in vars(self).items() if name not in ("_lock", "_busy", "_state", "_lane")}
+        return {name: it for name, it in vars(self).items() if name not in ("_lock", "_busy", "_held", "_lane")}
 
     def clone(self: Self) -> Self:
         """Returns a copy. Later calls of one coder don't change the other."""

@@ -6,7 +6,7 @@ import ctypes
 import os
 from collections.abc import Callable
 from ctypes import POINTER, Structure, c_int32, c_size_t, c_uint16, c_uint32, c_uint64, c_void_p
-from functools import partial
+from functools import cache, partial
 from pathlib import Path
 from typing import Any
 
@@ -15,7 +15,7 @@ from .errors import refusal
 
 __all__ = [
     "PATH", "ChainHeads", "RangeDecoderState", "RangeEncoderState", "SmallChainHeads", "SmallRangeDecoderState", "SmallRangeEncoderState",
-    "bound", "call", "plain_function",
+    "bound", "call", "plain_function", "short_function",
 ]  # fmt: skip
 
 
@@ -210,18 +210,28 @@ def _functions() -> dict[str, Any]:
 _FUNCTIONS = _functions()
 
 
-def plain_function(name: str) -> Any:
+def plain_function(name: str, library: ctypes.CDLL = _LIBRARY) -> Any:
     """Returns a C function whose arguments have to be instances of its types. This saves a conversion of each argument.
 
     If the library has no such function, the result is a function that does nothing and returns an error.
     """
     if name not in _FUNCTIONS:
         return lambda *arguments: 1
-    function = _LIBRARY[
+    function = library[
         f"constriction_{name}"
     ]  # An object of its own, without types of arguments. An attribute has them.
     function.restype = c_uint32
     return function
+
+
+#: The same shared object. Calls of its functions hold the interpreter's lock.
+_HELD = ctypes.PyDLL(str(PATH), handle=_LIBRARY._handle)
+
+
+@cache
+def short_function(name: str) -> Any:
+    """Does the same as ``plain_function``, for calls so short that letting go of the interpreter's lock would cost more."""
+    return plain_function(name, _HELD)
 
 
 def bound(name: str) -> Callable[..., None]:

@@ -4,6 +4,8 @@ A model that is used often keeps its sums of weights. So a decode searches for t
 passes three weights: the sum of the weights before it, its own weight, and the sum of the weights after it. An encode
 passes an interval. All other cases go through the functions for lists, which report what is wrong: a symbol that the
 model doesn't have, weights with a wrong sum, or a model of floats with parameters.
+
+The arguments of the C functions are made once. Each call reads the memory to which they point.
 """
 
 from __future__ import annotations
@@ -13,75 +15,106 @@ from bisect import bisect_right
 from collections.abc import Callable
 from ctypes import byref, c_int32, c_int64, c_size_t, c_uint32, c_void_p
 from functools import partial
+from operator import is_
 from typing import Any
 
-from ._buffers import SYMBOL, room
+from ._buffers import SYMBOL
+from ._row import Components, Row, count_as_argument, memory_of, pointer_as_argument
 from ._sizes import LARGE, Size
-from .stream.model._base import COUNTS, ENDS, MIXED, SHARED, UNITS, Model
+from .stream.model._base import COUNTS, ENDS, FLOATS, FORMS, MIXED, ROW, SHARED, UNITS, Model
 
-__all__ = ["Buffer", "Lane", "made", "memory_of"]
+__all__ = ["Lane", "made"]
 
 _Way = Callable[[], int]
 #: Creates an instance of a subclass of ``tuple`` without a call of its ``__new__``.
 made: Any = tuple.__new__
+#: The greatest index of a symbol that fits the C functions' type with a sign. They refuse an index past their table.
+_LAST = (1 << 63) - 1
+#: A coder keeps memory for rows of at most so many widths.
+_MOST_WIDTHS = 8
 
 
 class Lane:
     """The memory for a coder's calls with one symbol. Each coder has one, and the coder's lock protects it."""
 
-    def __init__(
-        self, size: Size, lead: tuple[Any, ...], encode: str, decode: str, behind_decode: tuple[Any, ...] = ()
-    ) -> None:
+    def __init__(self, size: Size, encode: str, decode: str, behind_decode: tuple[Any, ...] = ()) -> None:
         """Creates the memory for words of a size.
 
-        ``lead`` is the state as arguments of the C functions. The names of the functions have a gap for the kind of
-        model.
+        The names of the functions have a gap for the kind of model.
         """
         self.size, self._place, code = size, array(SYMBOL, (0,)), size.code
         self._interval, self._three = array(code, (0, 0)), array(code, (0, 0, 0))
         self._location, self._scale, self._row, self._width = c_int64(), c_uint32(), c_void_p(), c_size_t()
         self._family, self._least, self._greatest, self._model = c_uint32(), c_int32(), c_int32(), None
-        self._weights, self._counts = array(code, (0,)), c_void_p()
+        self._rows: dict[int, Row] = {}
+        self._components: Components | None = None
         self._mixed = c_size_t(), c_void_p(), c_void_p(), c_void_p()
-        one, three, needed = c_size_t(1), c_size_t(3), byref(c_size_t())
-        left, symbol = self._interval.buffer_info()[0], (memory_of(self._place), one)
-        interval = c_void_p(left), one, c_void_p(left + self._interval.itemsize), one
+        one, needed = count_as_argument(1), byref(c_size_t())
+        symbol, left = (memory_of(self._place), one), self._interval.buffer_info()[0]
+        interval = pointer_as_argument(left), one, pointer_as_argument(left + self._interval.itemsize), one
         family = self._family, self._least, self._greatest, byref(self._location), one, byref(self._scale), one
         row = self._row, self._width
         count, weights, locations, scales = self._mixed
         mixture = *family[:3], count, weights, count, locations, count, scales, count
+        models: dict[int, tuple[str, tuple[Any, ...]]] = {
+            UNITS: ("_quantized", family), MIXED: ("_mixture", mixture), COUNTS: ("_counts", (*row, self._width)),
+        }  # fmt: skip
+        models[ROW] = models[SHARED] = models[FLOATS] = "", row
+        three = memory_of(self._three), count_as_argument(3)
+        #: For each form of models the name of the C function, and the arguments after those of the state.
+        self._encodings = {it: (encode.format(kind), (*model, *symbol, needed)) for it, (kind, model) in models.items()}
+        self._decodings = {
+            it: (decode.format(kind), (*model, *symbol, *behind_decode)) for it, (kind, model) in models.items()
+        }
+        self._encodings[ENDS] = encode.format("_intervals"), (*interval, needed)
+        self._decodings[ENDS] = decode.format(""), (*three, *symbol, *behind_decode)
+        #: For each form of models the C function with its arguments, or None before its first call with these words.
+        self._encoders: list[_Way | None] = [None] * len(FORMS)
+        self._decoders: list[_Way | None] = [None] * len(FORMS)
 
-        def bound(name: str, kind: str, *arguments: Any) -> _Way:
-            """Returns a C function with these arguments. Each call reads the arguments' memory."""
-            return partial(size.plain_function(name.format(kind)), *lead, *arguments)
-
-        self._share_out = partial(size.plain_function("weights_of_counts"), self._counts, self._width, *row)
-        self._encode_interval = bound(encode, "_intervals", *interval, needed)
-        self._encode_units = bound(encode, "_quantized", *family, *symbol, needed)
-        self._encode_row = bound(encode, "", *row, *symbol, needed)
-        self._encode_counts = bound(encode, "_counts", *row, self._width, *symbol, needed)
-        self._encode_mixture = bound(encode, "_mixture", *mixture, *symbol, needed)
-        self._decode_three = bound(decode, "", memory_of(self._three), three, *symbol, *behind_decode)
-        self._decode_units = bound(decode, "_quantized", *family, *symbol, *behind_decode)
-        self._decode_row = bound(decode, "", *row, *symbol, *behind_decode)
-        self._decode_counts = bound(decode, "_counts", *row, self._width, *symbol, *behind_decode)
-        self._decode_mixture = bound(decode, "_mixture", *mixture, *symbol, *behind_decode)
-
+    #: The words to which the C functions are bound, or None, and the arguments for the state.
+    _bound: Any = None
+    _lead: tuple[Any, ...] = ()
     #: The state in this memory, or None if it isn't known.
     _kept: Any = None
     #: Whether the next encode, or the next decode, can do without ``load``, because there is room for its word.
     _encodes: int = 0
     _decodes: int = 0
 
+    def lead(self, *words: Any) -> tuple[Any, ...]:
+        """Returns the arguments for a state with these words: memory, and the number of words if no call changes it."""
+        raise NotImplementedError
+
+    def bind(self, *words: Any) -> None:
+        """Binds the C functions to memory with words."""
+        if self._bound is not None and all(map(is_, self._bound, words)):
+            return
+        self._bound = None  # After an interrupt, some functions may be bound to other memory.
+        for ways in (self._encoders, self._decoders):
+            ways[:] = [None] * len(FORMS)
+        self._lead = self.lead(*words)
+        self._bound = words
+
+    def _bind(self, form: int, encodes: bool) -> _Way:
+        """Binds the C function for a form of models to the words, and returns it with its arguments."""
+        ways, (name, rest) = (
+            (self._encoders, self._encodings[form]) if encodes else (self._decoders, self._decodings[form])
+        )
+        way = ways[form] = partial(self.size.short_function(name), *self._lead, *rest)
+        return way
+
     def load(self, state: Any, encodes: bool) -> Any:
-        """Writes a state to this memory, and returns an equal state.
+        """Writes a state, or a plain tuple with the same items, to this memory. Returns an equal state.
 
         An encode, or a decode, then finds room for its word, and the state doesn't depend on the words in this room.
         """
         raise NotImplementedError
 
     def loaded(self, before: Any) -> Any:
-        """Returns the state that is in this memory after a call, and notes whether there is room for the next."""
+        """Returns the state that is in this memory after a call, or a plain tuple with the same items.
+
+        The call notes whether there is room for the next one.
+        """
         raise NotImplementedError
 
     def quantile(self, state: Any) -> int:
@@ -97,44 +130,32 @@ class Lane:
                 coder._busy = True
                 if self.size is not LARGE:
                     model = model.at(self.size)
-                order = None if given else model._often
+                order = model.alone_by(given) if given else model._often or model.alone()
                 if order is None:
-                    order = model.alone(given)
-                    if order is None:
-                        return False
-                kind, first, second = order
+                    return False
+                form, first, second = order
                 place = symbol - model.first
-                if not 0 <= place < (model.size if kind in (UNITS, MIXED) else len(first)):
+                if not 0 <= place < (len(first) - 1 if form == ENDS else _LAST):
                     return False
-                state = coder._state
-                if state is not self._kept or not self._encodes:
-                    state = coder._state = self.load(state, True)
+                state, kept = coder._held, self._kept
                 self._kept = None  # After an interrupt the state in this memory isn't known.
-                if kind == ENDS:
-                    left = first[place - 1] if place else 0
+                if state is not kept or not self._encodes:
+                    state = coder._held = self.load(state, True)
+                if form == ENDS:
                     interval = self._interval
-                    interval[0], interval[1] = left, first[place] - left
-                    refused = self._encode_interval()
+                    left = interval[0] = first[place]
+                    interval[1] = first[place + 1] - left
                 else:
-                    refused = self._encode_by(kind, place, model, first, second)
-                if refused:
+                    self._place[0] = place
+                    if self._take(form, model, first, second):
+                        return False
+                encode = self._encoders[form] or self._bind(form, True)
+                if encode():
                     return False
-                self._kept = coder._state = self.loaded(state)
+                self._kept = coder._held = self.loaded(state)
                 return True
             finally:
                 coder._busy = False
-
-    def _encode_by(self, kind: int, place: int, model: Model, first: Any, second: Any) -> int:
-        """Calls the C function for a location and a scale, or for a row of weights, of counts or of components."""
-        self._place[0] = place
-        if kind == UNITS:
-            self._take_units(model, first, second)
-            return self._encode_units()
-        if kind == MIXED:
-            self._take_components(model, *first)
-            return self._encode_mixture()
-        refused = self._take_row(kind, first)
-        return refused or (self._encode_counts() if kind == COUNTS else self._encode_row())
 
     def decode(self, coder: Any, model: Model, given: tuple[Any, ...]) -> int | None:
         """Decodes the next symbol. Returns None if this isn't possible, and the coder is then unchanged."""
@@ -145,91 +166,70 @@ class Lane:
                 coder._busy = True
                 if self.size is not LARGE:
                     model = model.at(self.size)
-                order = None if given else model._often
+                order = model.alone_by(given) if given else model._often or model.alone()
                 if order is None:
-                    order = model.alone(given)
-                    if order is None:
-                        return None
-                kind, first, second = order
-                state, place = coder._state, 0
-                if state is not self._kept or not self._decodes:
-                    state = coder._state = self.load(state, False)
+                    return None
+                form, first, second = order
+                state, kept, place = coder._held, self._kept, 0
                 self._kept = None  # After an interrupt the state in this memory isn't known.
-                if kind == ENDS:
-                    quantile = self.quantile(state)
-                    if quantile >= first[-1]:
+                if state is not kept or not self._decodes:
+                    state = coder._held = self.load(state, False)
+                if form == ENDS:
+                    place = bisect_right(first, self.quantile(state))
+                    if place == len(first):
                         return None
-                    place = bisect_right(first, quantile)
-                    left, end = first[place - 1] if place else 0, first[place]
-                    three = self._three
+                    three, left, end = self._three, first[place - 1], first[place]
                     three[0], three[1], three[2] = left, end - left, first[-1] - end
-                    refused = self._decode_three()
-                    place -= 1
-                else:
-                    refused = self._decode_by(kind, model, first, second)
-                if refused:
+                    place -= 2
+                elif self._take(form, model, first, second):
+                    return None
+                decode = self._decoders[form] or self._bind(form, False)
+                if decode():
                     return None
                 place += self._place[0] + model.first
-                self._kept = coder._state = self.loaded(state)
+                self._kept = coder._held = self.loaded(state)
                 return place
             finally:
                 coder._busy = False
 
-    def _decode_by(self, kind: int, model: Model, first: Any, second: Any) -> int:
-        """Calls the C function for a location and a scale, or for a row of weights, of counts or of components."""
-        if kind == UNITS:
-            self._take_units(model, first, second)
-            return self._decode_units()
-        if kind == MIXED:
-            self._take_components(model, *first)
-            return self._decode_mixture()
-        refused = self._take_row(kind, first)
-        return refused or (self._decode_counts() if kind == COUNTS else self._decode_row())
-
-    def _take_row(self, kind: int, row: array[int]) -> int:
-        """Takes a row of weights or of counts, or computes weights from counts. Returns the result of the C function."""
-        if kind != SHARED:
-            self._row.value, self._width.value = row.buffer_info()
+    def _take(self, form: int, model: Any, first: Any, second: Any) -> int:
+        """Takes the parameters of a symbol's model. Returns 0, or another number if they are refused."""
+        if form == UNITS:
+            if model is not self._model:
+                self._take_family(model, model)
+            self._location.value, self._scale.value = first, second
             return 0
-        if len(row) > len(self._weights):
-            self._weights = room(self.size.code, len(row), array)
-        self._counts.value, self._width.value = row.buffer_info()
-        self._row.value = self._weights.buffer_info()[0]
-        refused: int = self._share_out()
-        return refused
+        if form == MIXED:
+            return self._take_components(model, first, second)
+        if form == ROW or form == COUNTS:
+            self._row.value, self._width.value = first.buffer_info()
+            return 0
+        width = len(first)
+        row = self._rows.get(width) or self._made_row(width)
+        self._row.value, self._width.value = row.place, width
+        return row.take_floats(first) if form == FLOATS else row.take_counts(first)
+
+    def _made_row(self, width: int) -> Row:
+        if len(self._rows) >= _MOST_WIDTHS:
+            self._rows.clear()
+        row = self._rows[width] = Row(self.size, width)
+        return row
 
     def _take_family(self, model: Any, of: Any) -> None:
-        if model is not self._model:
-            self._family.value, self._least.value = of._family, of._least
-            self._greatest.value, self._model = of._least + of.size - 1, model
+        self._model, greatest = None, of._least + of.size - 1
+        self._family.value, self._least.value, self._greatest.value = of._family, of._least, greatest
+        self._model = model
 
-    def _take_units(self, model: Any, location: int, scale: int) -> None:
-        if model is not self._model:
-            self._take_family(model, model)
-        self._location.value, self._scale.value = location, scale
-
-    def _take_components(self, model: Any, weights: array[int], locations: array[int], scales: array[int]) -> None:
+    def _take_components(self, model: Any, numbers: list[int], width: int) -> int:
+        """Takes components. Returns 1 if a number doesn't fit its type, and otherwise 0."""
         if model is not self._model:
             self._take_family(model, model._components)
-        count, at_weights, at_locations, at_scales = self._mixed
-        at_weights.value, count.value = weights.buffer_info()
-        at_locations.value, at_scales.value = locations.buffer_info()[0], scales.buffer_info()[0]
-
-
-class Buffer:
-    """The address of a buffer of words, and the number of words for which it has room, as arguments."""
-
-    def __init__(self) -> None:
-        self.address, self.capacity = c_void_p(), c_size_t()
-        self._memory: Any = None
-
-    def take(self, memory: Any) -> None:
-        """Stores the address of ``memory``. The memory doesn't move while it exists, because no code makes it longer."""
-        if memory is not self._memory:
-            self.address.value = memory.buffer_info()[0] if isinstance(memory, array) else memory.ctypes.data
-            self.capacity.value, self._memory = len(memory), memory
-
-
-def memory_of(numbers: array[int]) -> c_void_p:
-    """Returns the address of these numbers as an argument. The numbers have to exist as long as the argument."""
-    return c_void_p(numbers.buffer_info()[0])
+        components = self._components
+        if components is None or components.width != width:
+            self._components, components = None, Components(width)
+            count, *places = self._mixed
+            count.value = width
+            for place, found in zip(places, components.places):
+                place.value = found
+            self._components = components
+        return components.take(numbers)

@@ -7,7 +7,7 @@ from typing import Any
 
 from ._library import (
     ChainHeads, RangeDecoderState, RangeEncoderState, SmallChainHeads, SmallRangeDecoderState, SmallRangeEncoderState, bound, call,
-    plain_function,
+    short_function,
 )  # fmt: skip
 
 __all__ = ["LARGE", "SMALL", "Size"]
@@ -36,9 +36,9 @@ class Size:
         """Calls the C function ``name`` of this size, and raises the exception of its result."""
         call(name + self.end, *arguments, texts=texts)
 
-    def plain_function(self, name: str) -> Any:
-        """Returns the C function ``name`` of this size. Its arguments have to be instances of its types."""
-        return plain_function(name + self.end)
+    def short_function(self, name: str) -> Any:
+        """Returns the C function ``name`` of this size for short calls. Its arguments have to be instances of its types."""
+        return short_function(name + self.end)
 
 
 LARGE = Size(32, 24, "I", c_uint64, RangeEncoderState, RangeDecoderState, ChainHeads)

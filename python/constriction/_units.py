@@ -7,13 +7,13 @@ from collections.abc import Callable, Iterable
 from math import frexp, inf, isfinite, isnan, ldexp, nan
 from typing import Any
 
-from ._buffers import NUMBER, SYMBOL, WORD, numpy_module, room
+from ._buffers import NUMBER, SYMBOL, WORD, is_array, numpy_module, room
 from ._numbers import doubles, real
 from ._sizes import Size
 from .errors import WrongWeightsError, shown
 
 __all__ = [
-    "FARTHEST", "MOST_WEIGHT", "NARROWEST", "SHARES", "UNITS_OF_ONE", "WIDEST", "component_weights_of", "counts_of", "counts_of_row",
+    "COUNT_BITS", "FARTHEST", "GREATEST_SHIFT", "MOST_WEIGHT", "NARROWEST", "SHARES", "UNITS_OF_ONE", "WHOLE", "WIDEST", "component_weights_of", "counts_of", "counts_of_row",
     "counts_of_rows", "counts_of_wholes", "fault_of", "halved", "locations_of", "moved", "parts_of", "scales_of", "unit_of", "units_of", "wrong_row",
 ]  # fmt: skip
 
@@ -27,14 +27,16 @@ NARROWEST, WIDEST, TOO_WIDE = 1 / UNITS_OF_ONE, 65536.0 - 1 / UNITS_OF_ONE, 6553
 SHARES, _MOST_SHARES = 2.0**31, 2.0
 MOST_WEIGHT = _MOST_SHARES - 1 / SHARES
 #: The number of bits in the count of the greatest probability of a list.
-_COUNT_BITS = 62
+COUNT_BITS = 62
 
 
 #: For lists that aren't longer than this, Python's own functions are faster than those of numpy.
 _FEW = 32
 _FLOAT = frozenset((float,))
 #: Floats from this one upwards are whole.
-_WHOLE = 2.0**52
+WHOLE = 2.0**52
+#: Shifts up to this one are exponents of a float.
+GREATEST_SHIFT = 999
 #: The least float of a list, and the greatest float.
 Ends = tuple[float, float]
 
@@ -113,30 +115,37 @@ def unit_of(number: Any, origin: float, least: float, greatest: float) -> int | 
     Returns None for a float outside the bounds, and for a list, unless it is a list of one float.
     """
     if type(number) is not float:
-        if hasattr(number, "__len__"):
-            number = _only(number)
+        if is_array(number) and number.size == 1 and number.ndim < 2:
+            number = number.item()
+        elif isinstance(number, float):
+            number = float(number)
         if type(number) is not float:
-            if not hasattr(number, "__float__") and type(number) is not int:
+            number = _only(number)
+            if number is None:
                 return None
-            number = real(number)
     number -= origin
     return round(number * UNITS_OF_ONE) if least <= number <= greatest else None
 
 
-def _only(numbers: Any) -> Any:
-    """Returns the number of a list of one number. Returns None for other lists."""
-    dimensions = getattr(numbers, "ndim", None)
-    if dimensions is not None and hasattr(numbers, "item"):
-        return numbers.item() if dimensions == 0 or dimensions == 1 and len(numbers) == 1 else None
-    number = numbers[0] if isinstance(numbers, (list, tuple, array)) and len(numbers) == 1 else None
-    return None if hasattr(number, "__len__") else number
+def _only(numbers: Any) -> float | None:
+    """Returns a number, or the number of a list of one number, as a float. Returns None for other lists and objects."""
+    number = numbers
+    if hasattr(numbers, "__len__"):
+        dimensions = getattr(numbers, "ndim", None)
+        if dimensions is not None and hasattr(numbers, "item"):
+            number = numbers.item() if dimensions == 0 or dimensions == 1 and len(numbers) == 1 else None
+        else:
+            number = numbers[0] if isinstance(numbers, (list, tuple, array)) and len(numbers) == 1 else None
+        if hasattr(number, "__len__"):
+            return None
+    return real(number) if type(number) is int or hasattr(number, "__float__") else None
 
 
-def units_of(code: str, floats: Any, unit: float, origin: float = 0.0) -> array[int] | None:
+def units_of(floats: Any, unit: float, origin: float = 0.0) -> list[int] | None:
     """Returns a few floats minus ``origin``, in units, rounded like ``locations_of``, ``scales_of`` and the like.
 
-    Returns None if one doesn't fit the type ``code``, or isn't a plain number. The result doesn't have the limits of those
-    functions. A C function refuses a scale of 0, and takes locations past their limit for the limit.
+    Returns None if one isn't finite, or isn't a plain number. The result doesn't have the limits of those functions. A C
+    function refuses a scale of 0, and takes locations past their limit for the limit.
     """
     kind = type(floats)
     if kind is not list and kind is not tuple:
@@ -146,9 +155,7 @@ def units_of(code: str, floats: Any, unit: float, origin: float = 0.0) -> array[
     try:
         if origin:
             floats = [it - origin for it in floats]
-        if code == WORD and min(floats) < 0:
-            return None  # It may be rounded to 0.
-        return array(code, [round(it * unit) for it in floats])
+        return [round(it * unit) for it in floats]
     except (TypeError, ValueError, OverflowError):
         return None
 
@@ -228,15 +235,15 @@ def counts_of_row(row: Any) -> array[int] | None:
         total = greatest
     else:
         return None
-    shift = _COUNT_BITS - frexp(greatest)[1]
-    if not (least >= 0 and 0 < greatest and total < inf and shift < 1000):  # The comparisons fail for NaN.
+    shift = COUNT_BITS - frexp(greatest)[1]
+    if not (least >= 0 and 0 < greatest and total < inf and shift <= GREATEST_SHIFT):  # The comparisons fail for NaN.
         return None
     unit = 2.0**shift
     if type(row) is list:
         nearest: Callable[[float], int] = round
         return array("Q", [nearest(it * unit) or 1 for it in row])
     table = numpy.multiply(row, unit)
-    if least * unit < _WHOLE:
+    if least * unit < WHOLE:
         numpy.maximum(numpy.rint(table, table), 1.0, table)
     return array("Q", table.astype(numpy.uint64).tobytes())
 
@@ -252,7 +259,7 @@ def counts_of(probabilities: Any) -> array[int]:
         raise fault_of("probability", probabilities, lambda it: 0 <= it < inf, "that is at least 0 and finite")
     if not len(probabilities) or not greatest:
         raise ValueError("expected a probability above 0, got none")
-    shift = _COUNT_BITS - frexp(greatest)[1]
+    shift = COUNT_BITS - frexp(greatest)[1]
     numpy = _numpy_for(probabilities)
     if numpy is not None:
         counts = room("Q", len(probabilities))
@@ -273,7 +280,7 @@ def counts_of_rows(table: Any) -> array[int] | None:
     greatest = rows.max(axis=1)
     if not (numpy.isfinite(rows).all() and rows.min() >= 0 and greatest.min() > 0):
         return None
-    shifts = _COUNT_BITS - numpy.frexp(greatest)[1]
+    shifts = COUNT_BITS - numpy.frexp(greatest)[1]
     rows = numpy.rint(numpy.ldexp(rows, shifts[:, None]))
     counts = room("Q", rows.size)
     numpy.copyto(numpy.frombuffer(counts, dtype="uint64"), numpy.maximum(rows, 1.0, out=rows).ravel(), casting="unsafe")
@@ -291,7 +298,7 @@ def _counts_of_table(table: Any) -> array[int] | None:
     counts = room("Q", table.size)
     seen = numpy.frombuffer(counts, dtype="uint64")
     numpy.copyto(seen, table, casting="unsafe")
-    numpy.left_shift(seen, numpy.uint64(max(_COUNT_BITS - bits, 0)), out=seen)
+    numpy.left_shift(seen, numpy.uint64(max(COUNT_BITS - bits, 0)), out=seen)
     numpy.maximum(seen, numpy.uint64(1), out=seen)
     return counts
 
@@ -311,9 +318,9 @@ def counts_of_wholes(counts: Any) -> array[int]:
     if not bits:
         raise ValueError("expected a probability above 0, got none")
     if bits > 64:
-        down = bits - _COUNT_BITS
+        down = bits - COUNT_BITS
         return array("Q", [halved(count, down) or 1 for count in counts])
-    up = max(_COUNT_BITS - bits, 0)
+    up = max(COUNT_BITS - bits, 0)
     return array("Q", [count << up or 1 for count in counts])
 
 

@@ -721,6 +721,39 @@ class SmallWhole(Whole):
         self.addCleanup(by.at_size, 32, 24)
 
 
+class BetweenModels(unittest.TestCase):
+    """Calls with one symbol under several models. They use memory of the coder that keeps a model's numbers."""
+
+    def test_an_interrupt(self) -> None:
+        """After a call under another model that is interrupted at one of its events, a model has its own words."""
+        one, other = QuantizedGaussian(-9, 9), QuantizedLaplace(-300, 300)
+        mixed, parts = QuantizedMixture(QuantizedLogistic(-50, 70)), ([0.25, 0.75], [1.0, 9.0], [2.0, 0.5])
+        calls: list[Change] = [
+            lambda it: it.encode_reverse(4, one, 0.5, 3.0), lambda it: it.encode_reverse(4, other, 7.0, 2.0), lambda it: it.encode_reverse(4, mixed, *parts),
+            lambda it: it.encode_reverse(1, WeightTable(), [1 << 22] * 4), lambda it: it.encode_reverse(1, Categorical(), [3, 1]),
+            lambda it: it.encode_reverse(4, mixed, *(it * 2 for it in parts)),
+        ]  # fmt: skip
+        for first in calls:
+            for second in calls:
+                made = AnsCoder()
+                first(made)
+                for place in range(1, events(lambda: second(made)) + 9):
+                    self.interrupt(first, second, place)
+
+    def interrupt(self, first: Change, second: Change, place: int) -> None:
+        """Makes three calls of a coder, and interrupts the second one. Compares the coder with one that makes whole calls."""
+        coder, wanted = AnsCoder(), AnsCoder()
+        first(coder), first(wanted)
+        try:
+            interrupted(lambda: second(coder), place)
+        except Interrupt:
+            pass
+        if coder != wanted:
+            second(wanted)
+        first(coder), first(wanted)
+        self.assertEqual(coder, wanted)
+
+
 @unittest.skipUnless(hasattr(signal, "setitimer"), "the system has no timer for a process")
 class Signals(unittest.TestCase):
     """Calls that handlers of real signals interrupt."""
@@ -778,15 +811,15 @@ class Signals(unittest.TestCase):
         signal.signal(signal.SIGALRM, handler)
         try:
             for i in range(4000):
-                original = coder._lane._encode_interval if coder._lane else None
+                original = coder._lane.loaded if coder._lane else None
 
-                def step() -> int:
-                    code: int = original()  # type: ignore[misc]
+                def step(before: Any) -> Any:
+                    """Raises the signal after the C function, and before the coder gets the new state."""
                     signal.raise_signal(signal.SIGALRM)
-                    return code
+                    return original(before)  # type: ignore[misc]
 
                 if coder._lane and model._often:
-                    with mock.patch.object(coder._lane, "_encode_interval", step):
+                    with mock.patch.object(coder._lane, "loaded", step):
                         coder.encode_reverse(i % 300, model)
                 else:
                     coder.encode_reverse(i % 300, model)

@@ -11,7 +11,8 @@ from .._coder import Coder
 from .._answers import AS_USUAL, Wanted
 from .._coding import decoded, encoded
 from .._sizes import LARGE, SMALL, Size
-from .._single import Buffer, Lane
+from .._row import lent_for_good
+from .._single import Lane
 from .._words import Words, copied, packed, unpacked
 from .model import Categorical, Model, QuantizedMixture, WeightTable
 
@@ -58,36 +59,42 @@ def _next_bits(state: _State, size: Size) -> int | None:
     return bits
 
 
+def _room(compressed: Words, remainders: Words) -> int:
+    """Returns the number of words for which each of the two stacks has room."""
+    return min(len(it.memory) - it.length for it in (compressed, remainders))
+
+
 class _Lane(Lane):
     def __init__(self, size: Size) -> None:
-        self._heads, self._below, self._above = size.heads(), Buffer(), Buffer()
-        self._lengths = c_size_t(), c_size_t()
-        below = self._below.address, self._below.capacity, byref(self._lengths[0])
-        above = self._above.address, self._above.capacity, byref(self._lengths[1])
-        lead = byref(self._heads), *below, *above
-        super().__init__(size, lead, "chain_encode{}_reverse", "chain_decode{}", (byref(c_size_t()),))
+        super().__init__(size, "chain_encode{}_reverse", "chain_decode{}", (byref(c_size_t()),))
+        self._heads, self._lengths = size.heads(), (c_size_t(), c_size_t())
 
-    def load(self, state: _State, encodes: bool) -> _State:
+    def lead(self, *words: Any) -> tuple[Any, ...]:
+        below, above = ((*lent_for_good(it), byref(length)) for it, length in zip(words, self._lengths))
+        return byref(self._heads), *below, *above
+
+    def load(self, state: Any, encodes: bool) -> _State:
         """Writes a state to this memory, and returns the state.
 
         Each stack gets room for one more word, because a decode or an encode moves at most one word.
         """
-        compressed, remainders = state.compressed.reserve(1), state.remainders.reserve(1)
-        self._below.take(compressed.memory)
-        self._above.take(remainders.memory)
+        compressed, remainders, heads = state[0].reserve(1), state[1].reserve(1), state[2]
+        self.bind(compressed.memory, remainders.memory)
         self._lengths[0].value, self._lengths[1].value = compressed.length, remainders.length
-        self._heads.remainders, self._heads.compressed = state.heads
-        self._encodes = self._decodes = min(len(it.memory) - it.length for it in (compressed, remainders))
-        return _State(compressed, remainders, state.heads)
+        self._heads.remainders, self._heads.compressed = heads
+        self._encodes = self._decodes = _room(compressed, remainders)
+        return _State(compressed, remainders, heads)
 
-    def loaded(self, before: _State) -> _State:
-        below, above = (it.value for it in self._lengths)
-        heads = self._heads.remainders, self._heads.compressed
-        self._encodes = self._decodes = self._encodes - 1
-        return _State(Words(before.compressed.memory, below), Words(before.remainders.memory, above), heads)
+    def loaded(self, before: Any) -> Any:
+        compressed, remainders, _ = before
+        below, above = self._lengths[0].value, self._lengths[1].value
+        if below != compressed[1] or above != remainders[1]:
+            compressed, remainders = Words(compressed[0], below), Words(remainders[0], above)
+            self._encodes = self._decodes = _room(compressed, remainders)
+        return compressed, remainders, (self._heads.remainders, self._heads.compressed)
 
-    def quantile(self, state: _State) -> int:
-        bits = _next_bits(state, self.size)
+    def quantile(self, state: Any) -> int:
+        bits = _next_bits(_State._make(state), self.size)
         return self.size.total if bits is None else bits & self.size.total - 1
 
 
@@ -106,7 +113,7 @@ class ChainCoder(Coder):
     True
     """
 
-    _size = LARGE
+    _size, _named = LARGE, _State._make
 
     def __init__(self, data: List, is_remainders: bool = False, seal: bool = False) -> None:
         """Imports a coder from ``data``, a list of words. The coder copies the words.

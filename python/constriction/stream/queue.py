@@ -13,7 +13,8 @@ from .._answers import AS_USUAL, Wanted
 from .._coding import decoded, encoded
 from .._numbers import whole
 from .._sizes import LARGE, SMALL, Size
-from .._single import Buffer, Lane, made, memory_of
+from .._row import count_as_argument, lent_for_good
+from .._single import Lane, made
 from .._words import Words, bytes_of, copied, packed, unpacked, words_from
 from .model import Categorical, Model, QuantizedMixture, WeightTable
 
@@ -56,49 +57,53 @@ def _reading(words: Words, it: Any) -> _Reading:
 
 class _WritingLane(Lane):
     def __init__(self, size: Size) -> None:
-        self._words, self._state, self._length = Buffer(), size.encoder(), c_size_t()
-        lead = byref(self._state), self._words.address, self._words.capacity, byref(self._length)
-        super().__init__(size, lead, "range_encode{}", "")
+        super().__init__(size, "range_encode{}", "")
+        self._state, self._length = size.encoder(), c_size_t()
 
-    def load(self, state: _Writing, encodes: bool) -> _Writing:
-        numbers, it = state.numbers, self._state
-        words = state.words.reserve(numbers[2] + 1)
-        if words is not state.words:
-            state = _Writing(words, numbers)
-        self._words.take(words.memory)
+    def lead(self, *words: Any) -> tuple[Any, ...]:
+        return byref(self._state), *lent_for_good(*words), byref(self._length)
+
+    def load(self, state: Any, encodes: bool) -> _Writing:
+        (words, numbers), it = state, self._state
+        words = words.reserve(numbers[2] + 1)
+        self.bind(words.memory)
         it.lower, it.range, it.held, it.first = numbers
         self._length.value, self._encodes = words.length, len(words.memory) - words.length - numbers[2]
-        return state
+        return _Writing(words, numbers)
 
-    def loaded(self, before: _Writing) -> _Writing:
+    def loaded(self, before: Any) -> Any:
         words, length, it = before[0], self._length.value, self._state
-        self._encodes -= 1
-        if length != words[1]:
+        numbers = it.lower, it.range, it.held, it.first
+        if length != words[1] or numbers[2] != before[1][2]:
+            self._encodes = len(words[0]) - length - numbers[2]
             words = made(Words, (words[0], length))
-        return made(_Writing, (words, (it.lower, it.range, it.held, it.first)))  # type: ignore[no-any-return]
+        return words, numbers
 
 
 class _ReadingLane(Lane):
     def __init__(self, size: Size) -> None:
-        self._words, self._length, self._state = Buffer(), c_size_t(), size.decoder()
-        super().__init__(size, (byref(self._state), self._words.address, self._length), "", "range_decode{}")
-        self._all_bits, self._precision = size.greatest, size.precision
+        super().__init__(size, "", "range_decode{}")
+        self._state, self._all_bits, self._precision = size.decoder(), size.greatest, size.precision
 
-    def load(self, state: _Reading, encodes: bool) -> _Reading:
+    def lead(self, *words: Any) -> tuple[Any, ...]:
+        memory, length = words
+        return byref(self._state), lent_for_good(memory)[0], count_as_argument(length)
+
+    def load(self, state: Any, encodes: bool) -> Any:
         words, numbers = state
-        self._words.take(words.memory)
+        self.bind(*words)
         it = self._state
         it.lower, it.range, it.point, it.pos = numbers
-        self._length.value, self._decodes = words.length, True  # A decoder writes no words.
+        self._decodes = True  # A decoder writes no words.
         return state
 
-    def loaded(self, before: _Reading) -> _Reading:
+    def loaded(self, before: Any) -> Any:
         it = self._state
-        return made(_Reading, (before[0], (it.lower, it.range, it.point, it.pos)))  # type: ignore[no-any-return]
+        return before[0], (it.lower, it.range, it.point, it.pos)
 
-    def quantile(self, state: _Reading) -> int:
-        lower, length, point, _ = state.numbers
-        return ((point - lower) & self._all_bits) // (length >> self._precision)
+    def quantile(self, state: Any) -> int:
+        lower, length, point, _ = state[1]
+        return ((point - lower) & self._all_bits) // (length >> self._precision)  # type: ignore[no-any-return]
 
 
 class RangeEncoder(Coder):
@@ -112,7 +117,7 @@ class RangeEncoder(Coder):
     (181, [164, 170, 193])
     """
 
-    _size = LARGE
+    _size, _named = LARGE, _Writing._make
 
     def __init__(self) -> None:
         """Creates an encoder that has encoded no symbols."""
@@ -227,7 +232,7 @@ class RangeDecoder(Coder):
     1
     """
 
-    _size = LARGE
+    _size, _named = LARGE, _Reading._make
 
     def __init__(self, compressed: List) -> None:
         """Creates a decoder at the beginning of ``compressed``. The decoder copies the words."""

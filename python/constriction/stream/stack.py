@@ -13,7 +13,8 @@ from .._answers import AS_USUAL, Wanted
 from .._coding import decoded, encoded
 from .._numbers import whole
 from .._sizes import LARGE, SMALL, Size
-from .._single import Buffer, Lane, made, memory_of
+from .._row import lent_for_good, memory_of
+from .._single import Lane, made
 from .._words import Words, bytes_of, copied, packed, unpacked, words_from
 from .model import Categorical, Model, QuantizedMixture, WeightTable
 
@@ -70,37 +71,39 @@ def _behind(before: _State, words: Words, length: int, head: int) -> _State:
 
 class _Lane(Lane):
     def __init__(self, size: Size) -> None:
-        self._words, self._head, self._length = Buffer(), array(size.code_of_states, (0,)), c_size_t()
-        lead = memory_of(self._head), self._words.address, self._words.capacity, byref(self._length)
-        super().__init__(size, lead, "ans_encode{}_reverse", "ans_decode{}")
-        self._mask = size.total - 1
+        super().__init__(size, "ans_encode{}_reverse", "ans_decode{}")
+        self._head, self._length, self._mask = array(size.code_of_states, (0,)), c_size_t(), size.total - 1
 
-    def load(self, state: _State, encodes: bool) -> _State:
+    def lead(self, *words: Any) -> tuple[Any, ...]:
+        return memory_of(self._head), *lent_for_good(*words), byref(self._length)
+
+    def load(self, state: Any, encodes: bool) -> Any:
+        state = _State._make(state)
         if encodes:
             state = _writable(state, 1)
             words = state.words.reserve(1, state.top)
             if words is not state.words:
                 state = state._replace(words=words)
         memory, length = state.words
-        self._words.take(memory)
+        self.bind(memory)
         self._head[0], self._length.value = state.head, length
         self._encodes, self._decodes = encodes, True
         return state
 
-    def loaded(self, before: _State) -> _State:
+    def loaded(self, before: Any) -> Any:
         words, _, top, saved = before
-        memory, old = words
-        length = self._length.value
+        length, old = self._length.value, words[1]
         if length != old:
+            memory = words[0]
             words = made(Words, (memory, length))
             if length < old:
                 self._encodes = False  # The word that was taken off is ahead, so ``load`` comes before the next encode.
             else:
                 top, saved, self._encodes = length, None, length < len(memory)
-        return made(_State, (words, self._head[0], top, saved))  # type: ignore[no-any-return]
+        return words, self._head[0], top, saved
 
-    def quantile(self, state: _State) -> int:
-        return state[1] & self._mask
+    def quantile(self, state: Any) -> int:
+        return state[1] & self._mask  # type: ignore[no-any-return]
 
 
 class AnsCoder(Coder):
@@ -115,7 +118,7 @@ class AnsCoder(Coder):
     181
     """
 
-    _size = LARGE
+    _size, _named = LARGE, _State._make
 
     def __init__(self, compressed: List | None = None, seal: bool = False) -> None:
         """Creates an empty coder, or imports a coder from ``compressed``: words that ``get_compressed`` returned.
@@ -165,7 +168,7 @@ class AnsCoder(Coder):
 
     def _ready(self, state: _State, count: int) -> _State:
         """Replaces the state by an equal one before an encode of ``count`` symbols writes over words ahead."""
-        self._state = state = _writable(state, count)
+        self._held = state = _writable(state, count)
         return state
 
     @overload

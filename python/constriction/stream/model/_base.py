@@ -18,6 +18,8 @@ __all__ = [
     "COUNTS",
     "ENDS",
     "FALLS",
+    "FLOATS",
+    "FORMS",
     "MIXED",
     "ROW",
     "SHARED",
@@ -33,9 +35,11 @@ __all__ = [
     "spread",
 ]
 
-#: The forms of the model of a single symbol: the ends of the intervals, a location and a scale, a row of weights, a row
-#: of components, a row of counts, or a row of counts from which a C function first computes weights.
-ENDS, UNITS, ROW, MIXED, COUNTS, SHARED = range(6)
+#: The forms of the model of a single symbol: 0 and the ends of the intervals, a location and a scale, a row of weights,
+#: the numbers of components and how many these are, or a row of counts. A C function first computes weights from a row of
+#: counts, or from a numpy array of floats, in the last two forms.
+FORMS = range(7)
+ENDS, UNITS, ROW, MIXED, COUNTS, SHARED, FLOATS = FORMS
 #: After ``_SELDOM`` calls with one symbol, a model of at most ``_MOST_ENDS`` symbols keeps its sums of weights.
 #: Before that, a model of at most ``_FEW_WEIGHTS`` symbols passes all weights.
 _SELDOM, _MOST_ENDS, _FEW_WEIGHTS = 2, 1 << 16, 64
@@ -99,6 +103,7 @@ class Model:
 
     #: The number of symbols, if it is known without a table.
     _count: int | None = None
+    #: The form of a model that is used often, for a call with one symbol and no parameters.
     _often: tuple[int, Any, Any] | None = None
     _uses = 0
     #: The same model for words of the other size, or None before its first use.
@@ -203,22 +208,20 @@ class Model:
             self._fixed = self._weights(())
         return self._fixed
 
-    def alone(self, given: tuple[Any, ...]) -> tuple[int, Any, Any] | None:
-        """Returns the model's form for a call with one symbol, or None if the symbol has to be passed as a list."""
-        if given:
-            return self._alone_by(given)
-        return self._often or self._first_uses()
+    def alone_by(self, given: tuple[Any, ...]) -> tuple[int, Any, Any] | None:
+        """Returns the model's form for a call with one symbol and these parameters.
 
-    def _alone_by(self, given: tuple[Any, ...]) -> tuple[int, Any, Any] | None:
-        """Does the same as ``alone``, with these parameters."""
+        Returns None if the symbol has to be passed as a list.
+        """
         return None
 
     def _seldom(self) -> tuple[int, Any, Any] | None:
-        """Does the same as ``alone``, for the first two calls with one symbol."""
+        """Does the same as ``alone``, for the first two calls."""
         table = self.table()
         return (ROW, table, None) if len(table) <= _FEW_WEIGHTS else None
 
-    def _first_uses(self) -> tuple[int, Any, Any] | None:
+    def alone(self) -> tuple[int, Any, Any] | None:
+        """Does the same as ``alone_by`` without parameters, until the model is used often."""
         if self.missing:
             return None
         if self._uses < _SELDOM:
@@ -227,7 +230,7 @@ class Model:
         table = self.table()
         if len(table) > _MOST_ENDS or sum(table) != self.words.total:
             return None
-        self._often = ENDS, list(accumulate(table)), None
+        self._often = ENDS, list(accumulate(table, initial=0)), None
         return self._often
 
     def _known(self, given: Sequence[Any]) -> None:

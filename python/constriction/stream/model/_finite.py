@@ -53,7 +53,7 @@ class Bernoulli(Rows):
     def _said(self) -> str:
         return "" if self._fixed is None else repr(self._fixed[1] / self.words.total)
 
-    def _alone_by(self, given: tuple[Any, ...]) -> tuple[int, Any, Any] | None:
+    def alone_by(self, given: tuple[Any, ...]) -> tuple[int, Any, Any] | None:
         if len(given) != 1 or not self.missing or not is_one(given[0]):
             return None
         one = parts_of(array(NUMBER, (real(given[0]),)), self.words)[0]

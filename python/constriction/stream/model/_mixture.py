@@ -6,7 +6,7 @@ from array import array
 from collections.abc import Sequence
 from typing import Any, NamedTuple
 
-from ..._buffers import SYMBOL, WORD, lent
+from ..._buffers import lent
 from ..._numbers import grid_of
 from ..._units import SHARES, UNITS_OF_ONE, component_weights_of, locations_of, moved, scales_of, units_of, wrong_row
 from ...errors import Refusal, WrongLengthError, WrongWeightsError
@@ -88,15 +88,18 @@ class QuantizedMixture(Model):
         kind, of = type(self._components).__name__, self._components
         return f"{kind}({shown_range(of.first, of.size)})"
 
-    def _alone_by(self, given: tuple[Any, ...]) -> tuple[int, Any, Any] | None:
+    def alone_by(self, given: tuple[Any, ...]) -> tuple[int, Any, Any] | None:
         if len(given) != 3:
             return None
-        weights = units_of(WORD, given[0], SHARES)
-        locations = units_of(SYMBOL, given[1], UNITS_OF_ONE, self._components._origin)
-        scales = units_of(WORD, given[2], UNITS_OF_ONE)
+        weights = units_of(given[0], SHARES)
+        locations = units_of(given[1], UNITS_OF_ONE, self._components._origin)
+        scales = units_of(given[2], UNITS_OF_ONE)
         if not weights or locations is None or scales is None or not len(weights) == len(locations) == len(scales):
             return None
-        return MIXED, (weights, locations, scales), None
+        least = min(weights)
+        if least < 0 or not least and min(given[0]) < 0:
+            return None
+        return MIXED, weights + locations + scales, len(weights)
 
     def explained(self, refused: Refusal, given: Sequence[Any]) -> Refusal:
         """Returns the exception with a text that names the symbol whose weights have a wrong sum."""

@@ -89,7 +89,7 @@ class _Quantized(Model):
             else super()._seldom()
         )
 
-    def _alone_by(self, given: tuple[Any, ...]) -> tuple[int, Any, Any] | None:
+    def alone_by(self, given: tuple[Any, ...]) -> tuple[int, Any, Any] | None:
         """Returns a location and a scale in units.
 
         Returns None if one isn't a plain number, or isn't within the bounds.

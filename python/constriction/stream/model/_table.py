@@ -7,7 +7,7 @@ from collections.abc import Iterator, Sequence
 from operator import index
 from typing import Any
 
-from ..._buffers import List, Reals, room
+from ..._buffers import List, Reals, is_array, room
 from ..._numbers import (
     as_numpy,
     is_one,
@@ -24,10 +24,11 @@ from ..._numbers import (
 from ..._quick import (
     quick_counts_of, quick_counts_of_row, quick_counts_of_rows, quick_counts_of_wholes, quick_weights,
 )  # fmt: skip
+from ..._row import MOST_FLOATS
 from ..._units import counts_of, counts_of_row, counts_of_rows, counts_of_wholes
 from ..._sizes import LARGE, SMALL, Size
 from ...errors import WrongWeightsError, wrong_weights
-from ._base import COUNTS, ROW, SHARED, Model, sized
+from ._base import COUNTS, FLOATS, ROW, SHARED, Model, sized
 
 __all__ = ["ROWS_AT_A_TIME", "Categorical", "Rows", "WeightTable"]
 
@@ -59,7 +60,7 @@ class Rows(Model):
         """Returns the weights that a list of parameters stands for."""
         raise NotImplementedError
 
-    def _alone_by(self, given: tuple[Any, ...]) -> tuple[int, Any, Any] | None:
+    def alone_by(self, given: tuple[Any, ...]) -> tuple[int, Any, Any] | None:
         if len(given) != 1 or not self.missing or not is_row(given[0]):
             return None
         row = self._row(given[0])
@@ -128,10 +129,10 @@ class WeightTable(Rows):
             self._fixed = self._row(weights)
 
     def _row(self, numbers: Any) -> array[int]:
-        if type(numbers) is list and _INT.issuperset(map(type, numbers)):
+        if type(numbers) is list:
             try:
                 return array(self.words.code, numbers)
-            except OverflowError:
+            except (TypeError, OverflowError):
                 pass  # `words_of` raises an exception that names the weight.
         return words_of(numbers, "weight", WrongWeightsError, self.words.code)
 
@@ -246,10 +247,16 @@ class Categorical(Rows):
     def _nothing(self) -> array[int]:
         return array("I") if self._form == COUNTS else super()._nothing()
 
-    def _alone_by(self, given: tuple[Any, ...]) -> tuple[int, Any, Any] | None:
-        if len(given) != 1 or not self.missing or not is_row(given[0]):
+    def alone_by(self, given: tuple[Any, ...]) -> tuple[int, Any, Any] | None:
+        if len(given) != 1 or not self.missing:
             return None
-        return COUNTS if self._form == COUNTS else SHARED, self._counted(given[0]), None
+        row = given[0]
+        if is_array(row) and self._form != COUNTS and row.ndim == 1 and 0 < len(row) <= MOST_FLOATS:
+            if row.dtype.char in "df":
+                return FLOATS, row, None
+        if not is_row(row):
+            return None
+        return COUNTS if self._form == COUNTS else SHARED, self._counted(row), None
 
     def _counted(self, numbers: Any) -> array[int]:
         """Returns the counts that probabilities or counts stand for."""

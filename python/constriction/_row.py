@@ -1,0 +1,115 @@
+"""Memory for the parameters of a call with one symbol: a row of counts with its weights, or the components of a mixture."""
+
+from __future__ import annotations
+
+from array import array
+from ctypes import c_size_t, c_void_p
+from functools import partial
+from math import frexp, inf, ldexp
+from struct import Struct
+from struct import error as OutOfRange
+from typing import Any
+
+from ._buffers import numpy_module, room
+from ._sizes import Size
+from ._units import COUNT_BITS, GREATEST_SHIFT, WHOLE
+
+__all__ = ["MOST_FLOATS", "Components", "Row", "count_as_argument", "lent_for_good", "memory_of", "pointer_as_argument"]
+
+#: Arguments of C functions with such numbers. A call doesn't convert them.
+count_as_argument: Any = c_size_t.from_param
+pointer_as_argument: Any = c_void_p.from_param
+#: Rows of at most so many floats are converted in this memory. Longer rows get memory of their own.
+MOST_FLOATS = 1 << 12
+#: The memory keeps arrays of at most so many units.
+_MOST_UNITS = 32
+
+
+def memory_of(numbers: array[Any]) -> Any:
+    """Returns the address of these numbers as an argument. The numbers have to exist as long as the argument."""
+    return pointer_as_argument(numbers.buffer_info()[0])
+
+
+def lent_for_good(memory: Any) -> tuple[Any, Any]:
+    """Returns the address of a buffer of words, and the number of words for which it has room, as arguments.
+
+    The buffer has to exist as long as the arguments. It doesn't move, because no code makes it longer.
+    """
+    place = memory.buffer_info()[0] if isinstance(memory, array) else memory.ctypes.data
+    return pointer_as_argument(place), count_as_argument(len(memory))
+
+
+class Row:
+    """Memory for a row of counts, and for weights in proportion to them. ``place`` is the address of the weights."""
+
+    _table: Any = None
+
+    def __init__(self, size: Size, width: int) -> None:
+        """Creates the memory for rows of a width."""
+        self._counts, self._weights = room("Q", width, array), room(size.code, width, array)
+        self.place, count = self._weights.buffer_info()[0], count_as_argument(width)
+        lists = memory_of(self._counts), count, memory_of(self._weights), count
+        self._share = partial(size.short_function("weights_of_counts"), *lists)
+        #: Arrays of a power of two, by its logarithm. A product with such an array takes less time than with a float.
+        self._units: dict[int, Any] = {}
+
+    def take_counts(self, counts: array[int]) -> int:
+        """Computes the weights of these counts. Returns the result of the C function."""
+        self._counts[:] = counts
+        refused: int = self._share()
+        return refused
+
+    def take_floats(self, row: Any) -> int:
+        """Computes the weights of a numpy array of floats. Returns the result of the C function.
+
+        Returns 1 for rows that ``counts_of`` refuses. The counts of other rows are those of ``counts_of``.
+        """
+        least, greatest = row.item(row.argmin()), row.item(row.argmax())
+        shift = COUNT_BITS - frexp(greatest)[1]
+        if not (least >= 0 and 0 < greatest < inf and shift <= GREATEST_SHIFT):  # The comparisons fail for NaN.
+            return 1
+        units = self._units.get(shift)
+        if units is None:
+            units = self._made_units(shift)
+        table = self._table
+        self._multiply(row, units, table)
+        if ldexp(least, shift) < WHOLE:
+            self._maximum(table, self._ones, table)
+            self._rint(table, table)
+        self._seen[...] = table
+        refused: int = self._share()
+        return refused
+
+    def _made_units(self, shift: int) -> Any:
+        """Returns an array of 2^shift, and makes the memory for floats before the first one."""
+        numpy, width = numpy_module(), len(self._counts)
+        if self._table is None:
+            self._multiply, self._maximum, self._rint = numpy.multiply, numpy.maximum, numpy.rint
+            self._ones, self._seen = numpy.ones(width), numpy.frombuffer(self._counts, dtype="int64")
+            self._table = numpy.empty(width)
+        if len(self._units) >= _MOST_UNITS:
+            self._units.clear()
+        units = self._units[shift] = numpy.full(width, 2.0**shift)
+        return units
+
+
+class Components:
+    """Memory for the weights, the locations and the scales of a mixture's components."""
+
+    def __init__(self, width: int) -> None:
+        """Creates the memory for so many components."""
+        form = Struct(f"@{width}I{width}q{width}I")
+        memory = room("q", form.size // 8 + 1, array)
+        start, self.width = memory.buffer_info()[0], width
+        middle = start + Struct(f"@{width}I0q").size
+        #: The addresses of the weights, of the locations and of the scales.
+        self.places = start, middle, middle + 8 * width
+        self._put = partial(form.pack_into, memory, 0)
+
+    def take(self, numbers: list[int]) -> int:
+        """Takes the weights, then the locations, then the scales. Returns 1 if one doesn't fit its type, else 0."""
+        try:
+            self._put(*numbers)
+        except OutOfRange:
+            return 1
+        return 0
