@@ -22,6 +22,16 @@ from constriction.symbol import (
 )
 
 
+def canonical_codewords(lengths: list[int]) -> list[str]:
+    """Returns the codewords of these lengths: numbers that count up, shorter ones first, then by symbol."""
+    wanted, number, before = [""] * len(lengths), 0, 0
+    for length, symbol in sorted(zip(lengths, range(len(lengths)))):
+        number, before = number << length - before, length
+        wanted[symbol] = format(number, f"0{length}b") if length else ""
+        number += 1
+    return wanted
+
+
 class Codewords(unittest.TestCase):
     """Codebooks in queues and stacks."""
 
@@ -168,11 +178,7 @@ class Codewords(unittest.TestCase):
             tree = EncoderHuffmanTree(weights)
             lengths = tree.code_lengths().tolist()
             self.assertEqual(lengths, [len(it) for it in definitions.huffman_codewords(weights)])
-            wanted, number, before = [""] * len(lengths), 0, 0
-            for length, symbol in sorted(zip(lengths, range(len(lengths)))):
-                number, before = number << length - before, length
-                wanted[symbol] = format(number, f"0{length}b") if length else ""
-                number += 1
+            wanted = canonical_codewords(lengths)
             canonical = EncoderHuffmanTree.from_lengths(tree.code_lengths())
             self.assertIs(type(canonical), EncoderHuffmanTree)
             self.assertEqual(canonical.code_lengths().tolist(), lengths)
@@ -184,11 +190,51 @@ class Codewords(unittest.TestCase):
                 DecoderHuffmanTree.from_lengths(lengths), len(symbols)
             )
             self.assertEqual(found.tolist(), symbols)
-        deep = DecoderHuffmanTree.from_lengths([*range(1, 32), 31])
-        self.assertEqual(deep.code_lengths().tolist(), [*range(1, 32), 31])
-        for wrong in ([], [1], [1, 2], [1, 1, 1], [0, 1], [2, 2, 2], [-1], [32, 32], [*range(1, 33), 32]):
+        for wrong in (
+            [],
+            [1],
+            [1, 2],
+            [1, 1, 1],
+            [0, 1],
+            [2, 2, 2],
+            [-1],
+            [32, 32],
+            [*range(1, 46), 45],
+            [*range(1, 41), 41],
+        ):
             self.assertRaises(errors.WrongWeightsError, EncoderHuffmanTree.from_lengths, wrong)
         self.assertRaises(TypeError, EncoderHuffmanTree.from_lengths, [1.0, 1.0])
+
+    def test_deep_canonical_trees(self) -> None:
+        """Trees with codewords of more than 31 bits, whose weights can't be powers of two below 2^32."""
+        dice, made = random.Random(15), 0
+        for longest in [31, 44, *(dice.randrange(32, 45) for _ in range(150))]:
+            lengths = [*range(1, longest), longest, longest]
+            for _ in range(0 if longest == 44 else dice.randrange(9)):
+                length = lengths.pop(dice.randrange(len(lengths)))
+                lengths += [length + 1] * 2 if length < longest else [length]
+            dice.shuffle(lengths)
+            try:
+                tree = EncoderHuffmanTree.from_lengths(lengths)
+            except errors.WrongWeightsError as it:
+                self.assertIn("a sum of", str(it))
+                self.assertGreater(longest, 31)
+                continue
+            made += 1
+            self.assertEqual(tree.code_lengths().tolist(), lengths)
+            wanted, symbols = canonical_codewords(lengths), [dice.randrange(len(lengths)) for _ in range(40)]
+            encoder, other, stack = QueueEncoder(), QueueEncoder(), StackCoder()
+            encoder.encode(symbols, tree), stack.encode_reverse(symbols, tree)
+            for symbol in symbols:
+                other.encode(symbol, tree)
+            bits = "".join(wanted[it] for it in symbols)
+            self.assertEqual(encoder.get_compressed(), (definitions.queue_words(bits), len(bits)))
+            self.assertEqual(other.get_compressed(), encoder.get_compressed())
+            self.assertEqual(encoder.get_decoder().decode(tree, 40).tolist(), symbols)
+            decoder = encoder.get_decoder()
+            self.assertEqual([decoder.decode(tree) for _ in symbols], symbols)
+            self.assertEqual(stack.decode(tree, 40).tolist(), symbols)
+        self.assertGreater(made, 90)
 
     def test_positions(self) -> None:
         """Seeks go to recorded positions in any order, and a refused position changes nothing."""

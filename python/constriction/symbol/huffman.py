@@ -23,8 +23,10 @@ Self = TypeVar("Self", bound="_Tree")
 
 #: The sum of the weights for floats, before rounding down. It is below 2^32.
 _SHARES = 1 << 31
+#: Powers of two are the weights of a canonical tree whose longest codeword has at most so many bits.
+_MOST_OF_POWERS = 31
 #: The greatest length of a codeword of a canonical tree. Its weights have a sum below 2^32.
-_LONGEST = 31
+_LONGEST = 44
 _TOO_LARGE = "expected weights with a sum below 2^32, got a greater sum"
 
 
@@ -87,7 +89,7 @@ class _Tree(Codebook):
         with the weights ``2^-length``.
 
         Raises :class:`WrongWeightsError` if no codewords have these lengths, if others would be left over, or if a length is
-        above 31.
+        above 44. Some trees with a length above 31 are refused too: whole weights for them have a sum of 2^32 or more.
         """
         given = wholes_of(SYMBOL, sequence_of(lengths))
         for place, length in enumerate(given):
@@ -101,6 +103,13 @@ class _Tree(Codebook):
             raise errors.WrongWeightsError(
                 f"expected lengths that fill a tree, got a share of {sum(weights) / (1 << longest):.6g}"
             )
+        if longest > _MOST_OF_POWERS:
+            of_lengths = _least_weights(given)
+            weights = [of_lengths[length] for length in given]
+            if sum(weights) >> 32:
+                raise errors.WrongWeightsError(
+                    f"expected lengths of a tree of weights with a sum below 2^32, got lengths that need a sum of {sum(weights)}"
+                )
         return cls(weights)
 
     def code_lengths(self) -> Answer:
@@ -174,6 +183,26 @@ class _Tree(Codebook):
         texts = {**self._texts, 7: errors.NOT_ENOUGH_WORDS}
         LARGE.call(name, lent(weights), len(weights), lent(words), len(words), lent(found), count, texts=texts)
         return found
+
+
+def _least_weights(lengths: array[int]) -> list[int]:
+    """Returns a weight for each length. The tree of these weights has the codewords of the tree of the weights 2^-length.
+
+    The lengths fill a tree. Its levels are looked at from the longest length on. The nodes of a level are its leaves and
+    then its inner nodes, and they are merged in pairs. Each leaf weighs 1 more than the last node of the level below. So
+    these nodes are merged before it. It doesn't weigh more than the first inner node, which is a sum of two such nodes.
+    """
+    longest = max(lengths)
+    counts, weights = [0] * (longest + 1), [0] * (longest + 1)
+    for length in lengths:
+        counts[length] += 1
+    inner: list[int] = []
+    greatest = 0
+    for length in range(longest, -1, -1):
+        weights[length] = greatest + 1
+        nodes = [weights[length]] * counts[length] + inner
+        greatest, inner = nodes[-1], list(map(int.__add__, nodes[::2], nodes[1::2]))
+    return weights
 
 
 def _merged(weights: array[int]) -> tuple[list[tuple[int, int]], list[tuple[int, int]]]:
