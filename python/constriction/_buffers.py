@@ -15,7 +15,7 @@ from typing import TYPE_CHECKING, Any, SupportsFloat, SupportsIndex, TypeVar, Un
 
 __all__ = [
     "ANSWER", "BYTE", "NUMBER", "OWN", "SHORT", "SYMBOL", "WORD", "Amount", "Answer", "Array", "Compressed", "List", "Numbers", "Parameter", "Real", "Reals", "Symbols",
-    "answered", "answered_alone", "copied_part", "is_array", "lent", "listed", "numpy_for_answers", "numpy_module", "room",
+    "answered", "answered_alone", "array_class", "copied_part", "lent", "listed", "numpy_for_answers", "numpy_module", "room", "seen_numpy",
 ]  # fmt: skip
 
 #: A list of whole numbers, as words or symbols: a list, a tuple, an ``array.array``, a numpy array.
@@ -190,27 +190,28 @@ def copied_part(memory: Any, start: int, end: int) -> Any:
     return memory[start:end] if isinstance(memory, array) else memory[start:end].copy()
 
 
-#: numpy after its import, and its class of arrays, or None before it was seen so.
+#: numpy after its import, its class of arrays, and its type of symbols, or None before it was seen so.
 _numpy: Any = None
-_array: Any = None
+array_class: Any = None
+_int64: Any = None
 
 
 def numpy_module() -> Any:
     """Returns numpy if the program has loaded it, and not while a thread imports it. Otherwise returns None."""
-    global _numpy, _array
+    global _numpy, array_class, _int64
     found = sys.modules.get("numpy")
     if found is None or found is _numpy:
         return found
     if getattr(getattr(found, "__spec__", None), "_initializing", False):
         return None
+    array_class, _int64 = getattr(found, "ndarray", None), getattr(found, "int64", None)
     _numpy = found
-    _array = getattr(found, "ndarray", None)
     return found
 
 
-def is_array(numbers: Any) -> bool:
-    """Returns whether these are a numpy array of no subclass, and this package has seen numpy before."""
-    return type(numbers) is _array
+def seen_numpy() -> Any:
+    """Returns the numpy whose arrays are of ``array_class``."""
+    return _numpy
 
 
 _is_numpy_sought = False
@@ -231,12 +232,12 @@ def numpy_for_answers() -> Any:
     return numpy_module()
 
 
-def answered_alone(symbol: int) -> Any:
-    """Returns a list of one symbol as a caller gets it."""
-    numpy = numpy_for_answers()
+def answered_alone(symbol: int, given: Any) -> Any:
+    """Returns a list of one symbol as a caller gets it, for the parameter ``given``, which is a list too."""
+    numpy = _numpy if type(given) is array_class else numpy_for_answers()
     if numpy is None:
         return Numbers(SYMBOL, (symbol,))
-    found = numpy.empty(1, numpy.int64)
+    found = numpy.empty(1, _int64)
     found[0] = symbol
     return found
 

@@ -101,7 +101,7 @@ class Coder:
         if symbol is not None and given and not model.core:
             for it in given:
                 if type(it) is not float and (getattr(it, "ndim", None) or not is_one(it)):
-                    return answered_alone(symbol)
+                    return answered_alone(symbol, it)
         return symbol
 
     def _compared(self, state: Any) -> Any:

@@ -230,7 +230,7 @@ _HELD = ctypes.PyDLL(str(PATH), handle=_LIBRARY._handle)
 
 @cache
 def short_function(name: str) -> Any:
-    """Does the same as ``plain_function``, for calls so short that letting go of the interpreter's lock would cost more."""
+    """Does the same as ``plain_function``, for calls so short that they hold the interpreter's lock."""
     return plain_function(name, _HELD)
 
 

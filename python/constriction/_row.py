@@ -1,4 +1,4 @@
-"""Memory for the parameters of a call with one symbol: a row of counts with its weights, or the components of a mixture."""
+"""Memory for the parameters of a call with one symbol: counts with their weights, or the components of a mixture."""
 
 from __future__ import annotations
 
@@ -10,7 +10,7 @@ from struct import Struct
 from struct import error as OutOfRange
 from typing import Any
 
-from ._buffers import numpy_module, room
+from ._buffers import room, seen_numpy
 from ._sizes import Size
 from ._units import COUNT_BITS, GREATEST_SHIFT, WHOLE
 
@@ -50,8 +50,9 @@ class Row:
         self.place, count = self._weights.buffer_info()[0], count_as_argument(width)
         lists = memory_of(self._counts), count, memory_of(self._weights), count
         self._share = partial(size.short_function("weights_of_counts"), *lists)
-        #: Arrays of a power of two, by its logarithm. A product with such an array takes less time than with a float.
-        self._units: dict[int, Any] = {}
+        #: By the logarithm of a power of two: an array of this power, and the least float whose product with it is
+        #: certainly whole. A product with such an array takes less time than with a float.
+        self._units: dict[int, tuple[Any, float]] = {}
 
     def take_counts(self, counts: array[int]) -> int:
         """Computes the weights of these counts. Returns the result of the C function."""
@@ -68,28 +69,26 @@ class Row:
         shift = COUNT_BITS - frexp(greatest)[1]
         if not (least >= 0 and 0 < greatest < inf and shift <= GREATEST_SHIFT):  # The comparisons fail for NaN.
             return 1
-        units = self._units.get(shift)
-        if units is None:
-            units = self._made_units(shift)
+        units, limit = self._units.get(shift) or self._made_units(shift)
         table = self._table
         self._multiply(row, units, table)
-        if ldexp(least, shift) < WHOLE:
+        if least < limit:
             self._maximum(table, self._ones, table)
             self._rint(table, table)
         self._seen[...] = table
         refused: int = self._share()
         return refused
 
-    def _made_units(self, shift: int) -> Any:
-        """Returns an array of 2^shift, and makes the memory for floats before the first one."""
-        numpy, width = numpy_module(), len(self._counts)
+    def _made_units(self, shift: int) -> tuple[Any, float]:
+        """Returns an item of ``_units``, and makes the memory for floats before the first one."""
+        numpy, width = seen_numpy(), len(self._counts)
         if self._table is None:
             self._multiply, self._maximum, self._rint = numpy.multiply, numpy.maximum, numpy.rint
             self._ones, self._seen = numpy.ones(width), numpy.frombuffer(self._counts, dtype="int64")
             self._table = numpy.empty(width)
         if len(self._units) >= _MOST_UNITS:
             self._units.clear()
-        units = self._units[shift] = numpy.full(width, 2.0**shift)
+        units = self._units[shift] = numpy.full(width, 2.0**shift), ldexp(WHOLE, -shift)
         return units
 
 

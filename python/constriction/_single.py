@@ -32,6 +32,8 @@ made: Any = tuple.__new__
 _LAST = (1 << 63) - 1
 #: A coder keeps memory for rows of at most so many widths.
 _MOST_WIDTHS = 8
+#: Longer rows go through the functions for lists, which let go of the interpreter's lock.
+_MOST_WEIGHTS = 1 << 16
 
 
 class Lane:
@@ -47,6 +49,7 @@ class Lane:
         self._location, self._scale, self._row, self._width = c_int64(), c_uint32(), c_void_p(), c_size_t()
         self._family, self._least, self._greatest, self._model = c_uint32(), c_int32(), c_int32(), None
         self._rows: dict[int, Row] = {}
+        self._taken: Row | None = None  # The row to which the two arguments above point.
         self._components: Components | None = None
         self._mixed = c_size_t(), c_void_p(), c_void_p(), c_void_p()
         one, needed = count_as_argument(1), byref(c_size_t())
@@ -201,12 +204,18 @@ class Lane:
             return 0
         if form == MIXED:
             return self._take_components(model, first, second)
-        if form == ROW or form == COUNTS:
-            self._row.value, self._width.value = first.buffer_info()
-            return 0
         width = len(first)
+        if width > _MOST_WEIGHTS:
+            return 1
+        if form == ROW or form == COUNTS:
+            self._taken = None
+            self._row.value, self._width.value = first.buffer_info()[0], width
+            return 0
         row = self._rows.get(width) or self._made_row(width)
-        self._row.value, self._width.value = row.place, width
+        if row is not self._taken:
+            self._taken = None
+            self._row.value, self._width.value = row.place, width
+            self._taken = row
         return row.take_floats(first) if form == FLOATS else row.take_counts(first)
 
     def _made_row(self, width: int) -> Row:

@@ -37,7 +37,7 @@ class Size:
         call(name + self.end, *arguments, texts=texts)
 
     def short_function(self, name: str) -> Any:
-        """Returns the C function ``name`` of this size for short calls. Its arguments have to be instances of its types."""
+        """Returns the C function ``name`` of this size for short calls, whose arguments are of the function's types."""
         return short_function(name + self.end)
 
 

@@ -7,7 +7,8 @@ from collections.abc import Callable, Iterable
 from math import frexp, inf, isfinite, isnan, ldexp, nan
 from typing import Any
 
-from ._buffers import NUMBER, SYMBOL, WORD, is_array, numpy_module, room
+from . import _buffers
+from ._buffers import NUMBER, SYMBOL, WORD, numpy_module, room
 from ._numbers import doubles, real
 from ._sizes import Size
 from .errors import WrongWeightsError, shown
@@ -115,7 +116,7 @@ def unit_of(number: Any, origin: float, least: float, greatest: float) -> int | 
     Returns None for a float outside the bounds, and for a list, unless it is a list of one float.
     """
     if type(number) is not float:
-        if is_array(number) and number.size == 1 and number.ndim < 2:
+        if type(number) is _buffers.array_class and number.ndim < 2 and number.size == 1:
             number = number.item()
         elif isinstance(number, float):
             number = float(number)

@@ -77,6 +77,22 @@ class Rows(unittest.TestCase):
             self.assertRaises(errors.ImpossibleSymbolError, coder.encode_reverse, symbol, model, good)
         self.assertEqual(coder, wanted)
 
+    def test_long_rows(self) -> None:
+        """Rows that are too long for a call that holds the interpreter's lock have the same words."""
+        long = [5] * 70_000
+        long[7] += (1 << 24) - sum(long)
+        coder, wanted = AnsCoder(), AnsCoder()
+        for model, row in (
+            (WeightTable(), long),
+            (Categorical(), numpy.array(long) / 3),
+            (Categorical(perfect=False), long),
+        ):
+            for _ in range(2):
+                coder.encode_reverse(69_999, model, row), wanted.encode_reverse([69_999], model, [list(row)])
+            self.assertEqual(coder, wanted)
+            self.assertEqual([coder.decode(model, row) for _ in range(2)], [69_999] * 2)
+            wanted.decode(model, [list(row)] * 2)
+
     def test_a_row_that_changes(self) -> None:
         """The coder keeps nothing of a row: a row that the caller changes has other words."""
         row, coder, wanted, model = numpy.array([0.5, 0.25, 0.25]), AnsCoder(), AnsCoder(), Categorical()

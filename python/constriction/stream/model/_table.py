@@ -7,7 +7,8 @@ from collections.abc import Iterator, Sequence
 from operator import index
 from typing import Any
 
-from ..._buffers import List, Reals, is_array, room
+from ... import _buffers
+from ..._buffers import List, Reals, room
 from ..._numbers import (
     as_numpy,
     is_one,
@@ -251,8 +252,8 @@ class Categorical(Rows):
         if len(given) != 1 or not self.missing:
             return None
         row = given[0]
-        if is_array(row) and self._form != COUNTS and row.ndim == 1 and 0 < len(row) <= MOST_FLOATS:
-            if row.dtype.char in "df":
+        if type(row) is _buffers.array_class and row.ndim == 1 and row.dtype.char in "df" and self._form != COUNTS:
+            if 0 < len(row) <= MOST_FLOATS:
                 return FLOATS, row, None
         if not is_row(row):
             return None
