@@ -35,19 +35,19 @@ unsafe extern "C" {
     ) -> bool;
 }
 
-/// Writes bits, and gives how many words they are.
+/// Writes bits, and returns the number of words.
 type Write = unsafe extern "C" fn(*const bool, usize, *mut u32, usize) -> usize;
 
-/// Reads bits, and gives whether there were so many.
+/// Reads bits, and returns whether there were enough.
 type Read = unsafe extern "C" fn(*const u32, usize, *mut bool, usize) -> bool;
 
-/// A million bits, each as likely to be set.
+/// Returns a million bits, each set with a probability of 1/2.
 fn equal_bits() -> Vec<bool> {
     let mut random = Random::new(5);
     (0..COUNT).map(|_| random.next() >> 40 & 1 == 1).collect()
 }
 
-/// Writes the bits, and reads `expected` back.
+/// Times writing the bits, and reading `expected` back.
 fn case(bench: &Bench, order: &str, write: Write, read: Read, bits: &[bool], expected: &[bool]) {
     bench.there_and_back(
         (&format!("bits_write_{order}"), &|out| unsafe {
@@ -60,7 +60,7 @@ fn case(bench: &Bench, order: &str, write: Write, read: Read, bits: &[bool], exp
     );
 }
 
-/// All cases of bits.
+/// Runs all cases of bits.
 pub fn cases(bench: &Bench) {
     let bits = equal_bits();
     let turned: Vec<bool> = bits.iter().rev().copied().collect();

@@ -1,10 +1,12 @@
-/* Nanoseconds a symbol of the C functions: lines `name ns_per_symbol`, each the least of so many runs.
+/* Measures the nanoseconds per symbol of the C functions. Prints lines `name ns_per_symbol`, each the least of RUNS
+   runs.
 
    gcc -O2 -Iinclude bench/calls.c build/libconstriction.a -o bench/out/calls && bench/out/calls [SYMBOLS_A_CALL [FORM]]
 
-   The million symbols and their weights are those of bench/driver. Symbols are handed over so many at a time, 65536 unless
-   said otherwise. FORM is `table`, by one table of weights, or `intervals`, by the interval of each symbol; both without it.
-   What is decoded is compared with what was encoded, and what intervals write with what the table wrote. */
+   The million symbols and their weights are those of bench/driver. Each call gets SYMBOLS_A_CALL symbols, by default
+   65536. FORM is `table` (one table of weights) or `intervals` (the interval of each symbol); by default, the program
+   measures both. It compares the decoded symbols with the encoded ones, and the words from intervals with those from
+   the table. */
 
 #define _POSIX_C_SOURCE 199309L
 #include <stdio.h>
@@ -47,7 +49,7 @@ static void must(int holds, const char *what) {
     exit(1);
 }
 
-/* How many symbols the part from this one on has. */
+/* Returns the number of symbols in the part that begins at this one. */
 static size_t length_at(size_t start) { return COUNT - start < part ? COUNT - start : part; }
 
 /* ---- one pass over all symbols each */
@@ -121,14 +123,14 @@ static void chain_intervals(void) {
     }
 }
 
-/* ---- what each of them has to leave: words that whole calls by the table leave, kept behind those of the run before */
+/* ---- the expected results: words that whole calls with the table write, after those of the previous run */
 static size_t whole_len;
 
 static void keep_words(void) { memcpy(whole, words, len * sizeof *words), whole_len = len; }
 
 static int same_words(void) { return len == whole_len && !memcmp(whole, words, len * sizeof *words); }
 
-/* The intervals of the symbols that the data are decoded to, and a coder whose remainders stand for them. */
+/* The intervals of the symbols that the data decode to, and a coder with the remainders. */
 static void decode_data(void) {
     size_t one = part;
     part = COUNT, chain_decode(), part = one;
@@ -142,7 +144,7 @@ static void intervals_of_decoded(void) {
     }
 }
 
-/* ---- their times */
+/* ---- times */
 static double timed(void (*pass)(void), double least) {
     struct timespec from, to;
     clock_gettime(CLOCK_MONOTONIC, &from);

@@ -1,11 +1,11 @@
-//! Cases of the chain coder: symbols from words that are as good as random, and those words again.
+//! Cases of the chain coder: decoding symbols from random words, and encoding them back.
 
 use crate::{
     Bench, Word, all_words,
     input::{COUNT, Random, weights},
 };
 
-/// Calls the C function of a case over slices, each of which is a pointer and then a length to it.
+/// Calls the C function of a case over slices, which are a pointer and a length each.
 macro_rules! library {
     ($name:literal, $word:ty, $symbols:ty, $slice:ty, $pointer:ident; $($model:ident: $type:ty = $value:expr),*) => {{
         unsafe extern "C" {
@@ -34,21 +34,21 @@ macro_rules! library {
     }};
 }
 
-/// The function of a decode: words, places for symbols, room for the remainders; it answers how many these are.
+/// A decode: takes words, places for symbols and room for the remainders, and returns the number of remainders.
 macro_rules! decoder {
     ($name:literal, $word:ty; $($model:tt)*) => {
         library!($name, $word, *mut usize, &mut [usize], as_mut_ptr; $($model)*)
     };
 }
 
-/// The function of an encode: remainders, symbols, room for the words; it answers how many these are.
+/// An encode: takes remainders, symbols and room for the words, and returns the number of words.
 macro_rules! encoder {
     ($name:literal, $word:ty; $($model:tt)*) => {
         library!($name, $word, *const usize, &[usize], as_ptr; $($model)*)
     };
 }
 
-/// Words for COUNT symbols of this precision, and a few more.
+/// Returns words for COUNT symbols of this precision, and a few more.
 fn random_words<W: Word>(precision: usize, word: impl Fn(u64) -> W) -> Vec<W> {
     let mut random = Random::new(0xfeed_beef_1234_5678);
     (0..COUNT * precision / W::BITS as usize + 16)
@@ -56,7 +56,7 @@ fn random_words<W: Word>(precision: usize, word: impl Fn(u64) -> W) -> Vec<W> {
         .collect()
 }
 
-/// Words, and the symbols and remainders that they are under one model.
+/// Words, and their symbols and remainders under one model.
 struct Split<'a, W> {
     words: &'a [W],
     symbols: Vec<usize>,
@@ -86,7 +86,7 @@ impl<'a, W: Word> Split<'a, W> {
         });
     }
 
-    /// Times an encode of the symbols, which gives the words that were read.
+    /// Times an encode of the symbols, which restores the words.
     fn encoding(
         &self,
         bench: &Bench,
@@ -105,7 +105,7 @@ impl<'a, W: Word> Split<'a, W> {
     }
 }
 
-/// The cases at words of 32 bits, numbers of the remainders of 64 bits and a precision of 24 bits.
+/// Runs the cases with words of 32 bits, states of 64 bits and a precision of 24 bits.
 fn large_cases(bench: &Bench) {
     let weights = weights(24);
     let (start, len) = (weights.as_ptr(), weights.len());
@@ -129,7 +129,7 @@ fn large_cases(bench: &Bench) {
     split.encoding(bench, "chain_encode_u32u64p24_flat", back);
 }
 
-/// The cases at words of 16 bits, numbers of the remainders of 32 bits and a precision of 12 bits.
+/// Runs the cases with words of 16 bits, states of 32 bits and a precision of 12 bits.
 fn small_cases(bench: &Bench) {
     let weights: Vec<u16> = weights(12).iter().map(|&weight| weight as u16).collect();
     let (start, len) = (weights.as_ptr(), weights.len());
@@ -153,7 +153,7 @@ fn small_cases(bench: &Bench) {
     split.encoding(bench, "chain_encode_u16u32p12_flat", back);
 }
 
-/// All cases of the chain coder.
+/// Runs all cases of the chain coder.
 pub fn cases(bench: &Bench) {
     large_cases(bench);
     small_cases(bench);

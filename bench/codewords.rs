@@ -1,5 +1,5 @@
 //! Cases of bit coders over words of 32 bits: Exp-Golomb codewords of numbers, codewords of a Huffman tree, and the
-//! making of such a tree.
+//! building such a tree.
 
 use crate::{
     Bench,
@@ -76,24 +76,24 @@ unsafe extern "C" {
     fn constriction_bench_huffman_make_decoder(weights: *const u32, weights_len: usize) -> usize;
 }
 
-/// Encodes numbers, and gives how many words they are.
+/// Encodes numbers, and returns the number of words.
 type EncodeNumbers = unsafe extern "C" fn(*const u32, usize, *mut u32, usize) -> usize;
 
-/// Decodes numbers, and gives whether there were so many.
+/// Decodes numbers, and returns whether there were enough.
 type DecodeNumbers = unsafe extern "C" fn(*const u32, usize, *mut u32, usize) -> bool;
 
-/// Weights, symbols, room for words; gives how many words there are.
+/// Takes weights, symbols and room for words, and returns the number of words.
 type EncodeSymbols =
     unsafe extern "C" fn(*const u32, usize, *const usize, usize, *mut u32, usize) -> usize;
 
-/// Weights, words, places for symbols; gives whether there were so many.
+/// Takes weights, words and places for symbols, and returns whether there were enough symbols.
 type DecodeSymbols =
     unsafe extern "C" fn(*const u32, usize, *const u32, usize, *mut usize, usize) -> bool;
 
-/// Makes a tree, and gives how many symbols it has.
+/// Builds a tree, and returns its number of symbols.
 type Make = unsafe extern "C" fn(*const u32, usize) -> usize;
 
-/// Numbers by Exp-Golomb.
+/// Runs the cases of numbers as Exp-Golomb codewords.
 fn golomb(
     bench: &Bench,
     order: &str,
@@ -112,7 +112,7 @@ fn golomb(
     );
 }
 
-/// Symbols by the Huffman tree of their weights.
+/// Runs the cases of symbols as codewords of the Huffman tree of their weights.
 fn huffman(
     bench: &Bench,
     order: &str,
@@ -146,7 +146,7 @@ fn huffman(
     );
 }
 
-/// Trees of weights below 2^16.
+/// Runs the cases of trees of weights below 2^16.
 fn trees(bench: &Bench, name: &str, make: Make) {
     for count in [256, 4096, 65536] {
         let mut random = Random::new(3);
@@ -157,7 +157,7 @@ fn trees(bench: &Bench, name: &str, make: Make) {
     }
 }
 
-/// All cases of codewords.
+/// Runs all cases of codewords.
 pub fn cases(bench: &Bench, drawn: &[usize]) {
     let numbers: Vec<u32> = drawn.iter().map(|&symbol| symbol as u32).collect();
     golomb(

@@ -1,7 +1,7 @@
-//! Nanoseconds a symbol of the coders behind the library `constriction_bench`.
+//! Measures the nanoseconds per symbol of the coders, by the library `constriction_bench`.
 //!
 //! Prints a line `name ns_per_symbol` for each case, the least of RUNS runs over a million symbols.
-//! What the coders wrote and what they allocated goes to standard error. An argument keeps the cases
+//! Standard error gets the bits per symbol and the allocations. An argument selects the cases
 //! whose name contains it.
 //!
 //! Names: coder, operation, sizes of words and states with the precision, model. Models: `table`
@@ -28,19 +28,19 @@ const RUNS: usize = 11;
 
 // THE LIBRARY ================================================================
 
-/// Weights, symbols, room for words; answers how many words there are.
+/// Takes weights, symbols and room for words, and returns the number of words.
 type EncodeTable<Word> =
     unsafe extern "C" fn(*const Word, usize, *const usize, usize, *mut Word, usize) -> usize;
 
-/// Weights, words, places for symbols; answers whether the words are a coder's.
+/// Takes weights, words and places for symbols, and returns whether a coder can have the words.
 type DecodeTable<Word> =
     unsafe extern "C" fn(*const Word, usize, *const Word, usize, *mut usize, usize) -> bool;
 
-/// As with a table, but symbols of equal weights, of which there are two to the first argument.
+/// The same for symbols of equal weights. Their number is two to the power of the first argument.
 type EncodeFlat<Word> = unsafe extern "C" fn(u32, *const usize, usize, *mut Word, usize) -> usize;
 type DecodeFlat<Word> = unsafe extern "C" fn(u32, *const Word, usize, *mut usize, usize) -> bool;
 
-/// Words, room for words; answers how many words there are.
+/// Takes words and room for words, and returns the number of words.
 type CopyWords<Word> = unsafe extern "C" fn(*const Word, usize, *mut Word, usize) -> usize;
 
 /// The library's functions of one coder, at one size of words, states and precision.
@@ -56,14 +56,14 @@ struct Library<Word> {
     decode_flat: DecodeFlat<Word>,
 }
 
-/// Copies at one size: into a coder and out again, and with no coder.
+/// Copies at one size: into a coder and out of it, and without a coder.
 struct Copies<Word> {
     size: &'static str,
     reload: CopyWords<Word>,
     copy: CopyWords<Word>,
 }
 
-/// Declares the C functions of one coder and size, in which a slice is a pointer and then a length.
+/// Declares the C functions of one coder and size. A slice is a pointer and a length.
 macro_rules! library {
     ($word:ty, $coder:literal, $size:literal, $precision:literal, $cheap:literal) => {{
         unsafe extern "C" {
@@ -184,7 +184,7 @@ impl Word for u32 {
 
 // INPUT ======================================================================
 
-/// A million symbols below 256, each as likely.
+/// Returns a million symbols below 256, all equally probable.
 fn equal_symbols() -> Vec<usize> {
     let mut random = Random::new(99);
     (0..COUNT)
@@ -192,7 +192,7 @@ fn equal_symbols() -> Vec<usize> {
         .collect()
 }
 
-/// The bits that the symbols hold under a model with these weights.
+/// Returns the information content of the symbols under a model with these weights, in bits.
 fn information(weights: &[u32], precision: u32, symbols: &[usize]) -> f64 {
     let bits: Vec<f64> = weights
         .iter()
@@ -203,7 +203,7 @@ fn information(weights: &[u32], precision: u32, symbols: &[usize]) -> f64 {
 
 // ALLOCATIONS ================================================================
 
-/// How many blocks were asked for, moved and given back, and how many bytes were asked for last.
+/// The numbers of allocated, moved and freed blocks, and the bytes of the last request.
 static ALLOCATED: AtomicUsize = AtomicUsize::new(0);
 static MOVED: AtomicUsize = AtomicUsize::new(0);
 static FREED: AtomicUsize = AtomicUsize::new(0);
@@ -235,7 +235,7 @@ unsafe extern "C" fn __wrap_free(block: *mut c_void) {
     unsafe { __real_free(block) }
 }
 
-/// Runs `work` and says what it allocated.
+/// Runs `work`, and prints its allocations.
 fn allocations<T>(name: &str, work: impl FnOnce() -> T) -> T {
     let (allocated, moved, freed) = (
         ALLOCATED.load(Relaxed),
@@ -260,7 +260,7 @@ struct Bench {
 }
 
 impl Bench {
-    /// The least time of `work` over the runs, in nanoseconds for each of COUNT.
+    /// Returns the least time of `work` over the runs, in nanoseconds divided by COUNT.
     fn least<T>(&self, mut work: impl FnMut() -> T) -> f64 {
         let mut least = f64::INFINITY;
         for _ in 0..RUNS {
@@ -282,8 +282,8 @@ impl Bench {
         }
     }
 
-    /// The library's decoders own their words: they begin with a copy, and free it. What this takes alone is
-    /// not counted.
+    /// The library's decoders own their words: they begin with a copy, and free it. The time for this is
+    /// subtracted.
     fn decode<W: Word, T: Copy + Default + PartialEq + Debug>(
         &self,
         name: &str,
@@ -300,7 +300,7 @@ impl Bench {
         println!("{name} {:.2}", all - self.copying(words));
     }
 
-    /// Encodes, and decodes `expected` from these words.
+    /// Times encoding, and decoding `expected` from the words.
     fn there_and_back<T: Copy + Default + PartialEq + Debug>(
         &self,
         (encode_name, encode): (&str, &dyn Fn(&mut [u32]) -> usize),
@@ -312,7 +312,7 @@ impl Bench {
         self.decode(decode_name, &words, expected, decode);
     }
 
-    /// The time of making what has `count` parts, in nanoseconds for each of them. A run makes it until there are COUNT.
+    /// Returns the nanoseconds per part of building an object with `count` parts. A run builds COUNT parts.
     fn making(&self, name: &str, count: usize, make: impl Fn()) {
         if self.wants(name) {
             let times = COUNT / count;
@@ -321,7 +321,7 @@ impl Bench {
         }
     }
 
-    /// The least time in which the library copies the words to a new vector, and frees it.
+    /// Returns the least time in which the library copies the words to a new vector and frees it.
     fn copying<W: Word>(&self, words: &[W]) -> f64 {
         let copy = W::copies().copy;
         let out = std::ptr::NonNull::dangling().as_ptr();
@@ -329,7 +329,7 @@ impl Bench {
     }
 }
 
-/// What a coder wrote, beside what the symbols hold under its model.
+/// Prints the bits that a coder wrote, and the information content of the symbols.
 fn report<W: Word>(name: &str, words: &[W], information: f64) {
     let written = words.len() as f64 * W::BITS as f64;
     eprintln!(
@@ -340,7 +340,7 @@ fn report<W: Word>(name: &str, words: &[W], information: f64) {
     );
 }
 
-/// All words that `encode` makes.
+/// Returns all words that `encode` writes.
 fn all_words<W: Word>(mut encode: impl FnMut(&mut [W]) -> usize) -> Vec<W> {
     let mut words = vec![W::default(); encode(&mut [])];
     encode(&mut words);
@@ -419,7 +419,7 @@ where
     );
 }
 
-/// A million words go into a coder and out again; beside it, the same copies with no coder.
+/// Times importing and exporting a million words, and the same copies without a coder.
 fn reloading<W: Word>(bench: &Bench, copies: &Copies<W>)
 where
     <W as TryFrom<u32>>::Error: Debug,

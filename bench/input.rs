@@ -1,4 +1,4 @@
-//! What is coded: a million symbols, and the weights of their model.
+//! The input: a million symbols, and the weights of their model.
 
 pub const COUNT: usize = 1_000_000;
 
@@ -20,8 +20,8 @@ impl Random {
     }
 }
 
-/// Weights of 256 symbols with the sum `2^precision`, near to `1 / ((i + 4) * (i + 16))`. Each is at
-/// least 1, and the first takes what rounding leaves.
+/// Returns weights of 256 symbols with the sum `2^precision`, nearly in proportion to `1 / ((i + 4) * (i + 16))`. Each
+/// is at least 1, and the first also gets the rest after rounding.
 pub fn weights(precision: u32) -> Vec<u32> {
     let shares: Vec<u64> = (0..256)
         .map(|i| 1_000_000_000 / ((i + 4) * (i + 16)))
@@ -36,7 +36,7 @@ pub fn weights(precision: u32) -> Vec<u32> {
     weights
 }
 
-/// A million symbols, drawn by the weights of precision 24.
+/// Returns a million symbols, drawn by the weights of precision 24.
 pub fn drawn_symbols() -> Vec<usize> {
     let mut ends = weights(24);
     for i in 1..ends.len() {

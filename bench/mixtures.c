@@ -1,6 +1,6 @@
-/* Nanoseconds a symbol under a mixture of 5 logistic distributions for each, beside those under one: lines `name
-   ns_per_symbol`, each the least of so many runs, and at last the two ratios. bench/models builds and runs it. What is
-   decoded is compared with what was encoded. */
+/* Measures the nanoseconds per symbol under a mixture of 5 logistic distributions for each symbol, and under a single one.
+   Prints lines `name ns_per_symbol`, each the least of RUNS runs, and then the two ratios. bench/models builds and runs
+   this program. It compares the decoded symbols with the encoded ones. */
 
 #define _POSIX_C_SOURCE 199309L
 #include <math.h>
@@ -29,7 +29,7 @@ static double random_part(void) {
     return (double)(x >> 11) / 9007199254740992.0;
 }
 
-/* Rows of components, each with a location within 30 of 0 and a scale from 0.3 to 20.3; symbols drawn by them. */
+/* Draws rows of components, each with a location within 30 of 0 and a scale from 0.3 to 20.3, and symbols by them. */
 static void draw(size_t width) {
     for (size_t i = 0; i < COUNT; i++) {
         size_t chosen = width * i + (size_t)(random_part() * (double)width);

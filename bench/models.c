@@ -1,10 +1,10 @@
-/* Nanoseconds a symbol with a mean and a deviation for each, by the C functions and by floats: lines `name
-   ns_per_symbol`, each the least of so many runs. bench/models builds and runs it.
+/* Measures the nanoseconds per symbol with a mean and a deviation for each, by the C functions and in floats. Prints lines
+   `name ns_per_symbol`, each the least of RUNS runs. bench/models builds and runs this program.
 
-   The floats do what programs do that have no such functions: an interval is two calls of erfc, and a decode searches
-   by halves, with a call of erfc a step, under the same leaky quantizer. The coder's step is beside them in plain C,
-   without lists and without refusals; `erfc_intervals` hands the intervals to the C function instead. What is decoded
-   is compared with what was encoded, by both. */
+   The floats do the work of programs without such functions: an interval takes two calls of erfc, and a decode bisects
+   with a call of erfc in each step, under the same leaky quantizer. The coder's step is inlined in plain C, without lists
+   and errors; `erfc_intervals` passes the intervals to the C function instead. The program compares the decoded symbols
+   with the encoded ones in both cases. */
 
 #define _POSIX_C_SOURCE 199309L
 #include <math.h>
@@ -29,7 +29,7 @@ static void must(int holds, const char *what) {
     exit(1);
 }
 
-/* ---- what is drawn: means within 30 of 0, deviations from 0.3 to 20.3, symbols by these */
+/* ---- random input: means within 30 of 0, deviations from 0.3 to 20.3, and symbols drawn by them */
 static double random_part(void) {
     static uint64_t x = 88172645463325252u;
     x ^= x << 13, x ^= x >> 7, x ^= x << 17;
@@ -71,10 +71,10 @@ static void decode(void) {
     }
 }
 
-/* ---- by floats */
+/* ---- in floats */
 static const double ROOT_OF_HALF = 0.70710678118654752440;
 
-/* Where the interval of a symbol begins, or where the last one ends. */
+/* Returns the start of a symbol's interval, or the end of the last one. */
 static inline uint32_t start(size_t i, uint32_t kinds, uint32_t symbol) {
     if (symbol == 0) return 0;
     if (symbol == kinds) return 1u << 24;
@@ -123,7 +123,7 @@ static void decode_by_floats(void) {
     }
 }
 
-/* ---- their times */
+/* ---- times */
 static void timed(void (*pass)(void), double *time) {
     struct timespec from, to;
     clock_gettime(CLOCK_MONOTONIC, &from);

@@ -1,11 +1,10 @@
-/* Reads all of standard input and parses its numbers with the C library, as a measure of what the program
-   `constriction` has to do besides coding. Without arguments it prints how many numbers there were, and
-   their sum. With COUNT and LIMIT it writes that many numbers below the limit as a line, as the program
-   does with what it coded. */
+/* Reads all of standard input and parses its numbers with the C library. This is the work of the program `constriction`
+   besides coding. Without arguments, it prints the number of numbers and their sum. With COUNT and LIMIT, it writes COUNT
+   numbers below LIMIT as a line, as the program writes its results. */
 #include <stdio.h>
 #include <stdlib.h>
 
-/* The numbers, which are spread over 0 .. limit, parted by spaces, and a line feed. */
+/* Writes numbers spread over 0 .. limit, separated by spaces, and a line feed. */
 static int write_line(size_t count, unsigned long limit) {
     char *line = malloc(21 * count + 1), *at = line;
     if (!line) return 1;

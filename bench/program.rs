@@ -1,9 +1,9 @@
-//! The program `constriction` on a million symbols, as a whole process, beside a C program that reads and
-//! parses the same bytes, and one that writes as many numbers besides.
+//! Times the program `constriction` on a million symbols, as a whole process; a C program that reads and
+//! parses the same bytes; and one that also writes as many numbers.
 //!
-//! The arguments are the two programs and a folder for the texts. Prints for each command the milliseconds
-//! that it takes, those of the C program that reads and parses, the first over the second, those of the C
-//! program that writes too, and the first over these. Each time is the least of RUNS runs.
+//! The arguments are the two programs and a folder for the texts. Prints for each command its milliseconds,
+//! those of the C program that reads and parses, the ratio, those of the C
+//! program that also writes, and the ratio. Each time is the least of RUNS runs.
 
 mod input;
 
@@ -18,7 +18,7 @@ use std::{
 
 const RUNS: usize = 21;
 
-/// The numbers, parted by spaces, and a line feed.
+/// Returns the numbers, separated by spaces, and a line feed.
 fn line(numbers: impl IntoIterator<Item = impl Display>) -> String {
     let words: Vec<String> = numbers
         .into_iter()
@@ -27,7 +27,7 @@ fn line(numbers: impl IntoIterator<Item = impl Display>) -> String {
     words.join(" ") + "\n"
 }
 
-/// The least time in milliseconds in which the program reads the file and writes to another one.
+/// Returns the least time in milliseconds in which the program reads the file and writes another one.
 fn least(program: &str, args: &[&str], input: &Path, output: &Path) -> f64 {
     let mut least = f64::INFINITY;
     for _ in 0..RUNS {

@@ -22,7 +22,7 @@ unsafe extern "C" {
     ) -> bool;
 }
 
-/// The case at words of 16 bits, states of 32 bits and a precision of 12 bits.
+/// Runs the case with words of 16 bits, states of 32 bits and a precision of 12 bits.
 pub fn cases(bench: &Bench, drawn: &[usize]) {
     let weights: Vec<u16> = weights(12).iter().map(|&weight| weight as u16).collect();
     let words = all_words(|out: &mut [u16]| unsafe {

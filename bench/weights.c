@@ -1,8 +1,8 @@
-/* Nanoseconds a count of constriction_weights_of_counts_u32: lines `name ns_per_count`, each the least of so many runs.
-   bench/models builds and runs it.
+/* Measures the nanoseconds per count of constriction_weights_of_counts_u32. Prints lines `name ns_per_count`, each the least
+   of RUNS runs. bench/models builds and runs this program.
 
-   Counts are below 2^62: `even` ones are drawn evenly, `skewed` ones are exponentials of three times a normal
-   number, and `equal` ones are all the same. The weights' sum is looked at. */
+   Counts are below 2^62: `even` ones are uniform, `skewed` ones are exponentials of three times a normal number, and
+   `equal` ones are all the same. The program checks the sum of the weights. */
 
 #define _POSIX_C_SOURCE 199309L
 #include <math.h>

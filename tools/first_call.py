@@ -222,7 +222,7 @@ def kept_of(toolchain, crates):
 
 def begin(progress, toolchain, crate, count, kept):
     """Writes which crates the run proves, and how to get an unproved answer."""
-    first = "; the first one tells how long that takes here" if count > 1 and not kept else ""
+    first = "; the first one shows how long this takes here" if count > 1 and not kept else ""
     of = f"the {count}" if not kept else f"{count} of the {count + kept}"
     if crate.is_program:
         trial = "./constriction --trial COMMAND < INPUT answers in a minute, unproved"

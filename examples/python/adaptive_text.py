@@ -54,6 +54,7 @@ def entropy(letters: list[int]) -> float:
 
 
 def main(arguments: list[str]) -> None:
+    """Runs the example and prints its line. With --picture, writes the picture too."""
     letters = [LETTERS.index(it) for it in made_up_text(COUNT)]
     encoder, counts, bits = RangeEncoder(), Counts(), []
     for letter in letters:
@@ -65,9 +66,8 @@ def main(arguments: list[str]) -> None:
         assert decoder.decode(MODEL, counts.row()) == letter
         counts.learn(letter)
     data, size, bound = bytes(letters), bits[-1], entropy(letters)
-    others = [len(it(data)) * 8 for it in (zlib.compress, bz2.compress, lzma.compress)]
-    text = f"{size / COUNT:.2f} bits a letter, conditional entropy {bound:.2f}, fewer than zlib, bz2 and lzma:"
-    print(text, size < min(others))
+    least = size < min(8 * len(it(data)) for it in (zlib.compress, bz2.compress, lzma.compress))
+    print(f"{size / COUNT:.2f} bits a letter, conditional entropy {bound:.2f}, fewer than zlib, bz2 and lzma: {least}")
 
     def plot(axes: Any) -> None:
         axes.plot(range(100, COUNT + 1), [bits[i - 1] / i for i in range(100, COUNT + 1)], label="range coder")

@@ -29,6 +29,7 @@ def made_up_lines() -> list[str]:
 
 
 def main(arguments: list[str]) -> None:
+    """Runs the example and prints its line. With --picture, writes the picture too."""
     lines = made_up_lines()
     counts = Counter("".join(lines))
     lengths = EncoderHuffmanTree([counts[it] for it in LETTERS]).code_lengths()

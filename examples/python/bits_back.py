@@ -32,6 +32,7 @@ def drawn() -> list[int]:
 
 
 def main(arguments: list[str]) -> None:
+    """Runs the example and prints its line. With --picture, writes the picture too."""
     numbers, dice = drawn(), Random(9)
     words = [dice.randrange(1 << 32) for _ in range(20)]
     sender, sizes, bound = AnsCoder(words, seal=True), [], [0.0]

@@ -43,6 +43,7 @@ def level_of(block: list[int]) -> int:
 
 
 def main(arguments: list[str]) -> None:
+    """Runs the example and prints its line. With --picture, writes the picture too."""
     blocks = drawn()
     latents, levels = [it for block in blocks for it in block], [level_of(it) for it in blocks]
 

@@ -40,6 +40,7 @@ def guess(image: list[list[int]], x: int, y: int) -> float:
 
 
 def main(arguments: list[str]) -> None:
+    """Runs the example and prints its line. With --picture, writes the picture too."""
     image = gradients()
     places = [(x, y) for y in range(SIDE) for x in range(SIDE)]
     guesses = [guess(image, x, y) for x, y in places]

@@ -45,6 +45,7 @@ def information(symbol: int, mean: float) -> float:
 
 
 def main(arguments: list[str]) -> None:
+    """Runs the example and prints its line. With --picture, writes the picture too."""
     steps, predictor = drawn(), Predictor()
     encoders, bound, means = [RangeEncoder() for _ in range(STREAMS)], 0.0, []
     for symbols in steps:

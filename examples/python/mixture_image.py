@@ -53,6 +53,7 @@ def information(pixel: int, weights: Row, means: Row, scales: Row) -> float:
 
 
 def main(arguments: list[str]) -> None:
+    """Runs the example and prints its line. With --picture, writes the picture too."""
     image = discs()
     places = [(x, y) for y in range(SIDE) for x in range(SIDE)]
     pixels = [image[y][x] for x, y in places]

@@ -43,6 +43,7 @@ class Model:
 
 
 def main(arguments: list[str]) -> None:
+    """Runs the example and prints its line. With --picture, writes the picture too."""
     text = made_up_text(4 * COUNT)
     model, text = Model(text[:-COUNT]), text[-COUNT:]
     letters, rows = [LETTERS.index(it) for it in text], [model.row(text[max(i - ORDER, 0) : i]) for i in range(COUNT)]

@@ -22,6 +22,7 @@ MODEL = Categorical(WEIGHTS)
 
 
 def main(arguments: list[str]) -> None:
+    """Runs the example and prints its line. With --picture, writes the picture too."""
     count = int(arguments[0]) if arguments and arguments[0].isdigit() else 20_000
     dice = Random(6)
     records = [dice.choices(range(len(WEIGHTS)), WEIGHTS, k=LENGTH) for _ in range(count)]

@@ -22,6 +22,7 @@ FAMILY = QuantizedLaplace(-40, 40)
 
 
 def main(arguments: list[str]) -> None:
+    """Runs the example and prints its line. With --picture, writes the picture too."""
     dice = Random(12)
     words = [dice.randrange(1 << 32) for _ in range(COUNT)]
     means, scales = [dice.uniform(-9, 9) for _ in range(COUNT)], [dice.uniform(1, 9) for _ in range(COUNT)]

@@ -12,13 +12,13 @@ use constriction::symbol::{
 };
 use std::hint::black_box;
 
-/// A million bits, each as likely to be set.
+/// Returns a million bits, each set with a probability of 1/2.
 fn equal_bits() -> Vec<bool> {
     let mut random = Random::new(5);
     (0..COUNT).map(|_| random.next() >> 40 & 1 == 1).collect()
 }
 
-/// Bits alone, to a queue and from it, to a stack and from it.
+/// Runs the cases of single bits: to and from a queue, to and from a stack.
 pub fn bits_alone(bench: &Bench) {
     let bits = equal_bits();
     let queue = || {
@@ -62,14 +62,14 @@ pub fn bits_alone(bench: &Bench) {
     assert!(!bench.wants("bits_read_stack") || read.iter().eq(bits.iter().rev()));
 }
 
-/// Codewords of numbers by Exp-Golomb.
+/// Runs the cases of numbers as Exp-Golomb codewords.
 pub fn exp_golomb(bench: &Bench, drawn: &[usize]) {
     let numbers: Vec<u32> = drawn.iter().map(|&symbol| symbol as u32).collect();
     let golomb = ExpGolomb::<u32>::new();
     codewords(bench, "golomb", &numbers, &golomb, &golomb);
 }
 
-/// Codewords of symbols by the Huffman tree of their weights.
+/// Runs the cases of symbols as codewords of the Huffman tree of their weights.
 pub fn huffman(bench: &Bench, drawn: &[usize]) {
     let weights = black_box(weights(24));
     let encoder = EncoderHuffmanTree::from_probabilities::<u32, _>(&weights);
@@ -77,7 +77,7 @@ pub fn huffman(bench: &Bench, drawn: &[usize]) {
     codewords(bench, "huffman", drawn, &encoder, &decoder);
 }
 
-/// Huffman trees of weights below 2^16.
+/// Runs the cases of Huffman trees of weights below 2^16.
 pub fn trees(bench: &Bench) {
     for count in [256, 4096, 65536] {
         let mut random = Random::new(3);
@@ -91,7 +91,7 @@ pub fn trees(bench: &Bench) {
     }
 }
 
-/// Codewords, to a queue and from it, to a stack and from it.
+/// Runs the cases of codewords: to and from a queue, to and from a stack.
 fn codewords<E, D>(bench: &Bench, name: &str, symbols: &[E::Symbol], encoder: &E, decoder: &D)
 where
     E: EncoderCodebook,

@@ -1,4 +1,4 @@
-//! Cases of the chain coder: symbols from words that are as good as random, and those words again.
+//! Cases of the chain coder: decoding symbols from random words, and encoding them back.
 
 use crate::{
     input::{weights, Random, COUNT},
@@ -8,7 +8,7 @@ use crate::{
 use constriction::stream::{chain::ChainCoder, Decode};
 use std::hint::black_box;
 
-/// Words for COUNT symbols of this precision.
+/// Returns words for COUNT symbols of this precision.
 fn random_words<Word>(bits: usize, precision: usize, word: impl Fn(u64) -> Word) -> Vec<Word> {
     let mut random = Random::new(0xfeed_beef_1234_5678);
     (0..COUNT * precision / bits + 16)
@@ -16,7 +16,7 @@ fn random_words<Word>(bits: usize, precision: usize, word: impl Fn(u64) -> Word)
         .collect()
 }
 
-/// A decoder under a model, and then an encoder under it, if one is asked for.
+/// Times a decoder under a model, and then an encoder under it, if requested.
 macro_rules! chain_case {
     ($bench:expr, $word:ty, $state:ty, $precision:literal, $size:literal, $kind:literal, $model:expr
      $(, $encode:ident)?) => {{
@@ -48,7 +48,7 @@ macro_rules! chain_case {
     }};
 }
 
-/// All cases of the chain coder.
+/// Runs all cases of the chain coder.
 pub fn cases(bench: &Bench) {
     let weights_24 = weights(24);
     let table = large::Table::new(&weights_24);

@@ -1,7 +1,7 @@
-//! Nanoseconds a symbol of the Rust crate's coders, over the input of `bench/driver.rs`.
+//! Measures the nanoseconds per symbol of the Rust crate's coders, with the input of `bench/driver.rs`.
 //!
-//! Prints a line `name ns_per_symbol` for each case, the least of RUNS runs over a million symbols. An argument keeps
-//! the cases whose name contains it. The names are those of `bench/driver.rs`, which says what they mean.
+//! Prints a line `name ns_per_symbol` for each case, the least of RUNS runs over a million symbols. An argument selects
+//! the cases whose name contains it. `bench/driver.rs` explains the names.
 
 mod bits;
 mod chain;
@@ -32,7 +32,7 @@ impl Bench {
         name.contains(&self.part)
     }
 
-    /// Prints the least time of `work` over the runs. Making its input and dropping its answer isn't counted.
+    /// Prints the least time of `work` over the runs, without making its input and dropping its result.
     fn case<T, R>(&self, name: &str, mut input: impl FnMut() -> T, mut work: impl FnMut(T) -> R) {
         if !self.wants(name) {
             return;
@@ -48,8 +48,8 @@ impl Bench {
         println!("{name} {:.2}", least / COUNT as f64);
     }
 
-    /// Prints the least time of making what has `count` parts, in nanoseconds for each of them. A run makes it until there
-    /// are COUNT, and drops each.
+    /// Prints the least nanoseconds per part of building an object with `count` parts. A run builds COUNT
+    /// parts, and drops each object.
     fn making<R>(&self, name: &str, count: usize, make: impl Fn() -> R) {
         if !self.wants(name) {
             return;
@@ -67,7 +67,7 @@ impl Bench {
     }
 }
 
-/// The cases of one coder and size: an encoder under `encoding`, and decoders under each of the others.
+/// Runs the cases of one coder and size: an encoder under `encoding`, and decoders under the other models.
 macro_rules! cases {
     ($bench:expr, $coder:literal, $encoder:ty, $encode_all:ident, $decoder:ty, $size:literal, $symbols:expr,
      encode $encode:literal: $encoding:expr, $(decode $decode:literal: $decoding:expr),*) => {{
@@ -106,7 +106,7 @@ macro_rules! range_cases {
     };
 }
 
-/// A million symbols below 256, each as likely.
+/// Returns a million symbols below 256, all equally probable.
 fn equal_symbols() -> Vec<usize> {
     let mut random = Random::new(99);
     (0..COUNT)

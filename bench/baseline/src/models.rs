@@ -1,5 +1,5 @@
 //! The models of the bench over the Rust crate's traits: a table of weights with a binary search, the same table with a
-//! list of symbols, and equal weights. None tests a bound that its own making ensures.
+//! list of symbols, and equal weights. None tests a bound that its constructor ensures.
 
 /// The models at one type of probabilities and one precision.
 macro_rules! models {
@@ -13,7 +13,7 @@ macro_rules! models {
             type Probability = $probability;
             type NonZero = $nonzero;
 
-            /// Where the intervals of the symbols 0, 1, .. begin, and where the last ends. None is empty.
+            /// The starts of the intervals of the symbols 0, 1, .., and the end of the last one. None is empty.
             pub struct Table {
                 starts: Vec<Probability>,
             }
@@ -29,7 +29,7 @@ macro_rules! models {
                     Table { starts }
                 }
 
-                /// The symbol, which is one of the table's, with its interval.
+                /// Returns a symbol of the table with its interval.
                 #[inline(always)]
                 fn entry(&self, symbol: usize) -> (usize, Probability, NonZero) {
                     // SAFETY: a symbol of the table has a start and an end, which lies above it.

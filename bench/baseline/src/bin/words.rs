@@ -1,4 +1,4 @@
-//! What the Rust crate's coders answer, for `bench/words`.
+//! Returns the results of the Rust crate's coders, for `bench/words`.
 //!
 //! Each line of standard input is a request, and gets one line as its answer. A field is a word or a list: numbers
 //! with commas between them, or `-` for none. TABLES are lists of weights with semicolons between them, one for each
@@ -47,7 +47,7 @@ use std::{
     str::FromStr,
 };
 
-/// The fields of a request behind its name and its bits.
+/// The fields of a request after its name and its bits.
 struct Fields<'a>(std::str::Split<'a, char>);
 
 impl<'a> Fields<'a> {
@@ -78,19 +78,19 @@ fn shown<T: Display>(list: &[T]) -> String {
     }
 }
 
-/// Words, or `no` where there are none.
+/// Returns words as text, or `no` if there are none.
 fn shown_or_no<T: Display>(words: Option<Vec<T>>) -> String {
     words.map_or("no".to_string(), |it| shown(&it))
 }
 
-/// Both sides of a chain coder, or `no` for each.
+/// Returns both sides of a chain coder as text, or `no` for each.
 fn both_or_no<T: Display>(sides: Option<(Vec<T>, Vec<T>)>) -> String {
     sides.map_or("no no".to_string(), |(below, above)| {
         format!("{} {}", shown(&below), shown(&above))
     })
 }
 
-/// Decodes until there are so many symbols, or one is refused: they, and how that ended.
+/// Decodes this many symbols, or up to an error. Returns the symbols, and how the decoding ended.
 fn taken<T: Display>(
     count: usize,
     mut next: impl FnMut(usize) -> Result<T, &'static str>,
@@ -105,7 +105,7 @@ fn taken<T: Display>(
     (symbols, "done")
 }
 
-/// How a read of a codeword was refused.
+/// The error of reading a codeword.
 fn ended<I, B>(error: CoderError<SymbolCodeError<I>, B>) -> &'static str {
     match error {
         CoderError::Frontend(SymbolCodeError::OutOfCompressedData) => "out",
@@ -124,7 +124,7 @@ macro_rules! coders {
             type Ans = AnsCoder<Word, $state>;
             type Chain = ChainCoder<Word, $state, Vec<Word>, Vec<Word>, $precision>;
 
-            /// Where the intervals of the symbols 0, 1, .. begin, and where the last ends. Some may be empty.
+            /// The starts of the intervals of the symbols 0, 1, .., and the end of the last one. Some may be empty.
             struct Table(Vec<Word>);
 
             impl Table {
@@ -162,7 +162,7 @@ macro_rules! coders {
                 }
             }
 
-            /// A table for each symbol.
+            /// Returns a table for each symbol.
             struct Tables(Vec<Table>);
 
             impl Tables {
@@ -179,7 +179,7 @@ macro_rules! coders {
                     &self.0[place % self.0.len()]
                 }
 
-                /// The symbols, each with its table.
+                /// Returns the symbols, each with its table.
                 fn with<'a>(&'a self, symbols: &'a [usize]) -> Vec<(&'a usize, &'a Table)> {
                     let places = symbols.iter().enumerate();
                     places.map(|(i, symbol)| (symbol, self.of(i))).collect()
@@ -348,7 +348,7 @@ macro_rules! coders {
 coders!(large, u32, std::num::NonZeroU32, u64, 24);
 coders!(small, u16, std::num::NonZeroU16, u32, 12);
 
-/// The words of the symbols' codewords; a stack gets the last one first.
+/// Returns the words of the symbols' codewords. A stack gets the last one first.
 fn encoded<Word: BitArray, C>(order: &str, symbols: &[C::Symbol], codebook: &C) -> String
 where
     C: EncoderCodebook,
@@ -367,7 +367,7 @@ where
     words.map_or("impossible".to_string(), |it: Vec<Word>| shown(&it))
 }
 
-/// The symbols whose codewords the words hold, and how that ended.
+/// Returns the symbols whose codewords the words hold, and how the decoding ended.
 fn decoded<Word: BitArray, C>(order: &str, words: Vec<Word>, count: usize, codebook: &C) -> String
 where
     C: DecoderCodebook,
@@ -393,7 +393,7 @@ where
     format!("{} {end}", shown(&symbols))
 }
 
-/// A stack of the bits of these words below the highest one of the last.
+/// Returns a stack of the bits of these words below the highest set bit of the last word.
 fn pushed<Word: BitArray>(words: &[Word]) -> StackCoder<Word> {
     let bit = |place: usize| {
         words[place / Word::BITS] >> (place % Word::BITS) & Word::one() != Word::zero()
