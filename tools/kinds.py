@@ -135,7 +135,7 @@ KINDS = {
 IMPORTS = """
 ghost use Rattle.constriction_c.specs.U32.{intervals_from_u32, decoder_u32, encoder_u32, heads_u32, narrow_from_u32};
 ghost use Rattle.constriction_calls.specs.AnsCalls.{AreBinary, HasBinary};
-ghost use Rattle.constriction_calls.specs.ChainWords.{InBinary, InRemainders};
+ghost use Rattle.constriction_calls.specs.declared.chain.Form.TheVariants.{InBinary, InRemainders};
 ghost use Rattle.constriction_calls.specs.RangeCalls.{IsSelfSealed};
 ghost use Rattle.constriction_calls.specs.SymbolCalls.{AsStack, OfWeights};
 ghost use Rattle.constriction_inputs.specs.Counts.{by_counts};
@@ -146,7 +146,6 @@ ghost use Rattle.std.specs.Prelude.{◌≡◌, map};
 use constriction_calls::ans::decoding::{decode, decode_narrow};
 use constriction_calls::ans::words::into_binary;
 use constriction_calls::chain::{ChainHeads, decode, decode_narrow};
-use constriction_calls::chain::{from_binary, from_remainders, into_binary, into_remainders};
 use constriction_calls::range::decoding::{decode, decode_narrow};
 use constriction_calls::range::parts::{DecoderParts, EncoderParts};
 use constriction_calls::range::words::into_self_delimited;

@@ -9,7 +9,8 @@ use Rattle.constriction_c.specs.declared.range.u32.RangeDecoderU32.{RangeDecoder
 use Rattle.constriction_c.specs.declared.range.u32.RangeEncoderU32.{RangeEncoderU32}
 use Rattle.constriction_calls.specs.AnsCalls.{AnsExports, AnsImports, AnsEncodesList, AnsDecodesList, coder_of}
 use Rattle.constriction_calls.specs.ChainCalls.{ChainBuffers, ChainEncodesList, ChainDecodesList}
-use Rattle.constriction_calls.specs.ChainWords.{ChainBegins, ChainEnds, Form}
+use Rattle.constriction_calls.specs.ChainWords.{ChainBegins, ChainEnds}
+use Rattle.constriction_calls.specs.declared.chain.Form.{Form}
 use Rattle.constriction_calls.specs.NarrowSymbols.{narrow_by_weights}
 use Rattle.constriction_calls.specs.RangeCalls.{RangeBuffers, RangeEncodesList, RangeDecodesList, range_buffers}
 use Rattle.constriction_calls.specs.StoreCalls.{StoreBuilds, StoreDecodesList}

@@ -10,12 +10,14 @@ use Rattle.constriction_base.specs.declared.backends.reading.ReadWords as readin
 use Rattle.constriction_base.specs.declared.errors.CoderError.{CoderError}
 use Rattle.constriction_base.specs.declared.errors.CoderError.TheVariants.{Backend, Frontend}
 use Rattle.constriction_chain.specs.Chain.{ChainState, IsChain, IsSized, least}
-use Rattle.constriction_chain.specs.Imports.{FromBinary, FromCompressed, FromRemainders}
-use Rattle.constriction_chain.specs.Words.{NoHeads, NoStart, TooFew, remainder_words}
+use Rattle.constriction_chain.specs.Imports.{FromBinary, FromCompressed, FromRemainders, compressed_words}
+use Rattle.constriction_chain.specs.Words.{IsInBinary, NoHeads, NoStart, TooFew, remainder_words}
 use Rattle.constriction_chain.proofs.Chains.{state, state_same}
 use Rattle.constriction_chain.proofs.NoCoder as laws
 use Rattle.constriction_inputs.specs.Buffers.{Appended, WordBuffer, stack_in}
-use Rattle.constriction_calls.specs.ChainWords.{AreWordsInForm, Begins, ChainBegins, ChainEnds, Form, HaveWords, HeadsOver, TooShortForWords, heads_over}
+use Rattle.constriction_calls.specs.ChainCalls.{AreHeads}
+use Rattle.constriction_calls.specs.ChainWords.{AreBinaryHeads, AreWordsInForm, Begins, ChainBegins, ChainEnds, HaveWords, HeadsOver, TooShortForWords, heads_over}
+use Rattle.constriction_calls.specs.declared.chain.Form.{Form}
 use Rattle.constriction_calls.specs.declared.chain.ChainHeads.{ChainHeads}
 use Rattle.constriction_inputs.specs.declared.refusal.Refusal.{Refusal}
 use Rattle.constriction_inputs.specs.declared.refusal.Refusal.TheVariants as refusals
@@ -77,12 +79,23 @@ module _ {W : Type 0} (number : W → ℕ) (w s P : ℕ) (words buf others : Lis
       (found.0, subst (λ (z : ChainState). FromRemainders w s P (map number (reverse words)) z) same (record { chain = chain; compressed = none; are = sym (all_taken number words) ∙ are }))
 
 -- ---- words of heads over no others, with a caller's below them
+pub compressed_above : {W A : Type 0} (number : W → ℕ) (w h r : ℕ) (added : List W) (below : List ℕ) (x : ChainState) → x ≡ state h r [] []
+    → (x.h ≡ 1) × A × (map number (reverse added) ≡ compressed_words w x) → (h ≡ 1) × (map number (reverse added) ++ below ≡ digits_of (2 ^ w) r ++ below)
+compressed_above number w h r added below x is words =
+    let found = rw is at words in
+    (found.0, ap (λ (ys : List ℕ). ys ++ below) (found.2 ∙ append-nil (digits_of (2 ^ w) r)))
+
 pub binary_above : {W A : Type 0} (number : W → ℕ) (w h r : ℕ) (added : List W) (below : List ℕ) (x : ChainState) → x ≡ state h r [] []
     → (x.h ≡ 1) × A × ((m : ℕ) × IsOneAbove w m x.r × (map number (reverse added) ≡ fixed_digits (2 ^ w) m x.r ++ x.compressed))
     → (h ≡ 1) × ((m : ℕ) × IsOneAbove w m r × (map number (reverse added) ++ below ≡ fixed_digits (2 ^ w) m r ++ below))
 binary_above number w h r added below x is words =
     let found = rw is at words in
     (found.0, (found.2.0, found.2.1, ap (λ (ys : List ℕ). ys ++ below) (found.2.2 ∙ append-nil (fixed_digits (2 ^ w) found.2.0 r))))
+
+pub binary_heads : {A : Type 0} (w s P h r : ℕ) (x : ChainState) → x ≡ state h r [] [] → AreHeads w s P h r → IsInBinary w x × A → AreBinaryHeads w s P h r
+binary_heads w s P h r x is heads found =
+    let whole = rw is at found.0 in
+    record { heads = heads; whole = whole.0; above = whole.1 }
 
 pub heads_above : {W : Type 0} (number : W → ℕ) (w h r : ℕ) (added : List W) (below : List ℕ) (x : ChainState) → x ≡ state h r [] [] → map number (reverse added) ≡ remainder_words w x
     → map number (reverse added) ++ below ≡ h ∷ (digits_of (2 ^ w) r ++ below)

@@ -8,17 +8,11 @@ use Rattle.constriction_inputs.specs.Buffers.{Appended, WordBuffer, stack_in}
 use Rattle.constriction_calls.specs.ChainCalls.{AreHeads}
 use Rattle.constriction_inputs.specs.Refusals.{Asks, Otherwise, NoRefusal, NoMemoryOrSpace}
 use Rattle.constriction_calls.specs.declared.chain.ChainHeads.{ChainHeads}
+use Rattle.constriction_calls.specs.declared.chain.Form.{Form}
+use Rattle.constriction_calls.specs.declared.chain.Form.TheVariants.{InBinary, InCompressed, InRemainders}
 use Rattle.constriction_inputs.specs.declared.refusal.Refusal.{Refusal}
 use Rattle.constriction_inputs.specs.declared.refusal.Refusal.TheVariants.{InvalidData, WrongLength}
 use Rattle.constriction_words.specs.declared.bit_array.BitArray as numbers
-
--- The form of the words that a chain coder is imported from, or exported as.
--- `InCompressed`: compressed words, and above them the words of the remainders head. `InBinary`: the same, with the
--- bits of that head below its leading 1. `InRemainders`: words of remainders, and above them the words of both heads.
-pub data Form : Type 0 where
-  InCompressed : Form
-  InBinary : Form
-  InRemainders : Form
 
 -- The state with these heads and the words in use below them. The words are remainders in the form `InRemainders`, and
 -- compressed words in the other forms.

@@ -29,11 +29,14 @@ mod decoding;
 mod encoding;
 mod words;
 
+ghost use Rattle.std.specs.Prelude.{◌≡◌, ◌≤◌, length};
+
+use constriction_base::cursor::Cursor;
+use constriction_chain::ChainCoderHeads;
+use constriction_words::{BitArray, WordOf};
 pub use decoding::{decode, decode_by_weights, decode_narrow};
 pub use encoding::encode_reverse;
-pub use words::{
-    from_binary, from_compressed, from_remainders, into_binary, into_compressed, into_remainders,
-};
+pub use words::{from_words, into_words};
 
 /// The two heads of a chain coder, which a caller keeps between calls.
 ///
@@ -42,7 +45,7 @@ pub use words::{
 /// ```
 /// let words = [5u32, 6, 7, 8];
 /// let (mut heads, mut len) = (ChainHeads { remainders: 0u64, compressed: 0u32 }, 0);
-/// from_compressed::<_, _, 24>(alloc, &words, &mut heads, &mut len)?; // len is 2: two words stay below the heads
+/// from_words::<_, _, 24>(alloc, Form::InCompressed, &words, &mut heads, &mut len)?; // len is 2: two words stay below
 /// ```
 #[derive(Debug, Clone, Copy, PartialEq, Eq)]
 pub struct ChainHeads<Word, State> {
@@ -50,4 +53,37 @@ pub struct ChainHeads<Word, State> {
     pub remainders: State,
     /// The compressed head: a leading 1, and below it the bits left over from the compressed word that was read last.
     pub compressed: Word,
+}
+
+/// The form of the words that a coder is imported from ([`from_words`]), or exported as ([`into_words`]).
+///
+/// The words of the other buffer, below the other head, take no part.
+#[derive(Clone, Copy, Drop)]
+pub enum Form {
+    /// Compressed words, and above them the words of the remainders head, without leading zero words. The compressed
+    /// head is 1, so it has no bits left over.
+    InCompressed,
+    /// Compressed words, and above them the bits of the remainders head below its leading 1. The compressed head is 1.
+    InBinary,
+    /// Words of remainders, then the words of the remainders head, and last the compressed head.
+    InRemainders,
+}
+
+/// Sets a caller's heads to `both`, and the number of words below one of them to those that `below` has left.
+fn keep<'a, Word: WordOf<State>, State: BitArray, const PRECISION: usize>(
+    below: Cursor<Word, &'a [Word]>,
+    both: ChainCoderHeads<Word, State, PRECISION>,
+    heads: &mut ChainHeads<Word, State>,
+    len: &mut usize,
+)
+    ensures heads { heads.new ≡ record { remainders = both.1; compressed = both.0 } }
+    ensures len { len.new ≡ below.entry.pos }
+    ensures within { below.entry.pos ≤ length below.entry.buf.now }
+{
+    let (compressed, remainders) = both.parts();
+    *heads = ChainHeads {
+        remainders,
+        compressed,
+    };
+    *len = below.into_buf_and_pos().1;
 }

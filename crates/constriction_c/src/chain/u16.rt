@@ -4,13 +4,11 @@
 ghost use Rattle.std.specs.Prelude.{map};
 ghost use Rattle.constriction_c.specs.U16.{ChainBeginsU16, ChainEndsU16, ChainEncodesU16, ChainDecodesU16, chain_u16};
 ghost use Rattle.constriction_c.specs.Words.{lowest};
-ghost use Rattle.constriction_calls.specs.ChainWords.{InCompressed};
+ghost use Rattle.constriction_calls.specs.declared.chain.Form.TheVariants.{InCompressed};
 ghost use Rattle.constriction_inputs.specs.Weights.{by_weights};
 
 use crate::codes::{code_of, code_without_space};
-use constriction_calls::chain::{
-    decode_by_weights, encode_reverse, from_compressed, into_compressed,
-};
+use constriction_calls::chain::{Form, decode_by_weights, encode_reverse, from_words, into_words};
 use constriction_inputs::models::Weights;
 use constriction_inputs::symbols::Symbols;
 use std::alloc::Global;
@@ -83,7 +81,7 @@ pub extern "C" fn constriction_chain_encode_reverse_u16(
 ///
 /// Sets `heads`, and sets `count` to the number of words that stay in `words`, below the heads.
 ///
-/// Calls [`from_compressed`] and returns the code of its result ([`code_of`]).
+/// Calls [`from_words`] and returns the code of its result ([`code_of`]).
 #[unsafe(no_mangle)]
 pub extern "C" fn constriction_chain_from_compressed_u16(
     alloc: Global,
@@ -94,14 +92,14 @@ pub extern "C" fn constriction_chain_from_compressed_u16(
     ensures { ChainBeginsU16 result InCompressed words.now heads.old count.old heads.new count.new }
 {
     let mut both = heads.parts();
-    let answer = from_compressed::<_, _, 12>(alloc, words, &mut both, count);
+    let answer = from_words::<_, _, 12>(alloc, Form::InCompressed, words, &mut both, count);
     *heads = ChainHeadsU16::of(both);
     code_without_space(answer)
 }
 
 /// Exports compressed words: writes the words of the remainders head after the first `count` words of `compressed`.
 ///
-/// Calls [`into_compressed`] and returns the code of its result ([`code_of`]).
+/// Calls [`into_words`] and returns the code of its result ([`code_of`]).
 #[unsafe(no_mangle)]
 pub extern "C" fn constriction_chain_into_compressed_u16(
     alloc: Global,
@@ -113,6 +111,7 @@ pub extern "C" fn constriction_chain_into_compressed_u16(
     ensures { ChainEndsU16 result needed.old needed.new InCompressed heads.now compressed.old count.old compressed.new
         count.new }
 {
-    let answer = into_compressed::<_, _, 12>(alloc, &heads.parts(), compressed, count);
+    let parts = heads.parts();
+    let answer = into_words::<_, _, 12>(alloc, Form::InCompressed, &parts, compressed, count);
     code_of(answer, needed)
 }

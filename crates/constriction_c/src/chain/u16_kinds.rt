@@ -3,7 +3,7 @@
 
 ghost use Rattle.constriction_c.specs.U16.{ChainBeginsU16, ChainDecodesU16, ChainEncodesU16, ChainEndsU16, chain_u16, intervals_from_u16, narrow_from_u16};
 ghost use Rattle.constriction_c.specs.Words.{lowest};
-ghost use Rattle.constriction_calls.specs.ChainWords.{InBinary, InRemainders};
+ghost use Rattle.constriction_calls.specs.declared.chain.Form.TheVariants.{InBinary, InRemainders};
 ghost use Rattle.constriction_inputs.specs.Counts.{by_counts};
 ghost use Rattle.constriction_inputs.specs.Mixtures.{in_mixture};
 ghost use Rattle.constriction_inputs.specs.Quantized.{in_family};
@@ -14,8 +14,7 @@ ghost use Rattle.std.specs.Prelude.{map};
 use crate::chain::u16::ChainHeadsU16;
 use crate::codes::{code_of, code_without_space};
 use constriction_calls::chain::{
-    decode, decode_narrow, encode_reverse, from_binary, from_remainders, into_binary,
-    into_remainders,
+    Form, decode, decode_narrow, encode_reverse, from_words, into_words,
 };
 use constriction_inputs::intervals::Intervals;
 use constriction_inputs::models::{Counts, Families, Mixtures, Rows, Weights};
@@ -425,7 +424,7 @@ pub extern "C" fn constriction_chain_encode_shorts_reverse_u16(
 ///
 /// Sets `heads`, and sets `count` to the number of words that stay in `words`, below the heads.
 ///
-/// Calls [`from_binary`] and returns the code of its result ([`code_of`]).
+/// Calls [`from_words`] and returns the code of its result ([`code_of`]).
 #[unsafe(no_mangle)]
 pub extern "C" fn constriction_chain_from_binary_u16(
     alloc: Global,
@@ -436,14 +435,14 @@ pub extern "C" fn constriction_chain_from_binary_u16(
     ensures { ChainBeginsU16 result InBinary words.now heads.old count.old heads.new count.new }
 {
     let mut both = heads.parts();
-    let answer = from_binary::<_, _, 12>(alloc, words, &mut both, count);
+    let answer = from_words::<_, _, 12>(alloc, Form::InBinary, words, &mut both, count);
     *heads = ChainHeadsU16::of(both);
     code_without_space(answer)
 }
 
 /// Exports the binary form: appends the remainders head's bits below its leading 1 to the compressed words.
 ///
-/// Calls [`into_binary`] and returns the code of its result ([`code_of`]).
+/// Calls [`into_words`] and returns the code of its result ([`code_of`]).
 #[unsafe(no_mangle)]
 pub extern "C" fn constriction_chain_into_binary_u16(
     alloc: Global,
@@ -455,7 +454,8 @@ pub extern "C" fn constriction_chain_into_binary_u16(
     ensures { ChainEndsU16 result needed.old needed.new InBinary heads.now compressed.old count.old compressed.new
         count.new }
 {
-    let answer = into_binary::<_, _, 12>(alloc, &heads.parts(), compressed, count);
+    let parts = heads.parts();
+    let answer = into_words::<_, _, 12>(alloc, Form::InBinary, &parts, compressed, count);
     code_of(answer, needed)
 }
 
@@ -463,7 +463,7 @@ pub extern "C" fn constriction_chain_into_binary_u16(
 ///
 /// Sets `heads`, and sets `rest` to the number of words that stay in `words`, below the heads.
 ///
-/// Calls [`from_remainders`] and returns the code of its result ([`code_of`]).
+/// Calls [`from_words`] and returns the code of its result ([`code_of`]).
 #[unsafe(no_mangle)]
 pub extern "C" fn constriction_chain_from_remainders_u16(
     alloc: Global,
@@ -474,14 +474,14 @@ pub extern "C" fn constriction_chain_from_remainders_u16(
     ensures { ChainBeginsU16 result InRemainders words.now heads.old rest.old heads.new rest.new }
 {
     let mut both = heads.parts();
-    let answer = from_remainders::<_, _, 12>(alloc, words, &mut both, rest);
+    let answer = from_words::<_, _, 12>(alloc, Form::InRemainders, words, &mut both, rest);
     *heads = ChainHeadsU16::of(both);
     code_without_space(answer)
 }
 
 /// Exports remainders: writes the words of both heads after the first `rest` words of `remainders`.
 ///
-/// Calls [`into_remainders`] and returns the code of its result ([`code_of`]).
+/// Calls [`into_words`] and returns the code of its result ([`code_of`]).
 #[unsafe(no_mangle)]
 pub extern "C" fn constriction_chain_into_remainders_u16(
     alloc: Global,
@@ -493,6 +493,7 @@ pub extern "C" fn constriction_chain_into_remainders_u16(
     ensures { ChainEndsU16 result needed.old needed.new InRemainders heads.now remainders.old rest.old remainders.new
         rest.new }
 {
-    let answer = into_remainders::<_, _, 12>(alloc, &heads.parts(), remainders, rest);
+    let parts = heads.parts();
+    let answer = into_words::<_, _, 12>(alloc, Form::InRemainders, &parts, remainders, rest);
     code_of(answer, needed)
 }

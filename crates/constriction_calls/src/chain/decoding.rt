@@ -11,7 +11,7 @@ ghost use Rattle.constriction_chain.specs.Fits.{CoderFits};
 ghost use Rattle.constriction_inputs.specs.Coded.{AreFit, items};
 ghost use Rattle.constriction_inputs.specs.declared.refusal.Refusal.TheVariants as refusals;
 
-use crate::chain::ChainHeads;
+use crate::chain::{ChainHeads, keep};
 use crate::narrow::{has_numbers, narrow_into};
 use constriction_base::backends::{Holds, ReadWords, Stack, WriteWords};
 use constriction_base::cursor::Cursor;
@@ -72,10 +72,7 @@ pub fn decode<
     if *compressed_len > compressed.len() || *remainders_len > remainders.len() {
         return Err(Refusal::WrongLength);
     }
-    match models.check(symbols.len()) {
-        Ok(()) => {}
-        Err(wrong) => return Err(wrong),
-    }
+    models.check(symbols.len())?;
     let Some(both) = ChainCoderHeads::new(heads.compressed, heads.remainders) else {
         return Err(Refusal::InvalidData);
     };
@@ -329,16 +326,7 @@ fn finish_decoding<'a, Word: WordOf<State>, State: BitArray, const PRECISION: us
         × (remainders.new ≡ remainders.old) × (remainders_len.new ≡ remainders_len.old)) }
 {
     let (words, written, both) = coder.into_raw_parts();
-    match append(written.as_slice(), remainders, remainders_len) {
-        Ok(()) => {}
-        Err(refusal) => return Err(refusal),
-    }
-    let (_, pos) = words.into_buf_and_pos();
-    let (left_over, number) = both.parts();
-    *compressed_len = pos;
-    *heads = ChainHeads {
-        remainders: number,
-        compressed: left_over,
-    };
+    append(written.as_slice(), remainders, remainders_len)?;
+    keep(words, both, heads, compressed_len);
     Ok(())
 }

@@ -10,7 +10,7 @@ ghost use Rattle.constriction_calls.specs.ChainItems.{ChainEncodesItems, PutsIte
 ghost use Rattle.constriction_inputs.specs.declared.refusal.Refusal.TheVariants as refusals;
 ghost use Rattle.constriction_words.specs.Reciprocals.{IsReciprocalOf};
 
-use crate::chain::ChainHeads;
+use crate::chain::{ChainHeads, keep};
 use constriction_base::cursor::Cursor;
 use constriction_base::errors::CoderError;
 use constriction_chain::{ChainCoder, ChainCoderHeads};
@@ -64,10 +64,7 @@ pub fn encode_reverse<
     if *compressed_len > compressed.len() || *remainders_len > remainders.len() {
         return Err(Refusal::WrongLength);
     }
-    match items.check() {
-        Ok(()) => {}
-        Err(wrong) => return Err(wrong),
-    }
+    items.check()?;
     let Some(both) = ChainCoderHeads::new(heads.compressed, heads.remainders) else {
         return Err(Refusal::InvalidData);
     };
@@ -368,16 +365,7 @@ fn finish_encoding<'a, Word: WordOf<State>, State: BitArray, const PRECISION: us
 {
     let (written, words, both) = coder.into_raw_parts();
     let (room, count) = written.into_buf_and_pos();
-    match append(&room[..count], compressed, compressed_len) {
-        Ok(()) => {}
-        Err(refusal) => return Err(refusal),
-    }
-    let (_, pos) = words.into_buf_and_pos();
-    let (left_over, number) = both.parts();
-    *remainders_len = pos;
-    *heads = ChainHeads {
-        remainders: number,
-        compressed: left_over,
-    };
+    append(&room[..count], compressed, compressed_len)?;
+    keep(words, both, heads, remainders_len);
     Ok(())
 }
