@@ -11,7 +11,7 @@ from reference import PAGES
 # The most words that README.md has, and that all pages have together, as `wc -w` counts them. The pages have about 5 %
 # of room below their limit.
 README = 1300
-ALL = 33000
+ALL = 34500
 
 # Pages whose length follows from something else: those that scripts write, and the one that has a row for each program.
 UNLIMITED = (*PAGES, "examples/c/README.md")
