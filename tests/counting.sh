@@ -1,4 +1,4 @@
-# Functions of tests/foreign and tests/aarch64, which count cases and run tests/c. The caller sets `here` (the
+# Functions of tests/c_and_python and tests/aarch64, which count cases and run tests/c. The caller sets `here` (the
 # repository), `room` (a temporary folder) and `emulator` (the command that runs a built program, or nothing).
 passed=0 failed=0
 warnings="-Wall -Wextra -Werror -I$here/include"

@@ -1,5 +1,5 @@
 /* The three functions by which the proved code requests memory from the C library, for processors other than x86-64.
-   For x86-64, the toolchain has compiled ones. tests/aarch64 runs tests/c with these on aarch64, and tests/foreign on
+   For x86-64, the toolchain has compiled ones. tests/aarch64 runs tests/c with these on aarch64, and tests/c_and_python on
    x86-64.
 
    A request returns a pair in two registers: 1 and the block, or 0 and an address that isn't null. A request for 0

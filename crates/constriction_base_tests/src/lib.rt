@@ -7,8 +7,9 @@
 //! - A caller can make each call.
 //!
 //! The tests are a separate crate, so a change of the tests asks for no new proof of `constriction_base`.
-//! `tests/unproved` runs the tests of `tests/cases/constriction_base_tests` without a proof. They cover refused memory,
-//! the texts of errors, clones, reversed cursors, iterators, small vectors, conversions, and tables at other widths.
+//! `tests/run_unproved` runs the tests of `tests/unproved/constriction_base_tests` without a proof. They cover refused
+//! memory, the texts of errors, clones, reversed cursors, iterators, small vectors, conversions, and tables at other
+//! widths.
 //!
 //! Most helpers combine the functions of [`calls`]. These functions have no contract, so that the proof of a helper
 //! doesn't use the contracts of the backend's calls.

@@ -51,7 +51,7 @@ fn table_comes(alloc: Global, is_for_decoding: bool, name: &'static str) -> Resu
 
 /// Checks that making a table reports refused memory, and succeeds when tried again.
 ///
-/// `tests/refused-memory` refuses each request for memory of this test, one at a time.
+/// `tests/refused_memory` refuses each request for memory of this test, one at a time.
 #[test]
 fn refused_requests_of_tables(rt: HostRuntime) -> Result<(), Fail> {
     table_comes(rt.alloc(), false, "WeightTable::new")?;

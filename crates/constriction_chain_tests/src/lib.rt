@@ -6,7 +6,7 @@
 //! - Calls that need memory succeed if there is enough memory.
 //! - A caller can make each call.
 //!
-//! `tests/cases` has more tests, which run without a proof.
+//! `tests/unproved` has more tests, which run without a proof.
 //!
 //! The expected values are computed separately, on lists of bits: a coder is a list of the bits left over, and two
 //! lists of words.

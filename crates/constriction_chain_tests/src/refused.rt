@@ -1,6 +1,6 @@
 //! Tests of calls over vectors, in runs that refuse one request for memory.
 //!
-//! `tests/refused-memory` runs these tests once for each request for memory that they make, and refuses this request. A
+//! `tests/refused_memory` runs these tests once for each request for memory that they make, and refuses this request. A
 //! test then checks three facts about the call that makes the request:
 //!
 //! - The call reports that there is no memory.

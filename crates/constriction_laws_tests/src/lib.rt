@@ -2,7 +2,8 @@
 //!
 //! The contracts of these functions are proved in `constriction_laws` for all values. The tests check what no contract
 //! can state: the calls succeed if there is memory, and return the values written in the tests. Tests whose
-//! calls take longer to prove are in `tests/cases/constriction_laws_tests`. `tests/unproved` runs them without a proof.
+//! calls take longer to prove are in `tests/unproved/constriction_laws_tests`. `tests/run_unproved` runs them without a
+//! proof.
 #![tactic(auto)]
 
 #[cfg(test)]

@@ -7,7 +7,7 @@
 //! - Calls that need memory succeed if memory is available.
 //! - A caller can make each call.
 //!
-//! `tests/cases` has more tests of this coder, which run without a proof.
+//! `tests/unproved` has more tests of this coder, which run without a proof.
 //!
 //! The expected values come from a separate computation in unbounded numbers, which needs no pending words. It keeps
 //! the lower end and the length of an interval. If the length is below `2^(s-w)`, the computation multiplies both by

@@ -1,13 +1,13 @@
 //! Tests of calls over a vector, where one request for memory is refused.
 //!
-//! `tests/refused-memory` runs these tests once per memory request that they make, and refuses that request. If a call
+//! `tests/refused_memory` runs these tests once per memory request that they make, and refuses that request. If a call
 //! makes the refused request, the test checks three facts:
 //!
 //! - The call reports that there is no memory.
 //! - The call consumes the coder, or leaves the coder as the test expects.
 //! - The call, or the rest of the call, succeeds when the test makes it again.
 //!
-//! If all three hold, the test fails with the call's name, as `tests/refused-memory` expects. If the test itself makes
+//! If all three hold, the test fails with the call's name, as `tests/refused_memory` expects. If the test itself makes
 //! the request, it fails with `Memory`. If no request is refused, a test passes.
 
 use crate::coders::{Coder, INVERTING, Table};

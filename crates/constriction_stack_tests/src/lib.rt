@@ -7,7 +7,7 @@
 //! - Calls that need memory succeed if memory is available.
 //! - A caller can make each call.
 //!
-//! `tests/cases` has more tests of this coder, which run without a proof.
+//! `tests/unproved` has more tests of this coder, which run without a proof.
 //!
 //! A test is a script (`constriction_scripts`), which is a list of acts. Each act has numbers, an expected answer,
 //! and a verb that names a call or a check. [`acts`] and [`owning`] run scripts, at the types of [`coders`]. Each

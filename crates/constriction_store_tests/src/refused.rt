@@ -1,8 +1,8 @@
 //! Tests a store whose requests for memory are refused, one at a time.
 //!
-//! `tests/refused-memory` runs the test once for each request for memory that the test makes, and refuses that request.
+//! `tests/refused_memory` runs the test once for each request for memory that the test makes, and refuses that request.
 //! The call that made the request has to report the error, and has to succeed when it is made again. If it does both,
-//! the test fails with the name of the call, as `tests/refused-memory` expects.
+//! the test fails with the name of the call, as `tests/refused_memory` expects.
 
 use crate::stores::{Halves, chunks_of, halves};
 use constriction_store::{BuildError, ChunkError};

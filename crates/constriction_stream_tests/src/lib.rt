@@ -5,8 +5,8 @@
 //! - Calls that encode a list, and iterators that decode, can succeed.
 //! - After an error, each of them stops or continues as expected.
 //!
-//! The tests are a separate crate, so that `constriction_stream` is proved once. `tests/unproved` runs the tests of
-//! `tests/cases/constriction_stream_tests` without a proof. They cover three things:
+//! The tests are a separate crate, so that `constriction_stream` is proved once. `tests/run_unproved` runs the tests of
+//! `tests/unproved/constriction_stream_tests` without a proof. They cover three things:
 //!
 //! - Which items the calls and iterators request from the caller's iterator.
 //! - The size hints.

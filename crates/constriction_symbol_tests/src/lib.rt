@@ -6,8 +6,8 @@
 //! - Calls that need memory succeed if memory is available.
 //! - A caller can make each call.
 //!
-//! `tests/unproved` runs the tests of `tests/cases/constriction_symbol_tests` without a proof. They cover each word
-//! width, other backends, clones, texts, forgotten guards and callers' iterators.
+//! `tests/run_unproved` runs the tests of `tests/unproved/constriction_symbol_tests` without a proof. They cover each
+//! word width, other backends, clones, texts, forgotten guards and callers' iterators.
 //!
 //! The expected words come from a separate model of the definitions (lists of bits, and the Exp-Golomb grammar).
 //! Helpers without a contract make the calls. Most helpers are generic over the stream of bits ([`bits`],

@@ -1,9 +1,9 @@
 //! Tests of coders over vectors, Huffman trees and reversed codewords, with one request for memory refused at a time.
 //!
-//! `tests/refused-memory` runs these tests once for each request for memory that they make, and refuses this request.
+//! `tests/refused_memory` runs these tests once for each request for memory that they make, and refuses this request.
 //! The call that made the request must report that there is no memory, leave the coder as its contract says, and
 //! succeed when it is made again. If the call does so, the test returns an error with the call's name, which
-//! `tests/refused-memory` expects. If no request is refused, a test passes. The expected words come from lists of bits,
+//! `tests/refused_memory` expects. If no request is refused, a test passes. The expected words come from lists of bits,
 //! and not from this library.
 
 use crate::bits::{gives, writes};

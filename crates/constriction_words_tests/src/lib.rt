@@ -8,8 +8,8 @@
 //! - The machine's operations return the proved values.
 //! - A caller can call each method.
 //!
-//! The tests are a separate crate, so that `constriction_words` is proved once. `tests/unproved` runs the tests of
-//! `tests/cases/constriction_words_tests` without a proof. They cover the methods at the other types, and many
+//! The tests are a separate crate, so that `constriction_words` is proved once. `tests/run_unproved` runs the tests of
+//! `tests/unproved/constriction_words_tests` without a proof. They cover the methods at the other types, and many
 //! reciprocals.
 #![tactic(auto)]
 
