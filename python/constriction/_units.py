@@ -40,6 +40,8 @@ WHOLE = 2.0**52
 GREATEST_SHIFT = 999
 #: The least float of a list, and the greatest float.
 Ends = tuple[float, float]
+#: Rounds a float half to even, like ``round``, without a search for the method of a number's type.
+_nearest: Callable[[float], int] = float.__round__
 
 
 def _numpy_for(floats: Any) -> Any:
@@ -101,8 +103,7 @@ def _rounded(code: str, floats: array[float], unit: float, within: Ends, ends: E
     numbers: Iterable[float] = floats
     if ends[0] < within[0] or ends[1] > within[1]:
         numbers = [min(max(it, within[0]), within[1]) for it in floats]
-    nearest: Callable[[float], int] = round
-    return array(code, map(nearest, map(unit.__mul__, numbers)))
+    return array(code, map(_nearest, map(unit.__mul__, numbers)))
 
 
 def moved(floats: array[float], origin: float) -> array[float]:
@@ -125,7 +126,7 @@ def unit_of(number: Any, origin: float, least: float, greatest: float) -> int | 
             if number is None:
                 return None
     number -= origin
-    return round(number * UNITS_OF_ONE) if least <= number <= greatest else None
+    return _nearest(number * UNITS_OF_ONE) if least <= number <= greatest else None
 
 
 def _only(numbers: Any) -> float | None:
@@ -156,7 +157,7 @@ def units_of(floats: Any, unit: float, origin: float = 0.0) -> list[int] | None:
     try:
         if origin:
             floats = [it - origin for it in floats]
-        return [round(it * unit) for it in floats]
+        return [_nearest(it * unit) for it in floats]
     except (TypeError, ValueError, OverflowError):
         return None
 
@@ -241,8 +242,7 @@ def counts_of_row(row: Any) -> array[int] | None:
         return None
     unit = 2.0**shift
     if type(row) is list:
-        nearest: Callable[[float], int] = round
-        return array("Q", [nearest(it * unit) or 1 for it in row])
+        return array("Q", [_nearest(it * unit) or 1 for it in row])
     table = numpy.multiply(row, unit)
     if least * unit < WHOLE:
         numpy.maximum(numpy.rint(table, table), 1.0, table)
