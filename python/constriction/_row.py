@@ -21,8 +21,11 @@ count_as_argument: Any = c_size_t.from_param
 pointer_as_argument: Any = c_void_p.from_param
 #: Rows of at most so many floats are converted in this memory. Longer rows get memory of their own.
 MOST_FLOATS = 1 << 12
-#: The memory keeps arrays of at most so many units.
-_MOST_UNITS = 32
+#: The memory keeps at most so many scales.
+_MOST_SCALES = 32
+#: The least greatest float of a row and the limit of the greatest floats, an array of a power of two, and the least float
+#: whose product with this power is certainly whole. A product with an array takes less time than with a float.
+_Scale = tuple[float, float, Any, float]
 
 
 def memory_of(numbers: array[Any]) -> Any:
@@ -40,19 +43,21 @@ def lent_for_good(memory: Any) -> tuple[Any, Any]:
 
 
 class Row:
-    """Memory for a row of counts, and for weights in proportion to them. ``place`` is the address of the weights."""
+    """Memory for a row of counts, and for weights in proportion to them.
+
+    ``width`` is the number of counts, and ``place`` is the address of the weights.
+    """
 
     _table: Any = None
 
     def __init__(self, size: Size, width: int) -> None:
         """Creates the memory for rows of a width."""
         self._counts, self._weights = room("Q", width, array), room(size.code, width, array)
-        self.place, count = self._weights.buffer_info()[0], count_as_argument(width)
+        self.width, self.place, count = width, self._weights.buffer_info()[0], count_as_argument(width)
         lists = memory_of(self._counts), count, memory_of(self._weights), count
         self._share = partial(size.short_function("weights_of_counts"), *lists)
-        #: By the logarithm of a power of two: an array of this power, and the least float whose product with it is
-        #: certainly whole. A product with such an array takes less time than with a float.
-        self._units: dict[int, tuple[Any, float]] = {}
+        self._scales: dict[int, _Scale] = {}
+        self._scale: _Scale = inf, inf, None, inf
 
     def take_counts(self, counts: array[int]) -> int:
         """Computes the weights of these counts. Returns the result of the C function."""
@@ -66,30 +71,35 @@ class Row:
         Returns 1 for rows that ``counts_of`` refuses. The counts of other rows are those of ``counts_of``.
         """
         least, greatest = row.item(row.argmin()), row.item(row.argmax())
-        shift = COUNT_BITS - frexp(greatest)[1]
-        if not (least >= 0 and 0 < greatest < inf and shift <= GREATEST_SHIFT):  # The comparisons fail for NaN.
-            return 1
-        units, limit = self._units.get(shift) or self._made_units(shift)
+        low, high, units, limit = self._scale
+        if not low <= greatest < high:  # NaN is in no range.
+            exponent = frexp(greatest)[1]
+            if not (0 < greatest < inf and COUNT_BITS - exponent <= GREATEST_SHIFT):
+                return 1
+            _, _, units, limit = self._scale = self._scales.get(exponent) or self._made_scale(exponent)
         table = self._table
         self._multiply(row, units, table)
         if least < limit:
+            if least < 0:
+                return 1
             self._maximum(table, self._ones, table)
             self._rint(table, table)
         self._seen[...] = table
         refused: int = self._share()
         return refused
 
-    def _made_units(self, shift: int) -> tuple[Any, float]:
-        """Returns an item of ``_units``, and makes the memory for floats before the first one."""
-        numpy, width = seen_numpy(), len(self._counts)
+    def _made_scale(self, exponent: int) -> _Scale:
+        """Returns the scale for rows whose greatest float has this exponent. Makes the memory for floats first."""
+        numpy, width = seen_numpy(), self.width
         if self._table is None:
             self._multiply, self._maximum, self._rint = numpy.multiply, numpy.maximum, numpy.rint
             self._ones, self._seen = numpy.ones(width), numpy.frombuffer(self._counts, dtype="int64")
             self._table = numpy.empty(width)
-        if len(self._units) >= _MOST_UNITS:
-            self._units.clear()
-        units = self._units[shift] = numpy.full(width, 2.0**shift), ldexp(WHOLE, -shift)
-        return units
+        if len(self._scales) >= _MOST_SCALES:
+            self._scales.clear()
+        shift, low = COUNT_BITS - exponent, ldexp(0.5, exponent)
+        scale = self._scales[exponent] = low, 2 * low, numpy.full(width, 2.0**shift), ldexp(WHOLE, -shift)
+        return scale
 
 
 class Components:

@@ -211,17 +211,20 @@ class Lane:
             self._taken = None
             self._row.value, self._width.value = first.buffer_info()[0], width
             return 0
-        row = self._rows.get(width) or self._made_row(width)
-        if row is not self._taken:
-            self._taken = None
-            self._row.value, self._width.value = row.place, width
-            self._taken = row
+        row = self._taken
+        if row is None or row.width != width:
+            row = self._take_width(width)
         return row.take_floats(first) if form == FLOATS else row.take_counts(first)
 
-    def _made_row(self, width: int) -> Row:
-        if len(self._rows) >= _MOST_WIDTHS:
-            self._rows.clear()
-        row = self._rows[width] = Row(self.size, width)
+    def _take_width(self, width: int) -> Row:
+        """Takes the memory for rows of a width."""
+        self._taken, row = None, self._rows.get(width)
+        if row is None:
+            if len(self._rows) >= _MOST_WIDTHS:
+                self._rows.clear()
+            row = self._rows[width] = Row(self.size, width)
+        self._row.value, self._width.value = row.place, width
+        self._taken = row
         return row
 
     def _take_family(self, model: Any, of: Any) -> None:
