@@ -19,12 +19,20 @@ from ._sizes import Size
 from ._units import fault_of, halved
 from .errors import shown
 
-__all__ = ["quick_counts_of", "quick_counts_of_row", "quick_counts_of_rows", "quick_counts_of_wholes", "quick_weights"]
+__all__ = [
+    "QUICK_BITS",
+    "SHORT",
+    "quick_counts_of",
+    "quick_counts_of_row",
+    "quick_counts_of_rows",
+    "quick_counts_of_wholes",
+    "quick_weights",
+]
 
 #: The number of bits of the greatest count's limit, of a sum's limit, and of a sum after a second try.
-_COUNT_BITS, _SUM_BITS, _LESS_BITS = 31, 40, 39
+QUICK_BITS, _SUM_BITS, _LESS_BITS = 31, 40, 39
 #: Rows of fewer counts have a sum below 2^40 at the first try.
-_SHORT = 1 << _SUM_BITS - _COUNT_BITS
+SHORT = 1 << _SUM_BITS - QUICK_BITS
 #: Shifts up to these are exponents of a float of 64 and of 32 bits.
 _GREATEST_SHIFT, _SMALL_SHIFT = 1000, 120
 _NONE = "expected a probability above 0, got none"
@@ -39,12 +47,12 @@ def quick_counts_of_row(row: Any) -> array[int] | None:
     if numpy is None or type(row) is not numpy.ndarray or row.ndim != 1 or row.dtype.char not in "df" or not len(row):
         return None
     least, greatest = row.item(row.argmin()), row.item(row.argmax())
-    shift = _COUNT_BITS - frexp(greatest)[1]
+    shift = QUICK_BITS - frexp(greatest)[1]
     if not (least >= 0 and 0 < greatest < inf and shift <= _SMALL_SHIFT):  # The comparisons fail for NaN.
         return None
     table = row * row.dtype.type(2.0**shift)
     counts = numpy.rint(table, table).astype("uint32")
-    if len(row) >= _SHORT:
+    if len(row) >= SHORT:
         total = int(counts.sum(dtype="uint64"))
         if total >> _SUM_BITS:
             table = row * row.dtype.type(2.0 ** (shift - (total.bit_length() - _LESS_BITS)))
@@ -65,7 +73,7 @@ def quick_counts_of(probabilities: Any) -> array[int]:
     greatest = max(probabilities, default=0.0)
     if not greatest:
         raise ValueError(_NONE)
-    shift = _COUNT_BITS - frexp(greatest)[1]
+    shift = QUICK_BITS - frexp(greatest)[1]
     counts = [round(ldexp(it, shift)) for it in probabilities]
     total = sum(counts)
     if total >> _SUM_BITS:
@@ -87,7 +95,7 @@ def quick_counts_of_wholes(wholes: list[int]) -> array[int]:
         raise ValueError(_NONE)
     if greatest >> 32 == 0 and sum(wholes) >> _SUM_BITS == 0:
         return array("I", wholes)
-    shift = _COUNT_BITS - greatest.bit_length()
+    shift = QUICK_BITS - greatest.bit_length()
     counts = [_moved(it, shift) for it in wholes]
     total = sum(counts)
     if total >> _SUM_BITS:
@@ -114,13 +122,13 @@ def quick_counts_of_rows(table: Any) -> array[int] | None:
     # The comparisons fail for NaN.
     if not (rows.min() >= 0 and greatest.min() > 0 and isfinite(float(greatest.max()))):
         return None
-    shifts = _COUNT_BITS - numpy.frexp(greatest)[1]
+    shifts = QUICK_BITS - numpy.frexp(greatest)[1]
     if shifts.max() > _GREATEST_SHIFT:
         return None
     counts = room("I", rows.size)
     seen = numpy.frombuffer(counts, dtype="uint32").reshape(rows.shape)
     numpy.copyto(seen, _rounded(rows, shifts), casting="unsafe")
-    if rows.shape[1] >= _SHORT:
+    if rows.shape[1] >= SHORT:
         totals = seen.sum(axis=1, dtype="uint64")
         large = totals >> numpy.uint64(_SUM_BITS) != 0
         if large.any():

@@ -12,19 +12,31 @@ from typing import Any
 
 from ._buffers import room, seen_numpy
 from ._sizes import Size
+from ._quick import QUICK_BITS, SHORT
 from ._units import COUNT_BITS, GREATEST_SHIFT, WHOLE
 
-__all__ = ["MOST_FLOATS", "Components", "Row", "count_as_argument", "lent_for_good", "memory_of", "pointer_as_argument"]
+__all__ = [
+    "MOST_FLOATS",
+    "MOST_QUICK_FLOATS",
+    "Components",
+    "QuickRow",
+    "Row",
+    "count_as_argument",
+    "lent_for_good",
+    "memory_of",
+    "pointer_as_argument",
+]
 
 #: Arguments of C functions with such numbers. A call doesn't convert them.
 count_as_argument: Any = c_size_t.from_param
 pointer_as_argument: Any = c_void_p.from_param
-#: Rows of at most so many floats are converted in this memory. Longer rows get memory of their own.
-MOST_FLOATS = 1 << 12
+#: Rows of at most so many floats are converted in this memory, by each of the two rules. Longer rows get memory of their
+#: own.
+MOST_FLOATS, MOST_QUICK_FLOATS = 1 << 12, SHORT - 1
 #: The memory keeps at most so many scales.
 _MOST_SCALES = 32
 #: The least greatest float of a row and the limit of the greatest floats, an array of a power of two, and the least float
-#: whose product with this power is certainly whole. A product with an array takes less time than with a float.
+#: whose product with this power is known to be whole. A product with an array takes less time than with a float.
 _Scale = tuple[float, float, Any, float]
 
 
@@ -42,22 +54,71 @@ def lent_for_good(memory: Any) -> tuple[Any, Any]:
     return pointer_as_argument(place), count_as_argument(len(memory))
 
 
-class Row:
-    """Memory for a row of counts, and for weights in proportion to them.
+class _Counts:
+    """Memory for a row of counts, which numpy makes of floats. ``width`` is the number of counts."""
 
-    ``width`` is the number of counts, and ``place`` is the address of the weights.
-    """
-
+    #: The number of bits of a count's limit, and numpy's type of counts.
+    _bits: int
+    _kind: str
+    #: Whether each count is at least 1.
+    _raises: bool
     _table: Any = None
+
+    def __init__(self, counts: array[int]) -> None:
+        self._counts, self.width = counts, len(counts)
+        self._scales: dict[int, _Scale] = {}
+        self._scale: _Scale = inf, inf, None, inf
+
+    def _counted(self, row: Any) -> bool:
+        """Makes counts of a numpy array of floats. Returns whether this succeeded.
+
+        It fails if no float is above 0, or if one is negative or not finite, and for some rows of tiny floats.
+        """
+        least, greatest = row.item(row.argmin()), row.item(row.argmax())
+        low, high, units, limit = self._scale
+        if not low <= greatest < high:  # NaN is in no range.
+            exponent = frexp(greatest)[1]
+            if not (0 < greatest < inf and self._bits - exponent <= GREATEST_SHIFT):
+                return False
+            _, _, units, limit = self._scale = self._scales.get(exponent) or self._made_scale(exponent)
+        table = self._table
+        self._multiply(row, units, table)
+        if least < limit:
+            if least < 0:
+                return False
+            if self._raises:
+                self._maximum(table, self._ones, table)
+            self._rint(table, table)
+        self._seen[...] = table
+        return True
+
+    def _made_scale(self, exponent: int) -> _Scale:
+        """Returns the scale for rows whose greatest float has this exponent. Makes the memory for floats first."""
+        numpy, width = seen_numpy(), self.width
+        if self._table is None:
+            self._multiply, self._maximum, self._rint = numpy.multiply, numpy.maximum, numpy.rint
+            self._ones, self._seen = numpy.ones(width), numpy.frombuffer(self._counts, dtype=self._kind)
+            self._table = numpy.empty(width)
+        if len(self._scales) >= _MOST_SCALES:
+            self._scales.clear()
+        shift, low = self._bits - exponent, ldexp(0.5, exponent)
+        limit = ldexp(WHOLE, -shift) if self._bits == COUNT_BITS else inf
+        scale = self._scales[exponent] = low, 2 * low, numpy.full(width, 2.0**shift), limit
+        return scale
+
+
+class Row(_Counts):
+    """Memory for a row of counts, and for weights in proportion to them. ``place`` is the address of the weights."""
+
+    is_quick, _bits, _kind, _raises = False, COUNT_BITS, "int64", True
 
     def __init__(self, size: Size, width: int) -> None:
         """Creates the memory for rows of a width."""
-        self._counts, self._weights = room("Q", width, array), room(size.code, width, array)
-        self.width, self.place, count = width, self._weights.buffer_info()[0], count_as_argument(width)
+        super().__init__(room("Q", width, array))
+        self._weights = room(size.code, width, array)
+        self.place, count = self._weights.buffer_info()[0], count_as_argument(width)
         lists = memory_of(self._counts), count, memory_of(self._weights), count
         self._share = partial(size.short_function("weights_of_counts"), *lists)
-        self._scales: dict[int, _Scale] = {}
-        self._scale: _Scale = inf, inf, None, inf
 
     def take_counts(self, counts: array[int]) -> int:
         """Computes the weights of these counts. Returns the result of the C function."""
@@ -66,40 +127,29 @@ class Row:
         return refused
 
     def take_floats(self, row: Any) -> int:
-        """Computes the weights of a numpy array of floats. Returns the result of the C function.
+        """Computes the weights of a numpy array of floats, with the counts of ``counts_of``.
 
-        Returns 1 for rows that ``counts_of`` refuses. The counts of other rows are those of ``counts_of``.
+        Returns the result of the C function, or 1 if there are no such counts.
         """
-        least, greatest = row.item(row.argmin()), row.item(row.argmax())
-        low, high, units, limit = self._scale
-        if not low <= greatest < high:  # NaN is in no range.
-            exponent = frexp(greatest)[1]
-            if not (0 < greatest < inf and COUNT_BITS - exponent <= GREATEST_SHIFT):
-                return 1
-            _, _, units, limit = self._scale = self._scales.get(exponent) or self._made_scale(exponent)
-        table = self._table
-        self._multiply(row, units, table)
-        if least < limit:
-            if least < 0:
-                return 1
-            self._maximum(table, self._ones, table)
-            self._rint(table, table)
-        self._seen[...] = table
+        if not self._counted(row):
+            return 1
         refused: int = self._share()
         return refused
 
-    def _made_scale(self, exponent: int) -> _Scale:
-        """Returns the scale for rows whose greatest float has this exponent. Makes the memory for floats first."""
-        numpy, width = seen_numpy(), self.width
-        if self._table is None:
-            self._multiply, self._maximum, self._rint = numpy.multiply, numpy.maximum, numpy.rint
-            self._ones, self._seen = numpy.ones(width), numpy.frombuffer(self._counts, dtype="int64")
-            self._table = numpy.empty(width)
-        if len(self._scales) >= _MOST_SCALES:
-            self._scales.clear()
-        shift, low = COUNT_BITS - exponent, ldexp(0.5, exponent)
-        scale = self._scales[exponent] = low, 2 * low, numpy.full(width, 2.0**shift), ldexp(WHOLE, -shift)
-        return scale
+
+class QuickRow(_Counts):
+    """Memory for a row of counts, from which a coder's C function computes an interval. ``place`` is its address."""
+
+    is_quick, _bits, _kind, _raises = True, QUICK_BITS, "uint32", False
+
+    def __init__(self, size: Size, width: int) -> None:
+        """Creates the memory for rows of a width."""
+        super().__init__(room("I", width, array))
+        self.place = self._counts.buffer_info()[0]
+
+    def take_floats(self, row: Any) -> int:
+        """Takes a numpy array of floats, with the counts of ``quick_counts_of``. Returns 1 if there are none, else 0."""
+        return 0 if self._counted(row) else 1
 
 
 class Components:

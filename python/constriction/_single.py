@@ -19,9 +19,9 @@ from operator import is_
 from typing import Any
 
 from ._buffers import SYMBOL
-from ._row import Components, Row, count_as_argument, memory_of, pointer_as_argument
+from ._row import Components, QuickRow, Row, count_as_argument, memory_of, pointer_as_argument
 from ._sizes import LARGE, Size
-from .stream.model._base import COUNTS, ENDS, FLOATS, FORMS, MIXED, ROW, SHARED, UNITS, Model
+from .stream.model._base import COUNTS, ENDS, FLOATS, FORMS, MIXED, QUICK, ROW, SHARED, UNITS, Model
 
 __all__ = ["Lane", "made"]
 
@@ -48,8 +48,8 @@ class Lane:
         self._interval, self._three = array(code, (0, 0)), array(code, (0, 0, 0))
         self._location, self._scale, self._row, self._width = c_int64(), c_uint32(), c_void_p(), c_size_t()
         self._family, self._least, self._greatest, self._model = c_uint32(), c_int32(), c_int32(), None
-        self._rows: dict[int, Row] = {}
-        self._taken: Row | None = None  # The row to which the two arguments above point.
+        self._rows: dict[tuple[int, bool], Any] = {}
+        self._taken: Any = None  # The row of this dict to which the two arguments above point.
         self._components: Components | None = None
         self._mixed = c_size_t(), c_void_p(), c_void_p(), c_void_p()
         one, needed = count_as_argument(1), byref(c_size_t())
@@ -60,9 +60,9 @@ class Lane:
         count, weights, locations, scales = self._mixed
         mixture = *family[:3], count, weights, count, locations, count, scales, count
         models: dict[int, tuple[str, tuple[Any, ...]]] = {
-            UNITS: ("_quantized", family), MIXED: ("_mixture", mixture), COUNTS: ("_counts", (*row, self._width)),
+            UNITS: ("_quantized", family), MIXED: ("_mixture", mixture), ROW: ("", row), COUNTS: ("_counts", (*row, self._width)),
         }  # fmt: skip
-        models[ROW] = models[SHARED] = models[FLOATS] = "", row
+        models[SHARED], models[FLOATS], models[QUICK] = models[ROW], models[ROW], models[COUNTS]
         three = memory_of(self._three), count_as_argument(3)
         #: For each form of models the name of the C function, and the arguments after those of the state.
         self._encodings = {it: (encode.format(kind), (*model, *symbol, needed)) for it, (kind, model) in models.items()}
@@ -212,17 +212,19 @@ class Lane:
             self._row.value, self._width.value = first.buffer_info()[0], width
             return 0
         row = self._taken
-        if row is None or row.width != width:
-            row = self._take_width(width)
-        return row.take_floats(first) if form == FLOATS else row.take_counts(first)
+        if row is None or row.width != width or row.is_quick is not (form == QUICK):
+            row = self._take_width(width, form == QUICK)
+        refused: int = row.take_counts(first) if form == SHARED else row.take_floats(first)
+        return refused
 
-    def _take_width(self, width: int) -> Row:
+    def _take_width(self, width: int, is_quick: bool) -> Any:
         """Takes the memory for rows of a width."""
-        self._taken, row = None, self._rows.get(width)
+        row: Any
+        self._taken, row = None, self._rows.get((width, is_quick))
         if row is None:
             if len(self._rows) >= _MOST_WIDTHS:
                 self._rows.clear()
-            row = self._rows[width] = Row(self.size, width)
+            row = self._rows[width, is_quick] = (QuickRow if is_quick else Row)(self.size, width)
         self._row.value, self._width.value = row.place, width
         self._taken = row
         return row

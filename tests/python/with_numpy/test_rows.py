@@ -24,8 +24,13 @@ class Rows(unittest.TestCase):
     """Rows of floats, one after another, in calls of the same coder."""
 
     def alike(self, rows: list[Any], make: Any = AnsCoder) -> None:
+        """The rows have the words of lists by both rules of rounding."""
+        self.alike_under(Categorical(), rows, make)
+        self.alike_under(Categorical(perfect=False), rows, make)
+
+    def alike_under(self, model: Model, rows: list[Any], make: Any) -> None:
         """The rows, one per call, have the words of the same rows as lists, and decode to the same symbols."""
-        model, coder, other = Categorical(), make(), make()
+        coder, other = make(), make()
         symbols = [len(row) * i // len(rows) for i, row in enumerate(rows)]
         for symbol, row in zip(symbols, rows):
             coder.encode_reverse(symbol, model, row)
@@ -60,22 +65,38 @@ class Rows(unittest.TestCase):
     def test_words_of_16_bits(self) -> None:
         """The same for words of 16 bits."""
         dice = numpy.random.default_rng(2)
-        self.alike([dice.random(dice.choice((1, 2, 9, 300, 4096))) + 1e-9 for _ in range(60)], SmallAnsCoder)
+        self.alike([dice.random(dice.choice((1, 2, 9, 300, 512, 4095))) + 1e-9 for _ in range(60)], SmallAnsCoder)
+        self.alike_under(Categorical(), [dice.random(4096) + 1e-9], SmallAnsCoder)
         self.assertRaises(ValueError, SmallAnsCoder().encode_reverse, 0, Categorical(), numpy.ones(4097))
 
     def test_refusals(self) -> None:
         """Rows without a model, and symbols without a weight, leave the coder unchanged. The next row is right."""
-        good, model, coder, wanted = numpy.array([0.25, 0.75, 0.5]), Categorical(), AnsCoder([7, 9]), AnsCoder([7, 9])
-        for bad in (numpy.nan, -0.5, numpy.inf, -numpy.inf):
-            row = numpy.array([0.5, bad, 0.25])
-            self.assertRaises(ValueError, coder.encode_reverse, 1, model, row)
-            self.assertRaises(ValueError, coder.decode, model, row)
-            coder.encode_reverse(1, model, good), wanted.encode_reverse([1], model, [good.tolist()])
+        good, coder, wanted = numpy.array([0.25, 0.75, 0.5]), AnsCoder([7, 9]), AnsCoder([7, 9])
+        for model in (Categorical(), Categorical(perfect=False)):
+            for bad in (numpy.nan, -0.5, numpy.inf, -numpy.inf, -1e-300):
+                row = numpy.array([0.5, bad, 0.25])
+                self.assertRaises(ValueError, coder.encode_reverse, 1, model, row)
+                self.assertRaises(ValueError, coder.decode, model, row)
+                coder.encode_reverse(1, model, good), wanted.encode_reverse([1], model, [good.tolist()])
+                self.assertEqual(coder, wanted)
+            self.assertRaises(ValueError, coder.encode_reverse, 1, model, numpy.zeros(3))
+            for symbol in (3, -1, 1 << 63, 1 << 64, -(1 << 64)):
+                self.assertRaises(errors.ImpossibleSymbolError, coder.encode_reverse, symbol, model, good)
             self.assertEqual(coder, wanted)
-        self.assertRaises(ValueError, coder.encode_reverse, 1, model, numpy.zeros(3))
-        for symbol in (3, -1, 1 << 63, 1 << 64, -(1 << 64)):
-            self.assertRaises(errors.ImpossibleSymbolError, coder.encode_reverse, symbol, model, good)
-        self.assertEqual(coder, wanted)
+
+    def test_both_rules_in_turn(self) -> None:
+        """Rows of one width by both rules of rounding, and rows of weights, one after another."""
+        coder, wanted, row, weights = (
+            AnsCoder(),
+            AnsCoder(),
+            numpy.array([0.25, 0.7, 0.05]),
+            [1 << 23, 1 << 22, 1 << 22],
+        )
+        for i in range(40):
+            model: Any = (Categorical(), Categorical(perfect=False), WeightTable())[i * i % 7 % 3]
+            given: Any = weights if type(model) is WeightTable else row * (i + 1)
+            coder.encode_reverse(i % 3, model, given), wanted.encode_reverse([i % 3], model, [list(given)])
+            self.assertEqual(coder, wanted)
 
     def test_long_rows(self) -> None:
         """Rows that are too long for a call that holds the interpreter's lock have the same words."""

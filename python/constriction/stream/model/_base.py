@@ -21,6 +21,7 @@ __all__ = [
     "FLOATS",
     "FORMS",
     "MIXED",
+    "QUICK",
     "ROW",
     "SHARED",
     "UNITS",
@@ -37,9 +38,9 @@ __all__ = [
 
 #: The forms of the model of a single symbol: 0 and the ends of the intervals, a location and a scale, a row of weights,
 #: the numbers of components and how many these are, or a row of counts. A C function first computes weights from a row of
-#: counts, or from a numpy array of floats, in the last two forms.
-FORMS = range(7)
-ENDS, UNITS, ROW, MIXED, COUNTS, SHARED, FLOATS = FORMS
+#: counts, or from a numpy array of floats. In the last form, a numpy array of floats becomes a row of counts.
+FORMS = range(8)
+ENDS, UNITS, ROW, MIXED, COUNTS, SHARED, FLOATS, QUICK = FORMS
 #: After ``_SELDOM`` calls with one symbol, a model of at most ``_MOST_ENDS`` symbols keeps its sums of weights.
 #: Before that, a model of at most ``_FEW_WEIGHTS`` symbols passes all weights.
 _SELDOM, _MOST_ENDS, _FEW_WEIGHTS = 2, 1 << 16, 64

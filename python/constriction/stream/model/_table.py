@@ -25,11 +25,11 @@ from ..._numbers import (
 from ..._quick import (
     quick_counts_of, quick_counts_of_row, quick_counts_of_rows, quick_counts_of_wholes, quick_weights,
 )  # fmt: skip
-from ..._row import MOST_FLOATS
+from ..._row import MOST_FLOATS, MOST_QUICK_FLOATS
 from ..._units import counts_of, counts_of_row, counts_of_rows, counts_of_wholes
 from ..._sizes import LARGE, SMALL, Size
 from ...errors import WrongWeightsError, wrong_weights
-from ._base import COUNTS, FLOATS, ROW, SHARED, Model, sized
+from ._base import COUNTS, FLOATS, QUICK, ROW, SHARED, Model, sized
 
 __all__ = ["ROWS_AT_A_TIME", "Categorical", "Rows", "WeightTable"]
 
@@ -252,9 +252,10 @@ class Categorical(Rows):
         if len(given) != 1 or not self.missing:
             return None
         row = given[0]
-        if type(row) is _buffers.array_class and row.ndim == 1 and row.dtype.char in "df" and self._form != COUNTS:
-            if 0 < len(row) <= MOST_FLOATS:
-                return FLOATS, row, None
+        if type(row) is _buffers.array_class and row.ndim == 1 and row.dtype.char in "df":
+            form, most = (QUICK, MOST_QUICK_FLOATS) if self._form == COUNTS else (FLOATS, MOST_FLOATS)
+            if 0 < len(row) <= most:
+                return form, row, None
         if not is_row(row):
             return None
         return COUNTS if self._form == COUNTS else SHARED, self._counted(row), None
