@@ -726,8 +726,8 @@ class BetweenModels(unittest.TestCase):
 
     def test_an_interrupt(self) -> None:
         """After a call under another model that is interrupted at one of its events, a model has its own words."""
-        one, other = QuantizedGaussian(-9, 9), QuantizedLogistic(-300, 300)
-        mixed, parts = QuantizedMixture(QuantizedLogistic(-50, 70)), ([0.25, 0.75], [1.0, 9.0], [2.0, 0.5])
+        one, other, third = (kind(*ends) for kind, ends in zip(KINDS.values(), ((-9, 9), (-300, 300), (-50, 70))))
+        mixed, parts = QuantizedMixture(third), ([0.25, 0.75], [1.0, 9.0], [2.0, 0.5])
         calls: list[Change] = [
             lambda it: it.encode_reverse(4, one, 0.5, 3.0), lambda it: it.encode_reverse(4, other, 7.0, 2.0), lambda it: it.encode_reverse(4, mixed, *parts),
             lambda it: it.encode_reverse(1, WeightTable(), [1 << 22] * 4), lambda it: it.encode_reverse(1, Categorical(), [3, 1]),
