@@ -224,6 +224,57 @@ uint32_t constriction_ans_from_binary_u32(const uint32_t *words, size_t word_cou
    leading 1 isn't a multiple of 32; NO_SPACE; NO_MEMORY. */
 uint32_t constriction_ans_into_binary_u32(uint64_t head, uint32_t *words, size_t capacity, size_t *len, size_t *needed);
 
+/* ---- Many stack coders in one call ----
+
+   head_count coders, each with a row of words: coder j is heads[j] and the first lens[j] words of row j of `words`. Row
+   j of every list belongs to coder j: the words, the symbols, the intervals and the parameters of models are head_count
+   rows of the same length, one after another. With n coders, rows of `width` words and `count` symbols for each coder,
+   pass n, n * width, n and n * count as the lengths. The words are those of n coders that are called one by one, so the
+   other functions can continue with a coder. One call for many coders takes less time than many calls, and decodes the
+   symbols of three coders at a time.
+
+   A call that fails changes no coder. WRONG_LENGTH also means that len_count isn't head_count, that a list isn't
+   head_count rows of the same length, or that lens[j] is past the end of a row. After NO_SPACE, *needed is the number
+   of words that each row has to hold. */
+
+/* Encodes the symbols of each row from the last to the first, so that a decode returns them in the order of the row.
+   Errors: WRONG_LENGTH, WRONG_WEIGHTS, IMPOSSIBLE_SYMBOL, NO_SPACE, NO_MEMORY. */
+uint32_t constriction_ans_lanes_encode_reverse_u32(uint64_t *heads, size_t head_count, uint32_t *words, size_t capacity,
+                                                   size_t *lens, size_t len_count,
+                                                   const uint32_t *weights, size_t weight_count,
+                                                   const size_t *symbols, size_t symbol_count, size_t *needed);
+
+/* Does the same with a row of `width` weights for each symbol. Also returns WRONG_LENGTH if weight_count isn't width
+   * symbol_count. */
+uint32_t constriction_ans_lanes_encode_each_reverse_u32(uint64_t *heads, size_t head_count,
+                                                        uint32_t *words, size_t capacity,
+                                                        size_t *lens, size_t len_count,
+                                                        const uint32_t *weights, size_t weight_count, size_t width,
+                                                        const size_t *symbols, size_t symbol_count, size_t *needed);
+
+/* Does the same with intervals. Also returns WRONG_LENGTH if left_count isn't p_count.
+   Errors: WRONG_LENGTH, WRONG_INTERVAL, NO_SPACE, NO_MEMORY. */
+uint32_t constriction_ans_lanes_encode_intervals_reverse_u32(uint64_t *heads, size_t head_count,
+                                                             uint32_t *words, size_t capacity,
+                                                             size_t *lens, size_t len_count,
+                                                             const uint32_t *lefts, size_t left_count,
+                                                             const uint32_t *ps, size_t p_count, size_t *needed);
+
+/* Decodes symbol_count / head_count symbols from each coder, with one table of weights for all. lens[j] decreases, and
+   the words stay unchanged.
+   Errors: WRONG_LENGTH, WRONG_WEIGHTS, NO_MEMORY. */
+uint32_t constriction_ans_lanes_decode_u32(uint64_t *heads, size_t head_count, const uint32_t *words, size_t word_count,
+                                           size_t *lens, size_t len_count,
+                                           const uint32_t *weights, size_t weight_count,
+                                           size_t *symbols, size_t symbol_count);
+
+/* Does the same with a row of `width` weights for each symbol. */
+uint32_t constriction_ans_lanes_decode_each_u32(uint64_t *heads, size_t head_count,
+                                                const uint32_t *words, size_t word_count,
+                                                size_t *lens, size_t len_count,
+                                                const uint32_t *weights, size_t weight_count, size_t width,
+                                                size_t *symbols, size_t symbol_count);
+
 /* ---- The range coder: the first symbol encoded is the first decoded ---- */
 
 /* The numbers of an encoder. Its words are in the caller's buffer. An encoder holds words back until no carry can
@@ -629,6 +680,57 @@ uint32_t constriction_ans_from_binary_u16(const uint16_t *words, size_t word_cou
    Errors: WRONG_LENGTH (*len > capacity); INVALID_DATA, if and only if the head is 0, or the number of bits below its
    leading 1 isn't a multiple of 16; NO_SPACE; NO_MEMORY. */
 uint32_t constriction_ans_into_binary_u16(uint32_t head, uint16_t *words, size_t capacity, size_t *len, size_t *needed);
+
+/* ---- Many stack coders in one call ----
+
+   head_count coders, each with a row of words: coder j is heads[j] and the first lens[j] words of row j of `words`. Row
+   j of every list belongs to coder j: the words, the symbols, the intervals and the parameters of models are head_count
+   rows of the same length, one after another. With n coders, rows of `width` words and `count` symbols for each coder,
+   pass n, n * width, n and n * count as the lengths. The words are those of n coders that are called one by one, so the
+   other functions can continue with a coder. One call for many coders takes less time than many calls, and decodes the
+   symbols of three coders at a time.
+
+   A call that fails changes no coder. WRONG_LENGTH also means that len_count isn't head_count, that a list isn't
+   head_count rows of the same length, or that lens[j] is past the end of a row. After NO_SPACE, *needed is the number
+   of words that each row has to hold. */
+
+/* Encodes the symbols of each row from the last to the first, so that a decode returns them in the order of the row.
+   Errors: WRONG_LENGTH, WRONG_WEIGHTS, IMPOSSIBLE_SYMBOL, NO_SPACE, NO_MEMORY. */
+uint32_t constriction_ans_lanes_encode_reverse_u16(uint32_t *heads, size_t head_count, uint16_t *words, size_t capacity,
+                                                   size_t *lens, size_t len_count,
+                                                   const uint16_t *weights, size_t weight_count,
+                                                   const size_t *symbols, size_t symbol_count, size_t *needed);
+
+/* Does the same with a row of `width` weights for each symbol. Also returns WRONG_LENGTH if weight_count isn't width
+   * symbol_count. */
+uint32_t constriction_ans_lanes_encode_each_reverse_u16(uint32_t *heads, size_t head_count,
+                                                        uint16_t *words, size_t capacity,
+                                                        size_t *lens, size_t len_count,
+                                                        const uint16_t *weights, size_t weight_count, size_t width,
+                                                        const size_t *symbols, size_t symbol_count, size_t *needed);
+
+/* Does the same with intervals. Also returns WRONG_LENGTH if left_count isn't p_count.
+   Errors: WRONG_LENGTH, WRONG_INTERVAL, NO_SPACE, NO_MEMORY. */
+uint32_t constriction_ans_lanes_encode_intervals_reverse_u16(uint32_t *heads, size_t head_count,
+                                                             uint16_t *words, size_t capacity,
+                                                             size_t *lens, size_t len_count,
+                                                             const uint16_t *lefts, size_t left_count,
+                                                             const uint16_t *ps, size_t p_count, size_t *needed);
+
+/* Decodes symbol_count / head_count symbols from each coder, with one table of weights for all. lens[j] decreases, and
+   the words stay unchanged.
+   Errors: WRONG_LENGTH, WRONG_WEIGHTS, NO_MEMORY. */
+uint32_t constriction_ans_lanes_decode_u16(uint32_t *heads, size_t head_count, const uint16_t *words, size_t word_count,
+                                           size_t *lens, size_t len_count,
+                                           const uint16_t *weights, size_t weight_count,
+                                           size_t *symbols, size_t symbol_count);
+
+/* Does the same with a row of `width` weights for each symbol. */
+uint32_t constriction_ans_lanes_decode_each_u16(uint32_t *heads, size_t head_count,
+                                                const uint16_t *words, size_t word_count,
+                                                size_t *lens, size_t len_count,
+                                                const uint16_t *weights, size_t weight_count, size_t width,
+                                                size_t *symbols, size_t symbol_count);
 
 /* ---- The range coder: the first symbol encoded is the first decoded ---- */
 

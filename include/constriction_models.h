@@ -205,6 +205,50 @@ uint32_t constriction_chain_decode_counts_u32(struct constriction_chain_heads_u3
                                               const uint32_t *counts, size_t count_count, size_t width,
                                               size_t *symbols, size_t symbol_count, size_t *needed);
 
+/* Many stack coders in one call, as constriction.h says: row j of each list belongs to coder j. A location and a scale
+   for each symbol, a mixture for each symbol, and a row of counts for each symbol, with the errors of the functions for
+   one coder and the additional cases of WRONG_LENGTH in constriction.h. */
+uint32_t constriction_ans_lanes_encode_quantized_reverse_u32(uint64_t *heads, size_t head_count,
+                                                             uint32_t *words, size_t capacity,
+                                                             size_t *lens, size_t len_count,
+                                                             uint32_t family, int32_t min, int32_t max,
+                                                             const int64_t *locations, size_t location_count,
+                                                             const uint32_t *scales, size_t scale_count,
+                                                             const size_t *symbols, size_t symbol_count, size_t *needed);
+uint32_t constriction_ans_lanes_decode_quantized_u32(uint64_t *heads, size_t head_count,
+                                                     const uint32_t *words, size_t word_count,
+                                                     size_t *lens, size_t len_count,
+                                                     uint32_t family, int32_t min, int32_t max,
+                                                     const int64_t *locations, size_t location_count,
+                                                     const uint32_t *scales, size_t scale_count,
+                                                     size_t *symbols, size_t symbol_count);
+uint32_t constriction_ans_lanes_encode_mixture_reverse_u32(uint64_t *heads, size_t head_count,
+                                                           uint32_t *words, size_t capacity,
+                                                           size_t *lens, size_t len_count,
+                                                           uint32_t family, int32_t min, int32_t max, size_t width,
+                                                           const uint32_t *component_weights, size_t component_weight_count,
+                                                           const int64_t *locations, size_t location_count,
+                                                           const uint32_t *scales, size_t scale_count,
+                                                           const size_t *symbols, size_t symbol_count, size_t *needed);
+uint32_t constriction_ans_lanes_decode_mixture_u32(uint64_t *heads, size_t head_count,
+                                                   const uint32_t *words, size_t word_count,
+                                                   size_t *lens, size_t len_count,
+                                                   uint32_t family, int32_t min, int32_t max, size_t width,
+                                                   const uint32_t *component_weights, size_t component_weight_count,
+                                                   const int64_t *locations, size_t location_count,
+                                                   const uint32_t *scales, size_t scale_count,
+                                                   size_t *symbols, size_t symbol_count);
+uint32_t constriction_ans_lanes_encode_counts_reverse_u32(uint64_t *heads, size_t head_count,
+                                                          uint32_t *words, size_t capacity,
+                                                          size_t *lens, size_t len_count,
+                                                          const uint32_t *counts, size_t count_count, size_t width,
+                                                          const size_t *symbols, size_t symbol_count, size_t *needed);
+uint32_t constriction_ans_lanes_decode_counts_u32(uint64_t *heads, size_t head_count,
+                                                  const uint32_t *words, size_t word_count,
+                                                  size_t *lens, size_t len_count,
+                                                  const uint32_t *counts, size_t count_count, size_t width,
+                                                  size_t *symbols, size_t symbol_count);
+
 /* Writes the interval of each symbol, for the functions .._intervals. Writes the sum of the weights before the symbol
    to lefts[i], and the symbol's weight to ps[i]. With the same location and scale for all symbols 0 to max - min, ps
    is a whole table, which can be passed as `weights`.
@@ -336,6 +380,46 @@ uint32_t constriction_chain_decode_counts_u16(struct constriction_chain_heads_u1
                                               uint16_t *remainders, size_t capacity, size_t *remainders_len,
                                               const uint32_t *counts, size_t count_count, size_t width,
                                               size_t *symbols, size_t symbol_count, size_t *needed);
+uint32_t constriction_ans_lanes_encode_quantized_reverse_u16(uint32_t *heads, size_t head_count,
+                                                             uint16_t *words, size_t capacity,
+                                                             size_t *lens, size_t len_count,
+                                                             uint32_t family, int32_t min, int32_t max,
+                                                             const int64_t *locations, size_t location_count,
+                                                             const uint32_t *scales, size_t scale_count,
+                                                             const size_t *symbols, size_t symbol_count, size_t *needed);
+uint32_t constriction_ans_lanes_decode_quantized_u16(uint32_t *heads, size_t head_count,
+                                                     const uint16_t *words, size_t word_count,
+                                                     size_t *lens, size_t len_count,
+                                                     uint32_t family, int32_t min, int32_t max,
+                                                     const int64_t *locations, size_t location_count,
+                                                     const uint32_t *scales, size_t scale_count,
+                                                     size_t *symbols, size_t symbol_count);
+uint32_t constriction_ans_lanes_encode_mixture_reverse_u16(uint32_t *heads, size_t head_count,
+                                                           uint16_t *words, size_t capacity,
+                                                           size_t *lens, size_t len_count,
+                                                           uint32_t family, int32_t min, int32_t max, size_t width,
+                                                           const uint32_t *component_weights, size_t component_weight_count,
+                                                           const int64_t *locations, size_t location_count,
+                                                           const uint32_t *scales, size_t scale_count,
+                                                           const size_t *symbols, size_t symbol_count, size_t *needed);
+uint32_t constriction_ans_lanes_decode_mixture_u16(uint32_t *heads, size_t head_count,
+                                                   const uint16_t *words, size_t word_count,
+                                                   size_t *lens, size_t len_count,
+                                                   uint32_t family, int32_t min, int32_t max, size_t width,
+                                                   const uint32_t *component_weights, size_t component_weight_count,
+                                                   const int64_t *locations, size_t location_count,
+                                                   const uint32_t *scales, size_t scale_count,
+                                                   size_t *symbols, size_t symbol_count);
+uint32_t constriction_ans_lanes_encode_counts_reverse_u16(uint32_t *heads, size_t head_count,
+                                                          uint16_t *words, size_t capacity,
+                                                          size_t *lens, size_t len_count,
+                                                          const uint32_t *counts, size_t count_count, size_t width,
+                                                          const size_t *symbols, size_t symbol_count, size_t *needed);
+uint32_t constriction_ans_lanes_decode_counts_u16(uint32_t *heads, size_t head_count,
+                                                  const uint16_t *words, size_t word_count,
+                                                  size_t *lens, size_t len_count,
+                                                  const uint32_t *counts, size_t count_count, size_t width,
+                                                  size_t *symbols, size_t symbol_count);
 uint32_t constriction_quantized_intervals_u16(uint32_t family, int32_t min, int32_t max,
                                               const int64_t *locations, size_t location_count,
                                               const uint32_t *scales, size_t scale_count,

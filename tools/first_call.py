@@ -38,6 +38,7 @@ WEIGHTS = {
     "constriction_cli": 0.8,
     "constriction_inputs": 3.9,
     "constriction_calls": 16.1,
+    "constriction_lanes": 2.0,
     "constriction_c": 7.1,
 }
 

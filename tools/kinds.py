@@ -127,6 +127,7 @@ CODED = [
 ]
 KINDS = {
     "ans": [*CODED, ("into_compressed_u32", ANS_BINARY)],
+    "lanes": CODED[:5],  # no symbols of 8 and 16 bits
     "chain": [*CODED, ("_compressed_u32", BINARY), ("_compressed_u32", REMAINDERS)],
     "range": [*CODED, ("into_compressed_u32", SELF_DELIMITED)],
     "symbol": [("queue_u32", STACK), ("exp_golomb.*", HUFFMAN)],
@@ -150,6 +151,7 @@ use constriction_calls::range::decoding::{decode, decode_narrow};
 use constriction_calls::range::parts::{DecoderParts, EncoderParts};
 use constriction_calls::range::words::into_self_delimited;
 use constriction_calls::symbol::{Tree, decode_stack, encode_stack};
+use constriction_lanes::decoding::decode;
 use constriction_inputs::intervals::Intervals;
 use constriction_inputs::models::{Counts, Families, Mixtures, Rows};
 """
@@ -234,9 +236,17 @@ def listed(names, is_ghost):
     return text if len(names) == 1 else "{\n" + textwrap.indent(textwrap.fill(f"{text},", 96), " " * 4) + "\n}"
 
 
+def calls_of(module, line):
+    """Returns whether an import is for the module: its calls' imports are, and those that aren't of any calls."""
+    if "constriction_lanes::" in line:
+        return module == "lanes"
+    return "constriction_calls::" not in line or f"::{module}::" in line
+
+
 # The description of u32_kinds.rt for each module.
 MORE = {
     "ans": "of the stack coder: other models, symbols of 8 and 16 bits, and words in binary form",
+    "lanes": "for many stack coders in one call: other models, and intervals",
     "range": "of the range coder: other models, symbols of 8 and 16 bits, and self-delimiting words",
     "chain": "of the chain coder: other models, symbols of 8 and 16 bits, binary form, and words of remainders",
     "symbol": "for codewords: Exp-Golomb on a stack, and Huffman on a queue, on a stack and at a given bit",
@@ -250,7 +260,7 @@ def derived_files(module, text):
     for end, change in KINDS.get(module, ()):
         functions += [changed(it, change) for it in functions if re.search(rf"fn \w*{end}\(", it)]
     structs = dict(re.findall(r"pub struct (\w+) \{\n(.*?)\n\}", text, re.S))
-    given = [it for it in IMPORTS.split("\n") if "constriction_calls::" not in it or f"::{module}::" in it]
+    given = [it for it in IMPORTS.split("\n") if calls_of(module, it)]
     given += [f"use crate::{module}::u32::{{{', '.join(structs)}}};"] if structs else []
     written = {
         "kinds": (f"More C functions {MORE.get(module)}.", functions[count:]),

@@ -103,6 +103,7 @@ _counted = [_list, _size, _size]
 _located = [c_uint32, c_int32, c_int32, _list, _size, _list, _size]
 _mixed = [c_uint32, c_int32, c_int32, _size, _list, _size, _list, _size, _list, _size]
 _items = [_list, _size]
+_lanes = [_list, _size, _list, _size, _list, _size]
 # What differs between functions of the two sizes stands in the table by its name.
 _number, _head, _encoder, _decoder, _heads = "number", "head", "encoder", "decoder", "heads"
 #: The types of these in functions for words of 32 bits, and for words of 16 bits.
@@ -131,6 +132,17 @@ _PARAMETERS: dict[str, list[Any]] = {
     "ans_decode_counts": [_head, *_buffer, *_counted, *_items],
     "ans_decode_quantized": [_head, *_buffer, *_located, *_items],
     "ans_decode_mixture": [_head, *_buffer, *_mixed, *_items],
+    "ans_lanes_encode_reverse": [*_lanes, *_table, *_items, _needed],
+    "ans_lanes_encode_each_reverse": [*_lanes, *_rows, *_items, _needed],
+    "ans_lanes_encode_counts_reverse": [*_lanes, *_counted, *_items, _needed],
+    "ans_lanes_encode_intervals_reverse": [*_lanes, *_pairs, _needed],
+    "ans_lanes_encode_quantized_reverse": [*_lanes, *_located, *_items, _needed],
+    "ans_lanes_encode_mixture_reverse": [*_lanes, *_mixed, *_items, _needed],
+    "ans_lanes_decode": [*_lanes, *_table, *_items],
+    "ans_lanes_decode_each": [*_lanes, *_rows, *_items],
+    "ans_lanes_decode_counts": [*_lanes, *_counted, *_items],
+    "ans_lanes_decode_quantized": [*_lanes, *_located, *_items],
+    "ans_lanes_decode_mixture": [*_lanes, *_mixed, *_items],
     "ans_from_compressed": [*_buffer, _head],
     "ans_into_compressed": [_number, *_buffer, _needed],
     "ans_from_binary": [*_buffer, _head],

@@ -30,6 +30,8 @@ class ImpossibleSymbolError(Refusal, KeyError):
 
     symbol: int | None = None
     place: int | None = None
+    #: For ``AnsCoders``: the number of the coder. ``place`` is then the symbol's index in the coder's row.
+    lane: int | None = None
 
     def __str__(self) -> str:
         return Exception.__str__(self)  # KeyError.__str__ would put the text in quotes.
@@ -96,6 +98,14 @@ def impossible(symbol: int, place: int | None, first: int, count: int) -> Imposs
         text = f"{IMPOSSIBLE_SYMBOL} Expected {first} .. {first + count - 1}, got {shown(symbol)}{where}."
     it = ImpossibleSymbolError(text)
     it.symbol, it.place = symbol, place
+    return it
+
+
+def impossible_in_lane(found: ImpossibleSymbolError, count: int) -> ImpossibleSymbolError:
+    """Returns the exception for a symbol of many coders, each with a row of ``count`` symbols."""
+    lane, place = divmod(found.place or 0, max(count, 1))
+    it = ImpossibleSymbolError(str(found).replace(f" at place {found.place}.", f" at place {place} of coder {lane}."))
+    it.symbol, it.place, it.lane = found.symbol, place, lane
     return it
 
 

@@ -12,6 +12,7 @@ use Rattle.constriction_calls.specs.RangeCalls.{RangeEncodesList, RangeDecodesLi
 use Rattle.constriction_calls.specs.declared.chain.ChainHeads.{ChainHeads}
 use Rattle.constriction_calls.specs.declared.range.parts.DecoderParts.{DecoderParts}
 use Rattle.constriction_calls.specs.declared.range.parts.EncoderParts.{EncoderParts}
+use Rattle.constriction_lanes.specs.LaneCalls.{LaneBuffers, LanesDecodeList, LanesEncodeList}
 use Rattle.constriction_inputs.specs.declared.refusal.Refusal.{Refusal}
 
 -- models of a family
@@ -47,6 +48,17 @@ pub ans_puts : {Word State : Type 0} {number : Word → ℕ} {state : State → 
     (code old_needed needed : ℕ) → coded ≡ other → answer_by_code code needed ≡ answer → needed ≡ needed_by answer old_needed
     → AnsEncodesList number state w s precision coded old new answer → ReturnsCodeOf code old_needed needed (AnsEncodesList number state w s precision other old new)
 ans_puts code old_needed needed is answer_is needed_is call = (rw (sym is, answer_is) call, rw answer_is needed_is)
+
+-- ---- many stack coders
+pub lanes_taken : {Word State : Type 0} {number : Word → ℕ} {state : State → ℕ} {w s precision : ℕ} {coded other : List ℕ → Coded} {old new : LaneBuffers Word State}
+    {symbols new_symbols : List ℕ} {answer told : Result (Unit {0}) Refusal} → coded ≡ other → told ≡ answer
+    → LanesDecodeList number state w s precision coded old new symbols new_symbols answer → LanesDecodeList number state w s precision other old new symbols new_symbols told
+lanes_taken is answer_is call = rw (sym is, answer_is) call
+
+pub lanes_put : {Word State : Type 0} {number : Word → ℕ} {state : State → ℕ} {w s precision count : ℕ} {coded other : Coded} {old new : LaneBuffers Word State} {answer : Result (Unit {0}) Refusal}
+    (code old_needed needed : ℕ) → coded ≡ other → answer_by_code code needed ≡ answer → needed ≡ needed_by answer old_needed
+    → LanesEncodeList number state w s precision count coded old new answer → ReturnsCodeOf code old_needed needed (LanesEncodeList number state w s precision count other old new)
+lanes_put code old_needed needed is answer_is needed_is call = (rw (sym is, answer_is) call, rw answer_is needed_is)
 
 -- ---- the range coder
 pub puts_told : {Word State : Type 0} {number : Word → ℕ} {state : State → ℕ} {w s precision : ℕ} {coded other : Coded} {count : ℕ}

@@ -24,6 +24,7 @@ use Rattle.constriction_inputs.specs.Coded.{Coded}
 use Rattle.constriction_inputs.specs.Intervals.{as_intervals}
 use Rattle.constriction_inputs.specs.QuantizedCalls.{WritesIntervals}
 use Rattle.constriction_inputs.specs.declared.refusal.Refusal.{Refusal}
+use Rattle.constriction_lanes.specs.LaneCalls.{LanesDecodeList, LanesEncodeList, lanes_of}
 use Rattle.constriction_stack.specs.Ans.{AnsState}
 
 -- Intervals that begin at the numbers of the words `lefts`.
@@ -54,6 +55,17 @@ AnsImportsU16 code makes holds words head len new_head new_len =
 abbrev pub AnsExportsU16 : ℕ → ℕ → ℕ → (AnsState → List ℕ → Type 0) → (AnsState → Type 0) → ℕ → List ℕ → ℕ → List ℕ → ℕ → Type 0
 AnsExportsU16 code before needed are holds head words len new_words new_len =
     ReturnsCodeOf code before needed (AnsExports (lowest 16) (lowest 32) are holds (coder_of head words len) (coder_of head new_words new_len))
+
+-- ---- many stack coders
+-- The function encodes rows of a caller's arguments, of which there are `count`.
+abbrev pub LanesEncodeU16 : ℕ → ℕ → ℕ → ℕ → Coded → List ℕ → List ℕ → List ℕ → List ℕ → List ℕ → List ℕ → Type 0
+LanesEncodeU16 code before needed count coded heads words lens new_heads new_words new_lens =
+    ReturnsCodeOf code before needed (LanesEncodeList (lowest 16) (lowest 32) 16 32 12 count coded (lanes_of heads words lens) (lanes_of new_heads new_words new_lens))
+
+-- The function fills rows of a list with decoded symbols. `words` stay as they are.
+abbrev pub LanesDecodeU16 : ℕ → (List ℕ → Coded) → List ℕ → List ℕ → List ℕ → List ℕ → List ℕ → List ℕ → List ℕ → Type 0
+LanesDecodeU16 code coded words heads lens new_heads new_lens symbols new_symbols =
+    LanesDecodeList (lowest 16) (lowest 32) 16 32 12 coded (lanes_of heads words lens) (lanes_of new_heads words new_lens) symbols new_symbols (answer_by_code code 0)
 
 -- ---- the range coder
 -- The encoder that a C caller's struct holds.

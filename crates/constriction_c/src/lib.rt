@@ -14,6 +14,7 @@
 pub mod ans;
 pub mod chain;
 pub mod codes;
+pub mod lanes;
 pub mod quantized;
 pub mod range;
 pub mod store;

@@ -16,9 +16,10 @@ from .._sizes import LARGE, SMALL, Size
 from .._row import lent_for_good, memory_of
 from .._single import Lane, made
 from .._words import Words, bytes_of, copied, packed, unpacked, words_from
+from ._lanes import AnsCoders, SmallAnsCoders
 from .model import Categorical, Model, QuantizedMixture, WeightTable
 
-__all__ = ["AnsCoder", "SmallAnsCoder"]
+__all__ = ["AnsCoder", "AnsCoders", "SmallAnsCoder", "SmallAnsCoders"]
 
 Self = TypeVar("Self", bound="AnsCoder")
 #: The models whose parameters are rows.

@@ -1,0 +1,55 @@
+// Written by tools/sizes from u32.rt.
+//! Many stack coders in one call, with 16-bit words, 32-bit heads and a precision of 12 bits.
+
+ghost use Rattle.std.specs.Prelude.{length, map};
+ghost use Rattle.constriction_c.specs.U16.{LanesDecodeU16, LanesEncodeU16};
+ghost use Rattle.constriction_c.specs.Words.{lowest};
+ghost use Rattle.constriction_inputs.specs.Weights.{by_weights};
+
+use crate::codes::{code_of, code_without_space};
+use constriction_inputs::models::Weights;
+use constriction_inputs::symbols::Symbols;
+use constriction_lanes::decoding::decode_by_weights;
+use constriction_lanes::encoding::encode_reverse;
+use std::alloc::Global;
+
+/// Encodes symbols from the last to the first, with one table of weights for all symbols.
+///
+/// Calls [`encode_reverse`] and returns the code of its result ([`code_of`]).
+#[unsafe(no_mangle)]
+pub extern "C" fn constriction_ans_lanes_encode_reverse_u16(
+    alloc: Global,
+    heads: &mut [u32],
+    words: &mut [u16],
+    lens: &mut [usize],
+    weights: &[u16],
+    symbols: &[usize],
+    needed: &mut usize,
+) -> u32
+    ensures { LanesEncodeU16 result needed.old needed.new (length symbols.now)
+        (by_weights (map (lowest 16) weights.now) symbols.now) heads.old words.old lens.old heads.new words.new lens.new }
+{
+    let models = Weights { weights };
+    let items = Symbols { models, symbols };
+    let answer = encode_reverse::<_, _, u16, _, 12>(alloc, heads, words, lens, &items);
+    code_of(answer, needed)
+}
+
+/// Decodes symbols into `symbols`, with one table of weights for all symbols.
+///
+/// Calls [`decode_by_weights`] and returns the code of its result ([`code_of`]).
+#[unsafe(no_mangle)]
+pub extern "C" fn constriction_ans_lanes_decode_u16(
+    alloc: Global,
+    heads: &mut [u32],
+    words: &[u16],
+    lens: &mut [usize],
+    weights: &[u16],
+    symbols: &mut [usize],
+) -> u32
+    ensures { LanesDecodeU16 result (by_weights (map (lowest 16) weights.now)) words.now heads.old lens.old heads.new
+        lens.new symbols.old symbols.new }
+{
+    let answer = decode_by_weights::<_, _, u16, 12>(alloc, heads, words, lens, weights, symbols);
+    code_without_space(answer)
+}

@@ -1,0 +1,5 @@
+mod Decoded
+mod EachRow
+mod Encoded
+mod OneLane
+mod RowItems

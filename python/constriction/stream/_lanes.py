@@ -1,0 +1,361 @@
+"""Many stack coders, for batches: one call codes a row of symbols with each of the coders."""
+
+from __future__ import annotations
+
+from array import array
+from collections.abc import Iterable, Iterator
+from ctypes import byref, c_size_t, sizeof
+from typing import Any, NamedTuple, SupportsIndex, TypeVar
+
+from .. import errors
+from .._answers import AS_USUAL, shifted
+from .._buffers import ANSWER, OWN, SYMBOL, Answer, List, Numbers, Parameter, copied_part, lent, listed, room
+from .._coder import Coder
+from .._coding import _explained as explained
+from .._coding import model_wanted
+from .._numbers import as_numpy, count_of, is_one, sequence_of, whole
+from .._places import places_of
+from .._shapes import Shape, aligned, shape_of
+from .._sizes import LARGE, SMALL, Size
+from .._words import swapped
+from ..errors import ImpossibleSymbolError, NoSpaceError, Refusal, WrongLengthError, impossible_in_lane
+from .model import Model
+
+__all__ = ["AnsCoders", "SmallAnsCoders"]
+
+Self = TypeVar("Self", bound="AnsCoders")
+#: The type of C's numbers of words.
+_LENGTH = "Q" if sizeof(c_size_t) == 8 else "I"
+
+
+class _State(NamedTuple):
+    """The heads, a row of ``width`` words for each coder, and the number of words that each coder has in use.
+
+    A call doesn't change heads and lengths, but makes new lists of them. It may change words that aren't in use.
+    """
+
+    heads: array[int]
+    words: Any
+    width: int
+    lens: array[int]
+
+
+def _widened(state: _State, width: int, size: Size) -> _State:
+    """Returns an equal state with rows of ``width`` words."""
+    words = room(size.code, len(state.heads) * width, OWN)
+    new, old = memoryview(words), memoryview(state.words)
+    for j, length in enumerate(state.lens):
+        new[j * width : j * width + length] = old[j * state.width : j * state.width + length]
+    return state._replace(words=words, width=width)
+
+
+def _rows(numbers: Any, count: int, core: int = 0) -> tuple[Any, Shape]:
+    """Returns a list of numbers for each of ``count`` coders as a flat list or as an array, and its shape.
+
+    The shape is ``(count,)`` or ``(count, T)``. The numbers are an array, or a list whose items may be lists. ``core``
+    is 1 if a row of weights is in the place of each number.
+    """
+    numbers = numbers if as_numpy(numbers) is not None else sequence_of(numbers)
+    shape = shape_of(numbers)
+    if as_numpy(numbers) is None and len(numbers) and not core and not is_one(next(iter(numbers))):
+        rows = [sequence_of(it) for it in numbers]
+        lengths = {len(it) for it in rows}
+        if len(lengths) > 1:
+            raise WrongLengthError(f"expected rows of one length, got the lengths {sorted(lengths)}")
+        shape, numbers = (len(rows), lengths.pop()), [it for row in rows for it in row]
+    return numbers, shape
+
+
+class AnsCoders(Coder):
+    """Independent stack coders (ANS) with words of 32 bits, for the items of a batch.
+
+    One call codes a row of symbols with each coder. Symbols have the shape ``(n,)`` or ``(n, T)`` for ``n`` coders, and
+    row ``j`` belongs to coder ``j``. Each coder has the same words as an :class:`AnsCoder` that codes the row alone.
+
+    >>> from constriction.stream.model import QuantizedGaussian
+    >>> coders, heights = AnsCoders(3), QuantizedGaussian(120, 220, 172.5, 9.25)
+    >>> coders.encode_reverse([[181, 164], [170, 193], [160, 175]], heights)
+    >>> coders[1].decode(heights, amt=2).tolist()
+    [170, 193]
+    >>> coders.decode(heights).tolist()
+    [181, 170, 160]
+    """
+
+    _size = LARGE
+
+    def __init__(self, coders: SupportsIndex) -> None:
+        """Creates ``coders`` empty coders."""
+        count = count_of(coders)
+        size = self._size
+        heads, lens = array(size.code_of_states, (0,)) * count, array(_LENGTH, (0,)) * count
+        self._begin(_State(heads, room(size.code, 0, OWN), 0, lens))
+
+    @classmethod
+    def from_compressed(cls: type[Self], compressed: Iterable[List]) -> Self:
+        """Imports a coder from each list of words, which ``get_compressed`` returned.
+
+        Raises :class:`InvalidDataError` if the last word of a list is 0.
+        """
+        from .stack import AnsCoder, SmallAnsCoder
+
+        kind = SmallAnsCoder if cls._size is SMALL else AnsCoder
+        states = []
+        for j, given in enumerate(compressed):
+            try:
+                states.append(kind(given)._state)
+            except Refusal as refused:
+                raise type(refused)(f"{refused} In the words of coder {j}.") from None
+        it = cls(0)
+        width = max((state.words.length for state in states), default=0)
+        words = room(cls._size.code, len(states) * width, OWN)
+        for j, state in enumerate(states):
+            part = memoryview(state.words.memory)[: state.words.length]
+            memoryview(words)[j * width : j * width + len(part)] = part
+        heads = array(cls._size.code_of_states, (state.head for state in states))
+        it._state = _State(heads, words, width, array(_LENGTH, (state.words.length for state in states)))
+        return it
+
+    def encode_reverse(self, symbols: Any, model: Model, *parameters: Parameter) -> None:
+        """Encodes a row of symbols onto each coder, from the last symbol of the row to the first.
+
+        ``symbols`` has the shape ``(n,)``, a symbol for each coder, or ``(n, T)``. If the model has missing parameters,
+        pass an array or a list of each after the model, which broadcasts to this shape.
+
+        Raises the exceptions of :meth:`AnsCoder.encode_reverse`, which name the symbol, its place in the row and the
+        coder. After an error no coder is changed.
+        """
+        self._changed(lambda state: (self._encoded(state, symbols, model, parameters), None))
+
+    def _encoded(self, state: _State, symbols: Any, model: Model, given: tuple[Any, ...]) -> _State:
+        if not isinstance(model, Model):
+            model_wanted(model, symbols)
+        model, coders = model.at(self._size), len(state.heads)
+        symbols, shape = _rows(symbols, coders)
+        if len(shape) not in (1, 2) or shape[0] != coders:
+            raise WrongLengthError(f"expected symbols of shape ({coders},) or ({coders}, T), got {shape}")
+        table = as_numpy(symbols)
+        symbols = symbols if table is None else table.ravel()
+        given = self._aligned(model, given, shape)[0] if given else ()
+        count = len(symbols)
+        try:
+            kind, models = "", ()  # type: tuple[str, tuple[Any, ...]]
+            if given and model.has_rows:
+                kind, models = model.rows_form, self._packed(model, given, count)
+            elif given:
+                located = model.located(given)
+                if located is None:
+                    lefts, ps = model.intervals(symbols, given)
+                    return self._encode("_intervals", state, count, (*listed(lefts), *listed(ps)))
+                kind, models = located.form, located.lent(slice(0, count))
+            else:
+                models = listed(model.table())
+            places = places_of(symbols, model.first)
+            try:
+                return self._encode(kind, state, count, (*models, places.lent(slice(0, count)), count))
+            finally:
+                places.close()
+        except Refusal as refused:
+            raise self._explained(refused, symbols, model, given, shape) from None
+
+    def _explained(self, refused: Refusal, symbols: Any, model: Model, given: Any, shape: Shape) -> Refusal:
+        """Returns an exception that names the coder, and the place in its row."""
+        found = explained(refused, symbols, model, given)
+        if isinstance(found, ImpossibleSymbolError) and found.place is not None:
+            return impossible_in_lane(found, shape[1] if len(shape) == 2 else 1)
+        return found
+
+    def _aligned(self, model: Model, given: tuple[Any, ...], shape: Shape | None) -> tuple[Any, Shape]:
+        """Returns parameters as flat lists, and the shape that they have in common with the symbols."""
+        core = model.core
+        listed_given = []
+        for it in given:
+            numbers = it if is_one(it) else _rows(it, 0, core)
+            if is_one(it):
+                listed_given.append(it)
+                continue
+            numbers, own = numbers
+            if len(own) == 2 and not core and as_numpy(numbers) is None:
+                if shape is not None and shape != own:
+                    raise WrongLengthError(f"expected parameters of shape {shape}, got {own}")
+                shape = own
+            listed_given.append(numbers)
+        flat = shape is not None and all(is_one(it) or as_numpy(it) is None for it in listed_given)
+        if shape is not None and flat and len(shape) == 2:
+            return aligned(core, listed_given, (shape[0] * shape[1],))[0], shape
+        found, common = aligned(core, listed_given, shape)
+        return found, common if shape is None else shape
+
+    def _packed(self, model: Model, given: tuple[Any, ...], count: int) -> tuple[Any, ...]:
+        """Returns the rows of weights or counts of all symbols as arguments of a C function."""
+        groups = list(model.rows(given))
+        if sum(rows for _, _, rows in groups) != count:
+            rows = sum(rows for _, _, rows in groups)
+            text = f"as many rows of {model.missing[0]} as symbols, got {rows} rows and {count} symbols"
+            raise WrongLengthError(f"expected {text}")
+        if len(groups) == 1:
+            weights, width, _ = groups[0]
+            return (*listed(weights), width)
+        width = max((width for _, width, _ in groups), default=1)
+        if any(own != width for _, own, _ in groups):
+            widths = sorted({own for _, own, _ in groups})
+            raise WrongLengthError(f"expected rows of one width, got the widths {widths}")
+        weights = groups[0][0][:0] if groups else array(self._size.code)
+        for some, _, _ in groups:
+            weights += some
+        return (*listed(weights), width)
+
+    def _encode(self, kind: str, state: _State, count: int, arguments: tuple[Any, ...]) -> _State:
+        coders = len(state.heads)
+        while True:
+            heads, lens, needed = state.heads[:], state.lens[:], c_size_t(0)
+            lead = *listed(heads), lent(state.words), coders * state.width, *listed(lens)
+            try:
+                self._size.call(f"ans_lanes_encode{kind}_reverse", *lead, *arguments, byref(needed))
+            except NoSpaceError:
+                state = _widened(state, max(needed.value, 2 * state.width, 4), self._size)
+                continue
+            return state._replace(heads=heads, lens=lens)
+
+    def decode(self, model: Model, *parameters: Any, amt: SupportsIndex | None = None) -> Answer:
+        """Decodes a symbol from each coder, ``amt`` symbols from each, or one for each set of parameters.
+
+        Returns an array of shape ``(n,)``, or ``(n, amt)``. Parameters have the shape ``(n,)`` or ``(n, T)`` after
+        broadcasting, and the answer has the same shape. Without numpy the answer for ``(n, T)`` is a flat list of ``n``
+        rows.
+        """
+        if len(parameters) == 1 and amt is None and isinstance(model, Model) and not model.missing:
+            (amt,), parameters = parameters, ()
+        if amt is not None and parameters:
+            raise TypeError("expected parameters or a number of symbols, got both")
+        return self._changed(lambda state: self._decoded(state, model, parameters, amt))  # type: ignore[no-any-return]
+
+    def _decoded(self, state: _State, model: Model, given: tuple[Any, ...], amt: Any) -> tuple[_State, Any]:
+        if not isinstance(model, Model):
+            model_wanted(model)
+        model, coders = model.at(self._size), len(state.heads)
+        try:
+            if not given:
+                shape = (coders,) if amt is None else (coders, count_of(amt))
+                weights = model.table()
+                symbols = room(SYMBOL, coders * (1 if amt is None else shape[1]), ANSWER)
+                state = self._decode("", state, (*listed(weights), *listed(symbols)))
+            else:
+                given, shape = self._aligned(model, given, None)
+                if len(shape) not in (1, 2) or shape[0] != coders:
+                    raise WrongLengthError(f"expected parameters of shape ({coders},) or ({coders}, T), got {shape}")
+                state, symbols = self._decoded_by(state, model, given, shape)
+        except Refusal as refused:
+            raise explained(refused, (), model, given) from None
+        return state, AS_USUAL.given(shifted(symbols, model.first), shape if numpy_shaped(symbols) else shape[:1])
+
+    def _decoded_by(self, state: _State, model: Model, given: Any, shape: Shape) -> tuple[_State, Any]:
+        """Returns the state after a decode of a symbol for each set of parameters, and the symbols."""
+        count = shape[0] * (shape[1] if len(shape) == 2 else 1)
+        if model.has_rows:
+            models = self._packed(model, given, count)
+            symbols = room(SYMBOL, count, ANSWER)
+            return self._decode(model.rows_form, state, (*models, *listed(symbols))), symbols
+        located = model.located(given)
+        if located is not None:
+            symbols = room(SYMBOL, count, ANSWER)
+            models = located.lent(slice(0, count))
+            return self._decode(located.form, state, (*models, *listed(symbols))), symbols
+        return self._decoded_one_by_one(state, model, given, count)
+
+    def _decoded_one_by_one(self, state: _State, model: Model, given: Any, count: int) -> tuple[_State, Any]:
+        """Does the same for models that are functions of Python: one symbol of each coder at a time."""
+        sets, coders = model.parameters(given), len(state.heads)
+        symbols, time = room(SYMBOL, count, ANSWER), count // max(coders, 1)
+        for t in range(time):
+            weights, first = array(self._size.code), array(SYMBOL, (0,)) * coders
+            for j in range(coders):
+                k, three = model.around(state.heads[j] & self._size.total - 1, sets[j * time + t])
+                weights += three
+                first[j] = k
+            some = room(SYMBOL, coders)
+            state = self._decode("_each", state, (*listed(weights), 3, *listed(some)))
+            for j in range(coders):
+                symbols[j * time + t] = first[j] + some[j] - 1
+        return state, symbols
+
+    def _decode(self, kind: str, state: _State, arguments: tuple[Any, ...]) -> _State:
+        heads, lens = state.heads[:], state.lens[:]
+        lead = *listed(heads), lent(state.words), len(heads) * state.width, *listed(lens)
+        self._size.call(f"ans_lanes_decode{kind}", *lead, *arguments)
+        return state._replace(heads=heads, lens=lens)
+
+    def __len__(self) -> int:
+        """Returns the number of coders."""
+        return len(self._state.heads)
+
+    def __getitem__(self, lane: SupportsIndex) -> Any:
+        """Returns an :class:`AnsCoder` with a copy of the head and the words of coder ``lane``."""
+        from .stack import AnsCoder, SmallAnsCoder
+
+        j, coders = whole(lane), len(self._state.heads)
+        if not -coders <= j < coders:
+            raise IndexError(f"expected the number of one of {coders} coders, got {j}")
+        it = (SmallAnsCoder if self._size is SMALL else AnsCoder)()
+        data, head = self._asked(lambda state: self._plain_lane(state, j % coders))
+        it._state = it._unplain((data, head, len(data) // (self._size.bits // 8)))
+        return it
+
+    def __iter__(self) -> Iterator[Any]:
+        return (self[j] for j in range(len(self)))
+
+    def _plain_lane(self, state: _State, j: int) -> tuple[Any, ...]:
+        """Returns the plain state of an :class:`AnsCoder` with the head and the words of coder ``j``."""
+        start, length = j * state.width, state.lens[j]
+        part = array(self._size.code, memoryview(state.words)[start : start + length].tobytes())
+        return swapped(part).tobytes(), state.heads[j]
+
+    def get_compressed(self) -> list[Answer]:
+        """Returns a copy of each coder's words, followed by the words of its head. The coders are unchanged."""
+        return [it.get_compressed() for it in self]
+
+    def num_words(self) -> int:
+        """Returns the number of words that ``get_compressed`` returns, of all coders together."""
+        state: _State = self._state
+        return sum(state.lens) + sum((it.bit_length() + self._size.bits - 1) // self._size.bits for it in state.heads)
+
+    def is_empty(self) -> bool:
+        """Returns whether no coder has words, and each head is 0."""
+        state: _State = self._state
+        return not any(state.heads) and not any(state.lens)
+
+    def clear(self) -> None:
+        """Removes all symbols of all coders."""
+
+        def cleared(state: _State) -> tuple[_State, None]:
+            coders = len(state.heads)
+            heads, lens = array(self._size.code_of_states, (0,)) * coders, array(_LENGTH, (0,)) * coders
+            return state._replace(heads=heads, lens=lens), None
+
+        self._changed(cleared)
+
+    def _said(self, state: _State) -> str:
+        return f"{len(state.heads)} coders with {sum(state.lens)} words"
+
+    def _plain(self, state: _State) -> tuple[Any, ...]:
+        return tuple(self._plain_lane(state, j) for j in range(len(state.heads)))
+
+    def _unplain(self, plain: tuple[Any, ...]) -> _State:
+        size = self._size
+        lanes = [array(size.code, data) for data, _ in plain]
+        width = max(map(len, lanes), default=0)
+        words = room(size.code, len(lanes) * width, OWN)
+        for j, lane in enumerate(lanes):
+            memoryview(words)[j * width : j * width + len(lane)] = memoryview(swapped(lane))
+        heads = array(size.code_of_states, (head for _, head in plain))
+        return _State(heads, words, width, array(_LENGTH, map(len, lanes)))
+
+
+def numpy_shaped(symbols: Any) -> bool:
+    """Returns whether symbols are a numpy array, which can have any shape."""
+    return not isinstance(symbols, (array, Numbers))
+
+
+class SmallAnsCoders(AnsCoders):
+    """Does the same as :class:`AnsCoders` with words of 16 bits, as :class:`SmallAnsCoder` has."""
+
+    _size = SMALL

@@ -1,0 +1,156 @@
+"""Many stack coders in one call have the words, symbols and errors of coders that are called one by one."""
+
+from __future__ import annotations
+
+import copy
+import pickle
+import random
+import unittest
+from array import array
+from typing import Any
+
+from constriction import errors
+
+from constriction.stream.model import (
+    Bernoulli, Categorical, Model, QuantizedCauchy, QuantizedGaussian, QuantizedLaplace, Uniform, WeightTable,
+)  # fmt: skip
+from constriction.stream.stack import AnsCoder, AnsCoders, SmallAnsCoder, SmallAnsCoders
+
+HEIGHTS = QuantizedGaussian(-20, 20, 1.5, 4.0)
+SIZES: list[tuple[Any, Any]] = [(AnsCoders, AnsCoder), (SmallAnsCoders, SmallAnsCoder)]
+
+
+def listed(answer: Any) -> list[Any]:
+    """Returns symbols as a flat list."""
+    numbers = answer.tolist()
+    return [it for row in numbers for it in row] if numbers and isinstance(numbers[0], list) else numbers
+
+
+def some_models(dice: random.Random, count: int) -> list[tuple[Model, tuple[list[Any], ...], int]]:
+    """Returns models with their parameters for so many symbols, and the number of symbols of each."""
+    means, stds = [dice.uniform(-15, 15) for _ in range(count)], [dice.uniform(0.1, 9) for _ in range(count)]
+    rows = [[dice.random() + 0.01 for _ in range(5)] for _ in range(count)]
+    return [
+        (WeightTable([3, 5, 16777208]), (), 3),
+        (Categorical([0.5, 0.125, 0.25]), (), 3),
+        (Uniform(7), (), 7),
+        (HEIGHTS, (), 41),
+        (QuantizedGaussian(-20, 20), (means, stds), 41),
+        (QuantizedLaplace(-20, 20), (means, stds), 41),
+        (QuantizedCauchy(-20, 20), (means, stds), 41),
+        (Categorical(), (rows,), 5),
+        (Bernoulli(), ([dice.random() for _ in range(count)],), 2),
+    ]
+
+
+def row(numbers: list[Any], j: int, time: int) -> list[Any]:
+    return numbers[j * time : (j + 1) * time]
+
+
+class Lanes(unittest.TestCase):
+    """Batches of coders beside one coder for each row."""
+
+    def test_as_one_coder_each(self) -> None:
+        """Each model, each number of coders from 0 to 9 and 64, and rows of 0 to 5 symbols."""
+        dice = random.Random(7)
+        for coders, coder in SIZES:
+            for count in [*range(10), 64]:
+                batch, alone = coders(count), [coder() for _ in range(count)]
+                steps = []
+                time = dice.randrange(1, 6)
+                for model, given, symbols in some_models(dice, count * time):
+                    if coder is SmallAnsCoder and isinstance(model, WeightTable):
+                        continue
+                    first = model.first
+                    numbers = [first + dice.randrange(symbols) for _ in range(count * time)]
+                    if not given:
+                        batch.encode_reverse([row(numbers, j, time) for j in range(count)], model)
+                        for j, it in enumerate(alone):
+                            it.encode_reverse(row(numbers, j, time), model)
+                    else:
+                        by_rows = [[row(it, j, time) for j in range(count)] for it in given]
+                        if model.core:
+                            by_rows = list(given)
+                        if not count:
+                            by_rows = [[] for _ in given]
+                        batch.encode_reverse([row(numbers, j, time) for j in range(count)], model, *by_rows)
+                        for j, it in enumerate(alone):
+                            it.encode_reverse(
+                                row(numbers, j, time), model, *(row(list(them), j, time) for them in given)
+                            )
+                    steps.append((model, given, numbers, time))
+                self.assertEqual(
+                    [list(it) for it in batch.get_compressed()], [list(it.get_compressed()) for it in alone]
+                )
+                self.assertEqual(batch.num_words(), sum(it.num_words() for it in alone))
+                for model, given, numbers, time in reversed(steps):
+                    if not given:
+                        found = batch.decode(model, amt=time)
+                    elif model.core or not count:
+                        found = batch.decode(model, *given) if count else batch.decode(model, *([] for _ in given))
+                    else:
+                        found = batch.decode(model, *([row(it, j, time) for j in range(count)] for it in given))
+                    self.assertEqual(listed(found), numbers, (coders, count, model))
+                self.assertTrue(batch.is_empty())
+
+    def test_one_symbol_each(self) -> None:
+        """Symbols of shape (n,)."""
+        batch = AnsCoders(5)
+        batch.encode_reverse([3, -1, 0, 20, -20], HEIGHTS)
+        batch.encode_reverse(array("q", [1, 2, 3, 4, 5]), HEIGHTS)
+        self.assertEqual(batch.decode(HEIGHTS).tolist(), [1, 2, 3, 4, 5])
+        self.assertEqual(batch.decode(HEIGHTS).tolist(), [3, -1, 0, 20, -20])
+        model, means = QuantizedGaussian(-9, 9), [0.5, 1.5, -3.0, 8.0, 2.0]
+        batch.encode_reverse([0, 1, -3, 7, 2], model, means, 2.5)
+        self.assertEqual(batch.decode(model, means, [2.5] * 5).tolist(), [0, 1, -3, 7, 2])
+
+    def test_as_values(self) -> None:
+        """Items, equality, copies, pickles, and words from other coders."""
+        batch = AnsCoders(3)
+        batch.encode_reverse([[5, 6, 7], [0, 1, 2], [-3, -2, -1]], HEIGHTS)
+        self.assertEqual((len(batch), [type(it) for it in batch]), (3, [AnsCoder] * 3))
+        one = batch[-1]
+        self.assertEqual(one.decode(HEIGHTS, 3).tolist(), [-3, -2, -1])
+        self.assertEqual(batch[2].decode(HEIGHTS), -3)
+        with self.assertRaises(IndexError):
+            batch[3]
+        again = AnsCoders.from_compressed(batch.get_compressed())
+        self.assertEqual(again, batch)
+        for it in (batch.clone(), copy.copy(batch), copy.deepcopy(batch), pickle.loads(pickle.dumps(batch))):
+            self.assertEqual(it, batch)
+            it.decode(HEIGHTS)
+            self.assertNotEqual(it, batch)
+        self.assertNotEqual(AnsCoders(2), AnsCoders(3))
+        self.assertNotEqual(batch, SmallAnsCoders(3))
+        batch.clear()
+        self.assertEqual(batch, AnsCoders(3))
+        with self.assertRaises(errors.InvalidDataError):
+            AnsCoders.from_compressed([[1], [2, 0]])
+
+    def test_refusals(self) -> None:
+        """A refusal names the symbol, its place in the row and the coder, and changes no coder."""
+        batch = AnsCoders(3)
+        batch.encode_reverse([[5, 6], [0, 1], [-3, -2]], HEIGHTS)
+        before = batch.clone()
+        with self.assertRaises(errors.ImpossibleSymbolError) as raised:
+            batch.encode_reverse([[5, 6], [0, 21], [-3, -2]], HEIGHTS)
+        self.assertEqual((raised.exception.symbol, raised.exception.place, raised.exception.lane), (21, 1, 1))
+        self.assertIn("got 21 at place 1 of coder 1.", str(raised.exception))
+        self.assertEqual(batch, before)
+        for symbols in ([1, 2], [[1, 2], [3, 4]], [[1], [2, 3], [4]], 7, []):
+            with self.assertRaises((errors.WrongLengthError, TypeError)):
+                batch.encode_reverse(symbols, HEIGHTS)
+            self.assertEqual(batch, before)
+        with self.assertRaises(errors.WrongWeightsError):
+            batch.encode_reverse([0, 1, 0], WeightTable([1, 2, 3]))
+        with self.assertRaises(TypeError):
+            batch.encode_reverse(HEIGHTS, [0, 1, 0])  # type: ignore[arg-type]
+        with self.assertRaises(errors.WrongLengthError):
+            batch.decode(QuantizedGaussian(-9, 9), [1.0, 2.0], [1.0, 2.0])
+        with self.assertRaises(TypeError):
+            batch.decode(QuantizedGaussian(-9, 9), [1.0, 2.0, 3.0], [1.0, 2.0, 3.0], amt=2)
+        self.assertEqual(batch, before)
+
+
+if __name__ == "__main__":
+    unittest.main()
