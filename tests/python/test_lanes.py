@@ -69,8 +69,6 @@ class Lanes(unittest.TestCase):
                             it.encode_reverse(row(numbers, j, time), model)
                     else:
                         by_rows = [[row(it, j, time) for j in range(count)] for it in given]
-                        if model.core:
-                            by_rows = list(given)
                         if not count:
                             by_rows = [[] for _ in given]
                         batch.encode_reverse([row(numbers, j, time) for j in range(count)], model, *by_rows)
@@ -86,8 +84,8 @@ class Lanes(unittest.TestCase):
                 for model, given, numbers, time in reversed(steps):
                     if not given:
                         found = batch.decode(model, amt=time)
-                    elif model.core or not count:
-                        found = batch.decode(model, *given) if count else batch.decode(model, *([] for _ in given))
+                    elif not count:
+                        found = batch.decode(model, *([] for _ in given))
                     else:
                         found = batch.decode(model, *([row(it, j, time) for j in range(count)] for it in given))
                     self.assertEqual(listed(found), numbers, (coders, count, model))

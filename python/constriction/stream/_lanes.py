@@ -13,7 +13,7 @@ from .._buffers import ANSWER, OWN, SYMBOL, Answer, List, Numbers, Parameter, co
 from .._coder import Coder
 from .._coding import _explained as explained
 from .._coding import model_wanted
-from .._numbers import as_numpy, count_of, is_one, sequence_of, whole
+from .._numbers import as_numpy, count_of, is_one, is_row, sequence_of, whole
 from .._places import places_of
 from .._shapes import Shape, aligned, shape_of
 from .._sizes import LARGE, SMALL, Size
@@ -49,6 +49,11 @@ def _widened(state: _State, width: int, size: Size) -> _State:
     return state._replace(words=words, width=width)
 
 
+def _is_nested(first: Any, core: int) -> bool:
+    """Returns whether the first item of a list is a list of numbers, or a list of rows where ``core`` is 1."""
+    return not is_one(first) and (not core or not is_row(first))
+
+
 def _rows(numbers: Any, count: int, core: int = 0) -> tuple[Any, Shape]:
     """Returns a list of numbers for each of ``count`` coders as a flat list or as an array, and its shape.
 
@@ -57,7 +62,7 @@ def _rows(numbers: Any, count: int, core: int = 0) -> tuple[Any, Shape]:
     """
     numbers = numbers if as_numpy(numbers) is not None else sequence_of(numbers)
     shape = shape_of(numbers)
-    if as_numpy(numbers) is None and len(numbers) and not core and not is_one(next(iter(numbers))):
+    if as_numpy(numbers) is None and len(numbers) and _is_nested(next(iter(numbers)), core):
         rows = [sequence_of(it) for it in numbers]
         lengths = {len(it) for it in rows}
         if len(lengths) > 1:
@@ -174,7 +179,7 @@ class AnsCoders(Coder):
                 listed_given.append(it)
                 continue
             numbers, own = numbers
-            if len(own) == 2 and not core and as_numpy(numbers) is None:
+            if len(own) == 2 and as_numpy(numbers) is None:
                 if shape is not None and shape != own:
                     raise WrongLengthError(f"expected parameters of shape {shape}, got {own}")
                 shape = own

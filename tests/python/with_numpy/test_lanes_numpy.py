@@ -1,0 +1,71 @@
+"""Many stack coders with arrays of numpy: symbols and parameters of shape (n,) and (n, T)."""
+
+from __future__ import annotations
+
+import unittest
+from typing import Any
+
+from constriction import errors
+from constriction.stream.model import Categorical, QuantizedCauchy, QuantizedGaussian
+from constriction.stream.stack import AnsCoder, AnsCoders
+
+numpy: Any
+try:
+    import numpy
+except ImportError:
+    raise unittest.SkipTest("numpy is not there") from None
+
+
+class Lanes(unittest.TestCase):
+    """Batches as arrays."""
+
+    def test_shapes(self) -> None:
+        """Answers have the shape of the parameters, which broadcast."""
+        dice = numpy.random.default_rng(3)
+        for count, time in ((1, 1), (3, 4), (64, 7)):
+            for family in (QuantizedGaussian(-50, 50), QuantizedCauchy(-50, 50)):
+                means = dice.normal(0, 9, (count, time))
+                symbols = numpy.clip(numpy.rint(means), -50, 50).astype("int32")
+                coders, alone = AnsCoders(count), AnsCoder()
+                coders.encode_reverse(symbols, family, means, 2.5)
+                coders.encode_reverse(symbols[:, 0], family, means[:, 0], numpy.full(count, 1.5))
+                alone.encode_reverse(symbols[-1], family, means[-1], numpy.full(time, 2.5))
+                alone.encode_reverse(int(symbols[-1, 0]), family, float(means[-1, 0]), 1.5)
+                self.assertEqual(coders[count - 1], alone)
+                found = coders.decode(family, means[:, 0], 1.5)
+                self.assertEqual((found.shape, found.tolist()), ((count,), symbols[:, 0].tolist()))
+                found = coders.decode(family, means, numpy.full((count, 1), 2.5))
+                self.assertEqual((found.shape, found.tolist()), ((count, time), symbols.tolist()))
+                self.assertTrue(coders.is_empty())
+
+    def test_rows(self) -> None:
+        """A row of probabilities for each symbol, of shape (n, T, K) or (n, K)."""
+        dice = numpy.random.default_rng(4)
+        rows, symbols = dice.random((5, 3, 6)), dice.integers(0, 6, (5, 3))
+        for model in (Categorical(), Categorical(perfect=False)):
+            coders = AnsCoders(5)
+            coders.encode_reverse(symbols, model, rows)
+            coders.encode_reverse(symbols[:, 1], model, rows[:, 1])
+            self.assertEqual(coders.decode(model, rows[:, 1]).tolist(), symbols[:, 1].tolist())
+            self.assertEqual(coders.decode(model, rows).tolist(), symbols.tolist())
+            self.assertTrue(coders.is_empty())
+
+    def test_refusals(self) -> None:
+        """Arrays of a wrong shape, and an impossible symbol, change no coder."""
+        coders, family = AnsCoders(4), QuantizedGaussian(-9, 9, 0.0, 3.0)
+        coders.encode_reverse(numpy.zeros((4, 5), int), family)
+        before = coders.clone()
+        for shape in ((5,), (3, 4), (4, 2, 2), ()):
+            with self.assertRaises((errors.WrongLengthError, TypeError)):
+                coders.encode_reverse(numpy.zeros(shape, int), family)
+        symbols = numpy.zeros((4, 5), int)
+        symbols[2, 3] = 10
+        with self.assertRaises(errors.ImpossibleSymbolError) as raised:
+            coders.encode_reverse(symbols, family)
+        self.assertEqual((raised.exception.symbol, raised.exception.place, raised.exception.lane), (10, 3, 2))
+        self.assertEqual(coders, before)
+        self.assertEqual(coders.decode(family, amt=5).tolist(), [[0] * 5] * 4)
+
+
+if __name__ == "__main__":
+    unittest.main()
