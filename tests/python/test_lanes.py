@@ -9,11 +9,10 @@ import unittest
 from array import array
 from typing import Any
 
+from classes_of_families import KINDS
 from constriction import errors
 
-from constriction.stream.model import (
-    Bernoulli, Categorical, Model, QuantizedCauchy, QuantizedGaussian, QuantizedLaplace, Uniform, WeightTable,
-)  # fmt: skip
+from constriction.stream.model import Bernoulli, Categorical, Model, QuantizedGaussian, Uniform, WeightTable
 from constriction.stream.stack import AnsCoder, AnsCoders, SmallAnsCoder, SmallAnsCoders
 
 HEIGHTS = QuantizedGaussian(-20, 20, 1.5, 4.0)
@@ -35,9 +34,7 @@ def some_models(dice: random.Random, count: int) -> list[tuple[Model, tuple[list
         (Categorical([0.5, 0.125, 0.25]), (), 3),
         (Uniform(7), (), 7),
         (HEIGHTS, (), 41),
-        (QuantizedGaussian(-20, 20), (means, stds), 41),
-        (QuantizedLaplace(-20, 20), (means, stds), 41),
-        (QuantizedCauchy(-20, 20), (means, stds), 41),
+        *((kind(-20, 20), (means, stds), 41) for kind in KINDS.values()),
         (Categorical(), (rows,), 5),
         (Bernoulli(), ([dice.random() for _ in range(count)],), 2),
     ]
