@@ -48,12 +48,11 @@ class _Call:
         return _State(Words(self._compressed.memory, below), Words(self._remainders.memory, above), heads)
 
 
-def _next_bits(state: _State, size: Size) -> int | None:
-    """Returns a number whose lowest bits select the next symbol: bits left over, or the next word.
+def _next_bits(words: Words, bits: int, size: Size) -> int | None:
+    """Returns a number whose lowest bits select the next symbol: bits left over in the compressed head, or the next word.
 
     Returns None if a word is needed and none is left.
     """
-    bits, words = state.heads[1], state.compressed
     if bits < size.total:
         return int(words.memory[words.length - 1]) if words.length else None
     return bits
@@ -61,7 +60,7 @@ def _next_bits(state: _State, size: Size) -> int | None:
 
 def _room(compressed: Words, remainders: Words) -> int:
     """Returns the number of words for which each of the two stacks has room."""
-    return min(len(it.memory) - it.length for it in (compressed, remainders))
+    return min(len(compressed.memory) - compressed.length, len(remainders.memory) - remainders.length)
 
 
 class _Lane(Lane):
@@ -94,7 +93,7 @@ class _Lane(Lane):
         return compressed, remainders, (self._heads.remainders, self._heads.compressed)
 
     def quantile(self, state: Any) -> int:
-        bits = _next_bits(_State._make(state), self.size)
+        bits = _next_bits(state[0], state[2][1], self.size)
         return self.size.total if bits is None else bits & self.size.total - 1
 
 
@@ -196,7 +195,7 @@ class ChainCoder(Coder):
 
         Raises OutOfDataError if a word is needed and none is left.
         """
-        bits = _next_bits(state, self._size)
+        bits = _next_bits(state.compressed, state.heads[1], self._size)
         if bits is None:
             raise errors.OutOfDataError(errors.OUT_OF_COMPRESSED_DATA)
         return bits & self._size.total - 1
