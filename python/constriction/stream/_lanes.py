@@ -361,6 +361,13 @@ def numpy_shaped(symbols: Any) -> bool:
 
 
 class SmallAnsCoders(AnsCoders):
-    """Does the same as :class:`AnsCoders` with words of 16 bits, as :class:`SmallAnsCoder` has."""
+    """Does the same as :class:`AnsCoders` with words of 16 bits, as :class:`SmallAnsCoder` has.
+
+    >>> from constriction.stream.model import WeightTable
+    >>> coders, table = SmallAnsCoders(2), WeightTable([1024, 3072])
+    >>> coders.encode_reverse([[0, 1, 1], [1, 0, 1]], table)
+    >>> coders[1].decode(table, amt=3).tolist()
+    [1, 0, 1]
+    """
 
     _size = SMALL
