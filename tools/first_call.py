@@ -39,7 +39,7 @@ WEIGHTS = {
     "constriction_inputs": 3.9,
     "constriction_calls": 16.1,
     "constriction_lanes": 2.0,
-    "constriction_c": 7.1,
+    "constriction_c": 13.5,
 }
 
 
