@@ -1,7 +1,8 @@
 """The last parts of the checker's names for functions, by the sources.
 
 They are `function` if the crate has only one function of that name, and otherwise `module::function`, `Type::method`,
-`TypeTraitArguments::method`, or `Type+ARGUMENTS::method` for a method of a type with certain arguments.
+`TypeTraitArguments::method`, or `Type+ARGUMENTS::method` for a method of a type with certain arguments, or of a type's
+alias.
 """
 
 import functools
@@ -14,6 +15,7 @@ from sources import files_below
 
 HEADER = re.compile(r"(?:unsafe )?impl\b(.*?)(?: where\b.*)? ?\{\}?")
 TRAIT = re.compile(r"(?:pub(?:\([^)]*\))? )?(?:unsafe )?trait (\w+)")
+ALIAS = re.compile(r"^(?:pub(?:\([^)]*\))? )?type (\w+)", re.MULTILINE)
 # The checker also has functions of these names that no source shows.
 DERIVED = {"clone", "default", "drop", "eq", "fmt", "hash", "left_cumulative_and_reciprocal"}
 # A lifetime, a reference, a slice or array, or a word.
@@ -42,6 +44,13 @@ def modules(crate_folder):
     }
 
 
+@functools.lru_cache(maxsize=None)
+def aliases(crate_folder):
+    """Returns the names that a crate's sources give to types."""
+    files = [it for it in files_below(f"{crate_folder}/src") if it.endswith(".rt")]
+    return frozenset(it for file in files for it in ALIAS.findall(without_comments(read(file))))
+
+
 def name_of(crate_folder, path, function):
     """Returns the last part of the name of each function of `src/PATH.rt` with this name.
 
@@ -52,11 +61,14 @@ def name_of(crate_folder, path, function):
         return [function]
     module = [] if path in ("lib", "main") else path.split("/")
     here = [it for file, it in named if file == f"{crate_folder}/src/{path}.rt"]
-    return sorted({"::".join([*(owner(it.head) or module), function]) for it in here})
+    return sorted({"::".join([*(owner(it.head, aliases(crate_folder)) or module), function]) for it in here})
 
 
-def owner(head):
-    """Returns the part of a name for the impl or trait of a header, or nothing without one."""
+def owner(head, named=frozenset()):
+    """Returns the part of a name for the impl or trait of a header, or nothing without one.
+
+    `named` has the names that the crate gives to types.
+    """
     if not head:
         return []
     if trait := TRAIT.match(head):
@@ -65,7 +77,7 @@ def owner(head):
     of_trait, _, of_type = rest.rpartition(" for ")
     if of_trait in ("", "Drop"):
         name, *arguments = parts(of_type)
-        return [name if set(arguments) <= own else "+".join([name, *arguments])]
+        return [name if set(arguments) <= own and name not in named else "+".join([name, *arguments])]
     # The name doesn't repeat a trait's argument that is the type itself.
     of_type, of_trait = parts(of_type), parts(of_trait)
     told = [*of_type, *(it for it in of_trait if [it] != of_type)]

@@ -315,6 +315,8 @@ def main():
     faults += [f"{pair} differ" for pair in SAME if said(pair[0]) != said(pair[1])]
     faults += [f"{pair} don't differ" for pair in OTHER if said(pair[0]) == said(pair[1])]
     faults += [f"{head}: {owner(head)}" for head in OWNERS if owner(head) != OWNERS[head]]
+    of_alias = owner("impl<Word: BitArray, B> Coder<Word, B> {", frozenset({"Coder"}))
+    faults += [] if of_alias == ["Coder+Word+B"] else [f"the methods of a type's alias: {of_alias}"]
     faults += (
         []
         if [function_at(LEAST, at) for at in (4, 7)] == ["least", "ROOM"]
