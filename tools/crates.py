@@ -31,6 +31,10 @@ class Crate:
         """Returns the folder of the crate's build."""
         return f"{self.folder}/out/{self.machine}" if self.machine else f"{self.folder}/out"
 
+    def checked(self):
+        """Returns the folder where a static library's proof keeps what it has checked, for a proof for another machine."""
+        return f"{self.folder}/out/checked"
+
     def target(self):
         """Returns the prover's arguments for the machine."""
         return ["--target", f"{self.machine}-unknown-linux-gnu"] if self.machine else []

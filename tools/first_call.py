@@ -5,7 +5,7 @@ the crates below it are unchanged. With --over-gate, it uses the libraries that 
 progress on standard error: on a terminal, it redraws one line each second; elsewhere, it writes a line for each crate
 and each half minute (or each PROGRESS_SECONDS seconds). With --answer, a trial run answers a command of the program
 meanwhile; the launcher puts the command's input into a folder. With --target MACHINE, it builds the static library for
-Linux on that machine, and proves only this library again for the machine.
+Linux on that machine. It proves only this library again, over what the proof for x86-64 has checked, if there is one.
 
 usage: first_call.py KIT REPOSITORY CRATE [--over-gate] [--target MACHINE]
        first_call.py KIT REPOSITORY CRATE --answer FOLDER COMMAND.."""
@@ -41,6 +41,8 @@ WEIGHTS = {
     "constriction_lanes": 2.0,
     "constriction_c": 13.5,
 }
+# That of a proof over what the proof for x86-64 has checked.
+WEIGHT_AGAIN = 1.0
 
 
 class Progress:
@@ -196,6 +198,8 @@ class Run:
 
 def weight(crate):
     """Returns the estimated work of a crate's proof."""
+    if crate.machine and os.path.isdir(crate.checked()):
+        return WEIGHT_AGAIN
     return WEIGHTS.get(crate.name, 1.0)
 
 

@@ -189,11 +189,24 @@ class Toolchain(Kit):
     def build(self, crate, theirs, flags):
         """Proves a program or a static library and builds it, and returns the status."""
         made = f"out/{crate.name}.o" if crate.is_program else crate.built()
-        words = [*theirs.words(flags, keeps=False), *crate.target()]
-        status = theirs.prove(
-            ["build", *words, "--toolchain", f"{self.kit}/toolchain", "--backend", "llvm", "-o", made]
-        )
-        return status or (theirs.link(made, f"out/{crate.name}") if crate.is_program else 0)
+        words = ["build", *theirs.words(flags, keeps=False), *crate.target()]
+        words += ["--toolchain", f"{self.kit}/toolchain", "--backend", "llvm", "-o", made]
+        if crate.is_static:
+            return self.build_static(crate, words, theirs.out)
+        return theirs.prove(words) or theirs.link(made, f"out/{crate.name}")
+
+    def build_static(self, crate, words, out):
+        """Proves a static library and builds it, and returns the status. `out` gets the prover's output.
+
+        A proof for x86-64 is from nothing, and keeps in a folder what it has checked. A proof for another machine takes
+        from there what is the same for both machines.
+        """
+        checked = crate.checked()
+        if not crate.machine:
+            shutil.rmtree(checked, ignore_errors=True)
+        command = [f"{self.kit}/bin/rattle", *words, "--incremental", checked]
+        how = {"cwd": crate.folder, "stdin": subprocess.DEVNULL, "stdout": out, "stderr": out}
+        return subprocess.run(command, preexec_fn=end_with_parent, **how).returncode
 
 
 class Commands(Kit):
