@@ -8,6 +8,7 @@ pub mod Logistic
 pub mod Uniform
 pub mod Bernoulli
 pub mod Categorical
+pub mod Cumulative
 pub mod Lookup
 pub mod Quantizers
 pub mod Counts

@@ -2,7 +2,8 @@
 //!
 //! Each symbol has one quantile of its own, and the counts share the other quantiles in proportion. So each symbol has a
 //! weight of at least 1, and the start of a symbol's interval follows from the sum of the counts before the symbol. A
-//! look-up adds up counts and divides twice. It needs no memory and stores no table.
+//! look-up adds up counts and divides twice. It needs no memory and stores no table. For a row with which many symbols
+//! are coded, [`CumulativeCounts`](crate::cumulative::CumulativeCounts) keeps the sums.
 //!
 //! To find a quantile's symbol, a decoder compares starts with the quantile before they are divided, so the search needs
 //! no division.
@@ -116,7 +117,7 @@ fn is_some_above_0(counts: &[u32]) -> bool
 ///
 /// The call is faster for divisors below `2^32`. Two calls for one divisor share what takes most of the time.
 #[inline(always)]
-fn quotient(number: u64, divisor: u64) -> u64
+pub(crate) fn quotient(number: u64, divisor: u64) -> u64
     requires { 0 < divisor }
     ensures { result ≡ number / divisor }
 {

@@ -18,6 +18,8 @@
 //!   symbols.
 //! - [`categorical`]: `CategoricalCounts`, a model of a row of counts. `CategoricalError` is the error for counts that have
 //!   no table.
+//! - [`cumulative`]: `CumulativeCounts`, a model of a row of counts that keeps their sums, for rows with which many
+//!   symbols are coded. `CumulativeError` is the error for counts whose model can't be made.
 //! - [`counts`]: `weights_of_counts`, which computes weights in proportion to counts.
 //! - [`lookup`]: `ContiguousLookupDecoderModel`, which finds a quantile's symbol with one look-up.
 //! - [`errors`]: `SupportError`, the error for too few symbols, or too many for the precision.
@@ -28,6 +30,7 @@
 pub mod bernoulli;
 pub mod categorical;
 pub mod counts;
+pub mod cumulative;
 pub mod distribution;
 pub mod errors;
 pub mod families;
