@@ -100,6 +100,8 @@
 //!   the precision.
 //! - [`stream::model::CategoricalCounts`]: a model of a row of counts, which computes intervals at each look-up and
 //!   needs no memory. [`stream::model::CategoricalError`] is the error of counts that make no model.
+//! - [`stream::model::CumulativeCounts`]: a model with the same table that keeps the sums of the counts, for a row with
+//!   which many symbols are coded. [`stream::model::CumulativeError`] is the error of making this model.
 //! - [`stream::model::weights_of_counts`]: a function that returns the weights for a histogram's counts.
 //!   [`stream::model::CountsError`] is the error of computing these weights.
 //! - [`stream::model::ContiguousLookupDecoderModel`]: a model for decoding that stores the symbol of each quantile.
@@ -233,6 +235,7 @@ pub mod stream {
         pub use constriction_models::bernoulli::BernoulliModel;
         pub use constriction_models::categorical::{CategoricalCounts, CategoricalError};
         pub use constriction_models::counts::{CountsError, weights_of_counts};
+        pub use constriction_models::cumulative::{CumulativeCounts, CumulativeError};
         pub use constriction_models::distribution::CumulativeDistribution;
         pub use constriction_models::errors::SupportError;
         pub use constriction_models::gaussian::{Gaussian, StandardNormal};

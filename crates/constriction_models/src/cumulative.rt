@@ -80,10 +80,10 @@ pub struct CumulativeCounts<Probability: WordOf<u32>, const PRECISION: usize> {
 }
 
 /// Returns the sum of `counts`, or `None` if the sum is `2^40` or more.
-fn total_of<C: WordOf<u64>>(counts: &[C]) -> Option<u64>
+fn checked_sum_of<C: WordOf<u64>>(counts: &[C]) -> Option<u64>
     ensures total { IfSome result (λ total. total ≡ sum_by C.number counts.now) }
     ensures fits { IfSome result (λ total. total < 1099511627776) }
-    ensures large { IfNone result (1099511627776 ≤ sum_by C.number counts.now) }
+    ensures none { IfNone result (1099511627776 ≤ sum_by C.number counts.now) }
 {
     let mut total = 0u64;
     for count in counts {
@@ -147,7 +147,7 @@ impl<Probability: WordOf<u32>, const PRECISION: usize> CumulativeCounts<Probabil
         if symbols >= all {
             return Err(CumulativeError::TooMany);
         }
-        let Some(total) = total_of(counts) else {
+        let Some(total) = checked_sum_of(counts) else {
             return Err(CumulativeError::TooLarge);
         };
         if total == 0 {

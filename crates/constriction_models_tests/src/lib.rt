@@ -17,6 +17,8 @@
 #[cfg(test)]
 mod categorical;
 #[cfg(test)]
+mod cumulative;
+#[cfg(test)]
 mod cuts;
 #[cfg(test)]
 mod intervals;

@@ -1,6 +1,6 @@
 use Rattle.std.proofs.Common.{◌≡◌, ◌<◌, take}
 use Rattle.std.specs.List.{sum_by}
-use Rattle.constriction_models.proofs.cumulative.total_of.Given as goal
+use Rattle.constriction_models.proofs.cumulative.checked_sum_of.Given as goal
 
 abbrev pub invariant-loop-count : goal.invariant-loop-count
 invariant-loop-count g l = record {
