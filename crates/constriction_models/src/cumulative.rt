@@ -48,10 +48,10 @@ pub enum CumulativeError {
 
 /// A model of the symbols `0`, `1`, .. that keeps the sum of the counts before each symbol.
 ///
-/// The table is that of [`CategoricalCounts`](crate::categorical::CategoricalCounts) for the same counts: let `n` be the
-/// number of counts, and `total` their sum. Symbol `i` begins at `before * (2 ^ PRECISION - n) / total`, rounded down,
-/// plus `i`, where `before` is the sum of the counts before `i`. The model doesn't borrow the counts. It allocates
-/// `8 * n + 8` bytes.
+/// The table is that of [`CategoricalCounts`](crate::categorical::CategoricalCounts) for the same counts. Let `n` be
+/// the number of counts, and `total` their sum. Symbol `i` begins at `before * (2 ^ PRECISION - n) / total`, rounded
+/// down, plus `i`, where `before` is the sum of the counts before `i`. The model doesn't borrow the counts. It
+/// allocates `8 * n + 8` bytes.
 ///
 /// # Examples
 ///
@@ -98,8 +98,8 @@ fn checked_sum_of<C: WordOf<u64>>(counts: &[C]) -> Option<u64>
 
 /// Returns the sum of the counts before each count, followed by the sum of all counts.
 ///
-/// The caller proves that there are fewer than `2^24` counts, and that they add up to less than `2^40`. The call returns
-/// `None` if there is no memory for the sums.
+/// The caller proves that there are fewer than `2^24` counts, and that they add up to less than `2^40`. The call
+/// returns `None` if there is no memory for the sums.
 fn sums_of<C: WordOf<u64>>(alloc: Global, counts: &[C]) -> Option<Vec<u64>>
     requires few { length counts.now < 16777216 }
     requires total { sum_by C.number counts.now < 1099511627776 }
@@ -119,8 +119,9 @@ fn sums_of<C: WordOf<u64>>(alloc: Global, counts: &[C]) -> Option<Vec<u64>>
 impl<Probability: WordOf<u32>, const PRECISION: usize> CumulativeCounts<Probability, PRECISION> {
     /// Creates the model of `counts`, whose type is `u8`, `u16`, `u32` or `u64`.
     ///
-    /// The call goes through the counts twice, and allocates the memory from `alloc`. The caller proves that `PRECISION` is at least 1, at most 24, and below `Probability::BITS`. See the type's
-    /// documentation for an example.
+    /// The call goes through the counts twice, and allocates the memory from `alloc`. The caller proves that
+    /// `PRECISION` is at least 1, at most 24, and below `Probability::BITS`. See the type's documentation for an
+    /// example.
     ///
     /// # Errors
     ///
