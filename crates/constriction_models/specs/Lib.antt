@@ -12,6 +12,7 @@ pub mod Cumulative
 pub mod Lookup
 pub mod Quantizers
 pub mod Counts
+pub mod Floats
 pub mod Families
 pub mod Mixtures
 pub mod Scales

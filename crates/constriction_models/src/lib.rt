@@ -35,6 +35,7 @@ pub mod distribution;
 pub mod errors;
 pub mod families;
 pub mod gaussian;
+pub mod floats;
 mod interpolation;
 mod intervals;
 pub mod laplace;

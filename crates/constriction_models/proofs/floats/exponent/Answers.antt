@@ -1,0 +1,7 @@
+use Rattle.constriction_models.specs.Floats.{exponent}
+use Rattle.constriction_models.proofs.Floating.{scaled_most}
+use Rattle.constriction_models.proofs.floats.exponent.Goals as goal
+
+pub returns : goal.returns
+unfolding exponent
+returns c = c.max.ensures

@@ -1,0 +1,11 @@
+use Rattle.std.proofs.Common.{refl, arith}
+use Rattle.constriction_models.proofs.Floating.{quick_counts_are}
+use Rattle.constriction_models.proofs.floats.put_quick_counts.Goals as goal
+
+pub returns-then-bits-lt31-clause-counts : goal.returns-then-bits-lt31-clause-counts
+returns-then-bits-lt31-clause-counts c =
+    quick_counts_are c.args.floats.now c.put.new.counts c.put-then-bits-lt31.new.counts c.new.result.bits c.sum_of.result c.quick_bits-bits.result c.new-then-bits-lt31.result.bits c.new.ensures.bits c.put.ensures c.sum_of.ensures c.quick_bits-bits.ensures.bits c.new-then-bits-lt31.ensures.bits c.put-then-bits-lt31.ensures
+
+pub returns-else-bits-lt31-clause-counts : goal.returns-else-bits-lt31-clause-counts
+returns-else-bits-lt31-clause-counts c =
+    quick_counts_are c.args.floats.now c.put.new.counts c.put.new.counts c.new.result.bits c.sum_of.result c.quick_bits-bits.result c.new.result.bits c.new.ensures.bits c.put.ensures c.sum_of.ensures c.quick_bits-bits.ensures.bits (omega (arith, c.new.ensures.bits, c.quick_bits-bits.ensures.few)) c.put.ensures

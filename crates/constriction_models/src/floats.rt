@@ -1,0 +1,297 @@
+//! Counts in proportion to probabilities that are floats, computed in integers.
+//!
+//! Each float is given by its bits (IEEE 754 binary64), and each count is rounded once, half to even. So every machine
+//! computes the same counts.
+//!
+//! - `counts_of_floats` computes the counts for [`weights_of_counts`](crate::counts::weights_of_counts).
+//! - `put_quick_counts` computes the counts for [`CategoricalCounts`](crate::categorical::CategoricalCounts).
+
+ghost use Rattle.std.specs.Prelude.{◌≡◌, ℕ, ◌+◌, ◌-◌, ◌*◌, ◌^◌, ◌<◌, ◌≤◌, ◌↔◌, true, false, length, map, slice_index, IfOk, IfErr, IsErrOf};
+ghost use Rattle.std.specs.List.{list_all, sum};
+ghost use Rattle.constriction_models.specs.Floats.{float_bits, is_probability, significand, exponent, units, float_units};
+ghost use Rattle.constriction_models.specs.Floats.{greatest_bits, greatest_units, bit_length, row_length, nearest, IsScale};
+ghost use Rattle.constriction_models.specs.Floats.{float_count, weight_count, weight_counts, counts_at, quick_bits, quick_counts};
+ghost use Rattle.constriction_models.specs.declared.floats.FloatsError.TheVariants as errors;
+
+use std::alloc::{AllocError, Global};
+use thiserror::Error;
+
+/// `2^52`, the leading bit of a normal float's significand. The bits of a float from this one on are its exponent.
+const LEADING: u64 = 4503599627370496;
+
+/// The bits of infinity. Negative floats and NaN have greater bits, except negative zero.
+const INFINITY: u64 = 9218868437227405312;
+
+/// The bits of negative zero.
+const NEGATIVE_ZERO: u64 = 9223372036854775808;
+
+/// The error of computing counts from floats.
+///
+/// # Examples
+///
+/// ```
+/// match counts_of_floats(alloc, &[0]) {
+///     Ok(counts) => {}
+///     Err(error) => {} // `Empty`: no float is above 0
+/// }
+/// ```
+#[derive(Debug, Clone, Copy, PartialEq, Eq, Hash, Error)]
+pub enum FloatsError {
+    /// No float is above 0.
+    #[error("no probability above 0")]
+    Empty,
+    /// A float is negative, infinite or NaN.
+    #[error("a probability that is negative or not finite")]
+    Invalid,
+    /// There is no memory for the counts.
+    #[error("out of memory")]
+    Memory,
+}
+
+impl From<AllocError> for FloatsError {
+    ghost from_gives = { λ _ error. error ≡ errors.Memory };
+
+    fn from(_error: AllocError) -> FloatsError {
+        FloatsError::Memory
+    }
+}
+
+/// How to scale the floats of a row to counts, of which the greatest is from `2^(bits - 1)` to `2^bits`.
+#[derive(Drop)]
+struct Scale {
+    /// The bits of the greatest float.
+    most: u64,
+    /// The number of bits of the greatest count.
+    bits: u64,
+    /// The number of bits by which each significand is moved up. Then the greatest float's significand has 62 bits.
+    lift: u32,
+    /// The number of bits by which it is then moved down, plus the float's exponent.
+    rise: u64,
+    ghost scaled: { IsScale most bits lift rise },
+}
+
+impl Scale {
+    /// Returns the scale of a row whose greatest float has the bits `most`.
+    fn new(most: u64, bits: u64) -> Scale
+        requires some { 0 < most }
+        requires finite { most < 2047 * 2 ^ 52 }
+        requires few { bits ≤ 62 }
+        ensures most { result.most ≡ most }
+        ensures bits { result.bits ≡ bits }
+    {
+        let lift = significand(most).leading_zeros() - 2;
+        let rise = exponent(most) + 62 - bits;
+        Scale {
+            most,
+            bits,
+            lift,
+            rise,
+        }
+    }
+
+    /// Returns the count of a float. The caller proves that the row's greatest float is at least as great.
+    #[inline]
+    fn count(&self, float: u64) -> u64
+        requires { float_bits float ≤ self.now.most }
+        ensures count { result ≡ float_count (bit_length 2098 (units self.now.most)) self.now.bits float }
+        ensures fits { result ≤ 2 ^ self.now.bits }
+    {
+        let bits = float_bits(float);
+        let lifted = significand(bits) << self.lift;
+        let places = (self.rise - exponent(bits)).min(63);
+        nearest(lifted, places)
+    }
+
+    /// Writes the count of each float into `counts`.
+    fn put(&self, floats: &[u64], counts: &mut [u32])
+        requires most { self.now.most ≡ greatest_bits floats.now }
+        requires few { self.now.bits ≤ 31 }
+        requires len { length floats.now ≡ length counts.now }
+        ensures { counts.new ≡ counts_at self.now.bits floats.now }
+    {
+        for i in 0..floats.len() {
+            counts[i] = self.count(floats[i]) as u32;
+        }
+    }
+
+    /// Writes the count of each float into `counts`, and 1 in place of a count of 0.
+    fn put_all_above_0(&self, floats: &[u64], counts: &mut [u64])
+        requires most { self.now.most ≡ greatest_bits floats.now }
+        requires bits { self.now.bits ≡ 62 }
+        requires len { length floats.now ≡ length counts.now }
+        ensures { counts.new ≡ weight_counts floats.now }
+    {
+        for i in 0..floats.len() {
+            counts[i] = self.count(floats[i]).max(1);
+        }
+    }
+}
+
+/// Returns the bits of a float, and 0 for negative zero.
+#[inline]
+fn float_bits(float: u64) -> u64
+    ensures { result ≡ float_bits float }
+{
+    if float == NEGATIVE_ZERO { 0 } else { float }
+}
+
+/// Returns the significand of a finite float that is at least 0, as a whole number.
+#[inline]
+fn significand(bits: u64) -> u64
+    ensures { result ≡ significand bits }
+{
+    if bits < LEADING { bits } else { LEADING + bits % LEADING }
+}
+
+/// Returns the exponent field of a finite float that is at least 0, or 1 if the float is subnormal.
+#[inline]
+fn exponent(bits: u64) -> u64
+    ensures { result ≡ exponent bits }
+{
+    (bits / LEADING).max(1)
+}
+
+/// Returns `number / 2^places`, rounded to the nearest whole number, half to even.
+///
+/// The caller proves that the number is below `2^62`.
+#[inline]
+fn nearest(number: u64, places: u64) -> u64
+    requires small { number < 2 ^ 62 }
+    requires few { places ≤ 63 }
+    ensures { result ≡ nearest number (2 ^ places) }
+{
+    let odd = (number >> places) % 2;
+    ((2 * number + ((1u64 << places) - 1) + odd) >> places) / 2
+}
+
+/// Returns the bits of the greatest float, or 0 if there are no floats.
+///
+/// If a float is negative, infinite or NaN, these bits are at least those of infinity.
+fn greatest_bits(floats: &[u64]) -> u64
+    ensures { result ≡ greatest_bits floats.now }
+{
+    let mut most = 0u64;
+    for float in floats {
+        most = most.max(float_bits(*float));
+    }
+    most
+}
+
+/// Returns the bits of the greatest float, which is finite and above 0.
+///
+/// # Errors
+///
+/// - `Invalid`: a float is negative, infinite or NaN.
+/// - `Empty`: no float is above 0.
+fn check(floats: &[u64]) -> Result<u64, FloatsError>
+    ensures most { IfOk result (λ most. (most ≡ greatest_bits floats.now) × (0 < most) × (most < 2047 * 2 ^ 52)) }
+    ensures invalid { IsErrOf result FloatsError.Invalid ↔ (list_all is_probability floats.now ≡ false) }
+    ensures empty { IsErrOf result FloatsError.Empty
+        ↔ ((list_all is_probability floats.now ≡ true) × (greatest_units floats.now ≡ 0)) }
+    ensures memory { IsErrOf result FloatsError.Memory → ⊥ }
+{
+    let most = greatest_bits(floats);
+    if most >= INFINITY {
+        return Err(FloatsError::Invalid);
+    }
+    if most == 0 {
+        return Err(FloatsError::Empty);
+    }
+    Ok(most)
+}
+
+/// Returns the sum of `counts`.
+fn sum_of(counts: &[u32]) -> u128
+    ensures { result ≡ sum counts.now }
+{
+    let mut total = 0u128;
+    for count in counts {
+        total += *count as u128;
+    }
+    total
+}
+
+/// Returns the number of bits of the greatest count, where the counts add up to `total` with 31 bits.
+fn quick_bits(total: u128) -> u64
+    ensures bits { result ≡ quick_bits total }
+    ensures few { result ≤ 31 }
+{
+    if total < 1u128 << 40 {
+        return 31;
+    }
+    31u64.saturating_sub((128 - total.leading_zeros()) as u64 - 39)
+}
+
+/// Returns a count for each float, in proportion to the floats, for [`weights_of_counts`](crate::counts::weights_of_counts).
+///
+/// Each float is given by its bits (IEEE 754 binary64). A count is the float times a power of two, rounded to the
+/// nearest whole number (half to even), and at least 1. The power of two is the same for all floats. It makes the
+/// greatest count at least `2^61` and at most `2^62`.
+///
+/// # Errors
+///
+/// - `Invalid`: a float is negative, infinite or NaN.
+/// - `Empty`: no float is above 0.
+/// - `Memory`: there is no memory for the counts.
+///
+/// # Examples
+///
+/// ```
+/// let floats = [0x3FF0_0000_0000_0000, 0x3FE0_0000_0000_0000, 0]; // 1.0, 0.5, 0.0
+/// counts_of_floats(alloc, &floats)? // [2^61, 2^60, 1]
+/// ```
+pub fn counts_of_floats(alloc: Global, floats: &[u64]) -> Result<Vec<u64>, FloatsError>
+    ensures counts { IfOk result (λ counts. counts.items ≡ weight_counts floats.now) }
+    ensures invalid { IsErrOf result FloatsError.Invalid ↔ (list_all is_probability floats.now ≡ false) }
+    ensures empty { IsErrOf result FloatsError.Empty
+        ↔ ((list_all is_probability floats.now ≡ true) × (greatest_units floats.now ≡ 0)) }
+    ensures memory { IsErrOf result FloatsError.Memory
+        → (list_all is_probability floats.now ≡ true) × (0 < greatest_units floats.now) }
+{
+    let most = check(floats)?;
+    let scale = Scale::new(most, 62);
+    let mut counts = vec![in alloc; 0u64; floats.len()]?;
+    scale.put_all_above_0(floats, &mut counts);
+    Ok(counts)
+}
+
+/// Writes a count for each float, in proportion to the floats, for
+/// [`CategoricalCounts`](crate::categorical::CategoricalCounts).
+///
+/// Each float is given by its bits (IEEE 754 binary64). The caller proves that both lists have the same length. A count
+/// is the float times a power of two, rounded to the nearest whole number (half to even). The power of two is the same
+/// for all floats. It makes the greatest count at least `2^30` and at most `2^31`. If the counts then add up to `2^40`
+/// or more, the power of two is divided by the least power of two that brings this sum below `2^39` (but by at most
+/// `2^31`), and the counts are computed from the floats again.
+///
+/// # Errors
+///
+/// After an error, `counts` is unchanged.
+///
+/// - `Invalid`: a float is negative, infinite or NaN.
+/// - `Empty`: no float is above 0.
+///
+/// # Examples
+///
+/// ```
+/// let floats = [0x3FF0_0000_0000_0000, 0x3FE0_0000_0000_0000, 0]; // 1.0, 0.5, 0.0
+/// let mut counts = [0; 3];
+/// put_quick_counts(&floats, &mut counts)? // [2^30, 2^29, 0]
+/// ```
+pub fn put_quick_counts(floats: &[u64], counts: &mut [u32]) -> Result<(), FloatsError>
+    requires { length floats.now ≡ length counts.now }
+    ensures counts { IfOk result (λ _. counts.new ≡ quick_counts floats.now) }
+    ensures unchanged { IfErr result (λ _. counts.new ≡ counts.old) }
+    ensures invalid { IsErrOf result FloatsError.Invalid ↔ (list_all is_probability floats.now ≡ false) }
+    ensures empty { IsErrOf result FloatsError.Empty
+        ↔ ((list_all is_probability floats.now ≡ true) × (greatest_units floats.now ≡ 0)) }
+    ensures memory { IsErrOf result FloatsError.Memory → ⊥ }
+{
+    let most = check(floats)?;
+    Scale::new(most, 31).put(floats, counts);
+    let bits = quick_bits(sum_of(counts));
+    if bits < 31 {
+        Scale::new(most, bits).put(floats, counts);
+    }
+    Ok(())
+}
