@@ -2,6 +2,7 @@ pub mod Asking
 pub mod CountTables
 pub mod FamilyCounts
 pub mod FamilyTables
+pub mod FloatCounts
 pub mod IntervalPlaces
 pub mod KnownRows
 pub mod Listing

@@ -35,9 +35,9 @@ nearest_sum n d some =
     let both = div-div-eq-div-mul (2 * n + (d - 1) + o) d 2 in
     elim (cases_order (2 * (n % d)) d) [
       | inl half ↦ elim (cases_lt o 1) [
-          | inl none ↦ both ∙ sym (quotient_of (2 * n + (d - 1) + o) (d * 2) q (omega arith) (omega arith)) ∙ omega (arith, nearest_even n d half)
-          | inr one ↦ both ∙ sym (quotient_of (2 * n + (d - 1) + o) (d * 2) (q + 1) (omega arith) (omega arith)) ∙ omega (arith, nearest_even n d half)
-        ]
+        | inl none ↦ both ∙ sym (quotient_of (2 * n + (d - 1) + o) (d * 2) q (omega arith) (omega arith)) ∙ omega (arith, nearest_even n d half)
+        | inr one ↦ both ∙ sym (quotient_of (2 * n + (d - 1) + o) (d * 2) (q + 1) (omega arith) (omega arith)) ∙ omega (arith, nearest_even n d half)
+      ]
       | inr (inl less) ↦ both ∙ sym (quotient_of (2 * n + (d - 1) + o) (d * 2) q (omega arith) (omega arith)) ∙ omega (arith, nearest_down n d less)
       | inr (inr more) ↦ both ∙ sym (quotient_of (2 * n + (d - 1) + o) (d * 2) (q + 1) (omega arith) (omega arith)) ∙ omega (arith, nearest_up n d more)
     ]
@@ -82,10 +82,10 @@ nearest_most n d q some h =
     let odd : n / d % 2 < 2 = mod_below (n / d) 2 (lit< tt) in
     elim (cases_lt (n / d) q) [
       | inl less ↦ elim (cases_order (2 * (n % d)) d) [
-          | inl half ↦ omega (arith, nearest_even n d half)
-          | inr (inl down) ↦ omega (arith, nearest_down n d down)
-          | inr (inr up) ↦ omega (arith, nearest_up n d up)
-        ]
+        | inl half ↦ omega (arith, nearest_even n d half)
+        | inr (inl down) ↦ omega (arith, nearest_down n d down)
+        | inr (inr up) ↦ omega (arith, nearest_up n d up)
+      ]
       | inr from ↦
           let e : q * d ≤ n / d * d = mul-le-mul_right d from in
           let none : n % d ≡ 0 = omega arith in
@@ -342,9 +342,9 @@ checked_from : (a : ℕ) (xs : List ℕ) → a < 9218868437227405312 → Checked
 checked_from a [] h = sound refl h
 checked_from a (x ∷ xs) h = elim (cases_lt (float_bits x) 9218868437227405312) [
   | inl less ↦ elim (checked_from (max a (float_bits x)) xs (max_below a (float_bits x) 9218868437227405312 h less)) [
-      | sound all below ↦ sound (rw (probable_yes x less) all) below
-      | broken some from ↦ broken (rw (probable_yes x less) some) from
-    ]
+    | sound all below ↦ sound (rw (probable_yes x less) all) below
+    | broken some from ↦ broken (rw (probable_yes x less) some) from
+  ]
   | inr from ↦ broken (rw (probable_no x from) refl) (omega (arith, from, most_from (max a (float_bits x)) xs, le-max_right a (float_bits x)))
 ]
 

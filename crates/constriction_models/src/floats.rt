@@ -140,7 +140,11 @@ fn float_bits(float: u64) -> u64
 fn significand(bits: u64) -> u64
     ensures { result ≡ significand bits }
 {
-    if bits < LEADING { bits } else { LEADING + bits % LEADING }
+    if bits < LEADING {
+        bits
+    } else {
+        LEADING + bits % LEADING
+    }
 }
 
 /// Returns the exponent field of a finite float that is at least 0, or 1 if the float is subnormal.
@@ -183,7 +187,7 @@ fn greatest_bits(floats: &[u64]) -> u64
 ///
 /// - `Invalid`: a float is negative, infinite or NaN.
 /// - `Empty`: no float is above 0.
-fn check(floats: &[u64]) -> Result<u64, FloatsError>
+pub fn greatest_float(floats: &[u64]) -> Result<u64, FloatsError>
     ensures most { IfOk result (λ most. (most ≡ greatest_bits floats.now) × (0 < most) × (most < 2047 * 2 ^ 52)) }
     ensures invalid { IsErrOf result FloatsError.Invalid ↔ (list_all is_probability floats.now ≡ false) }
     ensures empty { IsErrOf result FloatsError.Empty
@@ -248,7 +252,7 @@ pub fn counts_of_floats(alloc: Global, floats: &[u64]) -> Result<Vec<u64>, Float
     ensures memory { IsErrOf result FloatsError.Memory
         → (list_all is_probability floats.now ≡ true) × (0 < greatest_units floats.now) }
 {
-    let most = check(floats)?;
+    let most = greatest_float(floats)?;
     let scale = Scale::new(most, 62);
     let mut counts = vec![in alloc; 0u64; floats.len()]?;
     scale.put_all_above_0(floats, &mut counts);
@@ -287,7 +291,7 @@ pub fn put_quick_counts(floats: &[u64], counts: &mut [u32]) -> Result<(), Floats
         ↔ ((list_all is_probability floats.now ≡ true) × (greatest_units floats.now ≡ 0)) }
     ensures memory { IsErrOf result FloatsError.Memory → ⊥ }
 {
-    let most = check(floats)?;
+    let most = greatest_float(floats)?;
     Scale::new(most, 31).put(floats, counts);
     let bits = quick_bits(sum_of(counts));
     if bits < 31 {

@@ -21,6 +21,8 @@ mod cumulative;
 #[cfg(test)]
 mod cuts;
 #[cfg(test)]
+mod floats;
+#[cfg(test)]
 mod intervals;
 #[cfg(test)]
 mod lists;

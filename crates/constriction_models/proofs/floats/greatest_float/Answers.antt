@@ -1,7 +1,7 @@
 use Rattle.std.proofs.Common.{◌≡◌, Bool, true, false, refl, sym, ◌∙◌, arith}
 use Rattle.std.proofs.lemmas.Bool.{false≢true}
 use Rattle.constriction_models.proofs.Floating.{is_broken, is_sound, is_none, is_some}
-use Rattle.constriction_models.proofs.floats.check.Goals as goal
+use Rattle.constriction_models.proofs.floats.greatest_float.Goals as goal
 
 pub returns-then-most-ge-INFINITY-clause-invalid : goal.returns-then-most-ge-INFINITY-clause-invalid
 returns-then-most-ge-INFINITY-clause-invalid c =

@@ -1,0 +1,102 @@
+-- Counts of floats: all are above 0 where they are for weights, and those of rows follow one another.
+use Rattle.std.specs.Prelude.{IfErr, OnErr, OnOk, Result, Ok, Err}
+use Rattle.std.proofs.Common.{◌≡◌, ◌∙◌, ℕ, zero, suc, ◌+◌, ◌-◌, ◌*◌, ◌^◌, ◌<◌, ◌≤◌, List, [], ◌∷◌, ◌++◌, length, map, take, drop, true, false, ◌↔◌, refl, ap, inl, inr, subst, sym, append-nil, append_assoc, arith}
+use Rattle.std.specs.List.{flat_map, list_all, range_with_len, sum_by}
+use Rattle.std.proofs.lemmas.Bool.{cases_eq, cases_Bool}
+use Rattle.std.proofs.lemmas.Bool.Decides.{nat_tests}
+use Rattle.std.proofs.lemmas.List.{length-map}
+use Rattle.std.proofs.lemmas.List.Sums.{sum_by-cons}
+use Rattle.constriction_models.specs.Counts.{positive}
+use Rattle.constriction_models.specs.Floats.{greatest_units, is_probability, quick_counts, row_length, weight_count, weight_counts}
+use Rattle.constriction_models.specs.declared.floats.FloatsError.{FloatsError}
+use Rattle.constriction_models.specs.declared.floats.FloatsError.TheVariants as errors
+use Rattle.constriction_inputs.specs.Floats.{AreProbabilities, WritesWeightsOfFloats, counts_of_rows}
+use Rattle.constriction_inputs.specs.Mixtures.{row_at_index}
+use Rattle.constriction_inputs.specs.QuantizedCalls.{WritesWeightsOfCounts}
+use Rattle.constriction_inputs.specs.Refusals.{OnlyNoMemory}
+use Rattle.constriction_inputs.specs.declared.refusal.Refusal.{Refusal}
+
+positive_one : (len b : ℕ) → positive (weight_count len b) ≡ 1
+unfolding positive weight_count
+positive_one len b = grind (arith, nat_tests)
+
+all_positive : (len : ℕ) (xs : List ℕ) → sum_by positive (map (weight_count len) xs) ≡ length xs
+all_positive len [] = refl
+all_positive len (x ∷ xs) = omega (arith, sum_by-cons positive (weight_count len x) (map (weight_count len) xs), positive_one len x, all_positive len xs)
+
+-- all counts of floats are above 0
+pub weights_positive : (xs : List ℕ) → sum_by positive (weight_counts xs) ≡ length xs
+unfolding weight_counts
+weights_positive xs = all_positive (row_length xs) xs
+
+weights_long : (xs : List ℕ) → length (weight_counts xs) ≡ length xs
+unfolding weight_counts
+weights_long xs = length-map xs (weight_count (row_length xs))
+
+-- some float is above 0
+some_floats : (xs : List ℕ) → 0 < greatest_units xs → 0 < length xs
+unfolding greatest_units
+some_floats [] h = absurd (omega (arith, h))
+some_floats (x ∷ xs) h = omega arith
+
+-- floats that have counts
+probable : {T : Type 0} (x : T) (floats : List ℕ) → (◌≡◌ {A = Result T FloatsError} (Ok x) (Err errors.Invalid) ↔ (list_all is_probability floats ≡ false))
+    → (◌≡◌ {A = Result T FloatsError} (Ok x) (Err errors.Empty) ↔ ((list_all is_probability floats ≡ true) × (greatest_units floats ≡ 0))) → AreProbabilities floats
+probable x floats invalid empty =
+    let all : list_all is_probability floats ≡ true = elim (cases_Bool (list_all is_probability floats)) [
+      | inl sound ↦ sound
+      | inr broken ↦ (let never = invalid.1 broken in absurd cc)
+    ] in (
+      all,
+      elim (cases_eq (greatest_units floats) 0) [
+        | inl none ↦ (let never = empty.1 (all, none) in absurd cc)
+        | inr some ↦ omega (arith, some)
+      ],
+    )
+
+on_ok : (answer : Result (Unit {0}) Refusal) (P : Type 0) → P → OnOk answer P
+on_ok (Ok x) P p = p
+on_ok (Err e) P p = tt
+
+-- the call for weights of these counts is the one for the floats
+weights_by_floats : (precision : ℕ) (floats counts old new : List ℕ) (answer : Result (Unit {0}) Refusal) → counts ≡ weight_counts floats → length old ≡ length floats
+    → length floats ≤ 2 ^ precision → AreProbabilities floats → WritesWeightsOfCounts precision counts old new answer → WritesWeightsOfFloats precision floats old new answer
+weights_by_floats precision floats counts old new answer is same few all call =
+    let some = some_floats floats all.1 in
+    let made : WritesWeightsOfCounts precision (weight_counts floats) old new answer = subst (λ (xs : List ℕ). WritesWeightsOfCounts precision xs old new answer) is call in
+    let positives = weights_positive floats in
+    let long = weights_long floats in
+    let others : IfErr answer OnlyNoMemory = elim made.asked [
+      | inl wrong ↦ absurd (wrong.0 (omega (arith, same, long)))
+      | inr right ↦ elim right.1 [
+        | inl wrong ↦ absurd (wrong.0 (omega (arith, some, positives), omega (arith, few, positives)))
+        | inr fine ↦ fine.1
+      ]
+    ] in
+    record {
+      weights = on_ok answer (WritesWeightsOfCounts precision (weight_counts floats) old new answer) made;
+      asked = inr (same, inr ((all, few), others));
+      kept = made.kept;
+    }
+
+pub weights_by_counts : {T : Type 0} (x : T) (precision : ℕ) (floats counts old new : List ℕ) (answer : Result (Unit {0}) Refusal) → counts ≡ weight_counts floats → length old ≡ length floats
+    → length floats ≤ 2 ^ precision → (◌≡◌ {A = Result T FloatsError} (Ok x) (Err errors.Invalid) ↔ (list_all is_probability floats ≡ false))
+    → (◌≡◌ {A = Result T FloatsError} (Ok x) (Err errors.Empty) ↔ ((list_all is_probability floats ≡ true) × (greatest_units floats ≡ 0)))
+    → WritesWeightsOfCounts precision counts old new answer → WritesWeightsOfFloats precision floats old new answer
+weights_by_counts x precision floats counts old new answer is same few invalid empty call = weights_by_floats precision floats counts old new answer is same few (probable x floats invalid empty) call
+
+-- ---- rows
+rows_from : (f : ℕ → List ℕ) (a n : ℕ) → flat_map f (range_with_len a (suc n)) ≡ flat_map f (range_with_len a n) ++ f (a + n)
+rows_from f a zero = append-nil (f a) ∙ ap f (omega arith)
+rows_from f a (suc n) =
+    let next : a + 1 + n ≡ a + suc n = omega arith in
+    ap (λ (xs : List ℕ). f a ++ xs) (rows_from f (a + 1) n ∙ ap (λ (k : ℕ). flat_map f (range_with_len (a + 1) n) ++ f k) next)
+    ∙ sym (append_assoc (f a) (flat_map f (range_with_len (a + 1) n)) (f (a + suc n)))
+
+pub rows_more : (width done : ℕ) (floats row : List ℕ) → row ≡ row_at_index width done floats
+    → counts_of_rows width done floats ++ quick_counts row ≡ counts_of_rows width (done + 1) floats
+rows_more width done floats row is =
+    let next : done + 1 ≡ suc done = omega arith in
+    ap (λ (xs : List ℕ). counts_of_rows width done floats ++ quick_counts xs) is
+    ∙ sym (rows_from (λ (place : ℕ). quick_counts (row_at_index width place floats)) 0 done ∙ ap (λ (k : ℕ). counts_of_rows width done floats ++ quick_counts (row_at_index width k floats)) (omega arith))
+    ∙ ap (λ (k : ℕ). counts_of_rows width k floats) (sym next)
