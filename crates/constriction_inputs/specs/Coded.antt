@@ -6,7 +6,7 @@ use Rattle.constriction_inputs.specs.declared.refusal.Refusal.{Refusal}
 use Rattle.constriction_inputs.specs.declared.refusal.Refusal.TheVariants.{WrongInterval, WrongLength, WrongWeights}
 
 -- The symbols with their models, and the requirements on the arguments. Each form of models defines its own value of
--- this type: `by_weights`, `by_rows`, `by_counts`, `as_intervals`, `by_family` and `by_mixture`.
+-- this type: `by_weights`, `by_rows`, `by_indexes`, `by_counts`, `as_intervals`, `by_family` and `by_mixture`.
 pub record Coded : Type 1 where
   -- The symbols with their models, at a precision.
   pub items_at : ℕ → List (Item ℕ)

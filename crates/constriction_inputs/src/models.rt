@@ -2,12 +2,14 @@
 //!
 //! - [`Weights`]: one table of weights for all symbols.
 //! - [`Rows`]: a row of weights for each symbol.
+//! - [`Indexed`]: tables of weights, and the index of a table for each symbol.
 //! - [`Counts`]: a row of counts for each symbol.
 //! - [`Families`]: a family of distributions, with a location and a scale for each symbol.
 //! - [`Mixtures`]: a row of distributions of one family for each symbol, and a weight for each distribution.
 
 mod counts;
 mod families;
+mod indexed;
 mod lone;
 mod mixtures;
 mod rows;
@@ -29,6 +31,7 @@ use constriction_base::model::{DecoderModel, EncoderModel, EntropyModel};
 use constriction_words::{BitArray, Reciprocal};
 pub use counts::Counts;
 pub use families::Families;
+pub use indexed::Indexed;
 pub use mixtures::Mixtures;
 pub use rows::Rows;
 use std::alloc::Global;

@@ -1,0 +1,33 @@
+use Rattle.std.proofs.Common.{◌∙◌, ◌<◌, ◌≤◌, ◌+◌, ◌*◌, arith, length, map, refl, rules, sym}
+use Rattle.std.proofs.lemmas.List.{map_push}
+use Rattle.std.proofs.lemmas.List.FromFn.{map-range_with_len_more}
+use Rattle.constriction_base.specs.Tables.{table_of}
+use Rattle.constriction_base.specs.WeightTables.{entries}
+use Rattle.constriction_inputs.specs.Mixtures.{row_at_index}
+use Rattle.constriction_inputs.specs.Weights.{IsTotal}
+use Rattle.constriction_inputs.specs.WeightsModels.{of_either}
+use Rattle.constriction_inputs.proofs.MixtureTables.{row_ends}
+use Rattle.constriction_inputs.proofs.RowTables.{each_total}
+use Rattle.constriction_inputs.proofs.models.indexed.models_by.Goals as goal
+
+pub model_by-requires : goal.model_by-requires
+model_by-requires g c =
+    let given = c.args in
+    let number = g.P.BitArray.number in
+    let at : c.loop-index.index < given.tables = c.loop-index-test.true in
+    let ends : given.width * c.loop-index.index + given.width ≤ length given.weights.now = omega (arith, c.requires.counted, row_ends given.width c.loop-index.index given.tables at) in
+    let total : IsTotal g.row.PRECISION (row_at_index given.width c.loop-index.index (map number given.weights.now)) =
+    each_total g.row.PRECISION given.width (map number given.weights.now) given.tables c.requires.totals c.loop-index.index at in
+    search rules
+
+pub loop-index-preserved : goal.loop-index-preserved
+loop-index-preserved g c =
+    let given = c.args in
+    let l = c.loop-index in
+    let number = g.P.BitArray.number in
+    let more = map-range_with_len_more (λ index. table_of (row_at_index given.width index (map number given.weights.now))) 0 l.index l.index (omega arith) in
+    record {
+      tables = rw c.push_reserved.ensures.items (map_push (of_either entries (λ row. table_of (map number row.weights.now))) l.models.items c.in-Some.model ∙ (rw (l.invariant.tables, c.in-Some.ensures) refl ∙ sym more));
+      counted = omega (arith, c.push_reserved.ensures.len, l.invariant.counted);
+      capacity = omega (arith, c.push_reserved.ensures.capacity, l.invariant.capacity);
+    }

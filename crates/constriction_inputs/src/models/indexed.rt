@@ -1,0 +1,247 @@
+//! `Indexed`: tables of weights, and the index of a table for each symbol.
+
+ghost use Rattle.std.specs.Prelude.{◌≡◌, ◌+◌, ◌*◌, ◌<◌, ◌≤◌, ℕ, [], get_or, length, map, IfSome};
+ghost use Rattle.std.specs.List.{range_with_len};
+ghost use Rattle.constriction_base.specs.Tables.{table_of};
+ghost use Rattle.constriction_inputs.specs.Indexed.{by_indexes};
+ghost use Rattle.constriction_inputs.specs.Mixtures.{row_at_index};
+ghost use Rattle.constriction_inputs.specs.Rows.{AreTotals};
+ghost use Rattle.constriction_inputs.specs.Weights.{IsTotal};
+
+use crate::known::is_known;
+use crate::models::families::are_below;
+use crate::models::weights::{TableOrRow, table_by};
+use crate::models::weights_model::WeightsModel;
+use crate::models::{DecoderModelList, DecoderModels, ModelList, Models, entry_of};
+use crate::refusal::Refusal;
+use crate::rows::Row;
+use crate::rows::adding::{are_totals, is_product};
+use crate::symbol::Symbol;
+use constriction_base::model::{DecoderModel, EncoderModel, EntropyModel};
+use constriction_words::{BitArray, Reciprocal};
+use std::alloc::Global;
+
+/// Tables of `width` weights, one after another in `weights`, and for each symbol the index of its table.
+///
+/// There are `tables` tables. Each has the weights of the symbols `0`, `1`, .., and these weights have to add up to
+/// `2 ^ PRECISION`. Symbol `i` of the list to encode or decode has the table `indexes[i]`.
+///
+/// A list with more symbols than tables makes each table once. A list with fewer symbols makes no table: a look-up adds
+/// up the weights before the symbol.
+///
+/// # Examples
+///
+/// ```
+/// // at a precision of 8 bits, three symbols under two tables: the first and the last have table 1
+/// let indexed = Indexed { weights: &[255u8, 1, 128, 128], tables: 2, width: 2, indexes: &[1, 0, 1] };
+/// ```
+#[derive(Clone, Copy, Drop)]
+pub struct Indexed<'a, P> {
+    pub weights: &'a [P],
+    pub tables: usize,
+    pub width: usize,
+    pub indexes: &'a [usize],
+}
+
+impl<'a, P: BitArray, const PRECISION: usize> Models<P, PRECISION> for Indexed<'a, P> {
+    type List = IndexedList<'a, TableOrRow<'a, P, PRECISION>>;
+
+    ghost coded = { λ given. by_indexes given.tables given.width (map P.number given.weights.now) given.indexes.now };
+
+    fn check(&self, count: usize) -> Result<(), Refusal> {
+        if !is_product(self.weights.len(), self.width, self.tables)
+            || self.indexes.len() != count
+            || !are_below::<usize>(self.indexes, self.tables) {
+            return Err(Refusal::WrongLength);
+        }
+        if are_totals::<P, PRECISION>(self.weights, self.width, self.tables) {
+            Ok(())
+        } else {
+            Err(Refusal::WrongWeights)
+        }
+    }
+
+    fn know<S: Symbol>(&self, symbols: &[S]) -> bool {
+        for i in 0..symbols.len() {
+            let row = weights_at(self.weights, self.width, self.indexes[i]);
+            if !is_known::<P, PRECISION>(row, S::number_at(symbols, i)) {
+                return false;
+            }
+        }
+        true
+    }
+
+    fn list(
+        &self,
+        alloc: Global,
+        count: usize,
+        divides: bool,
+    ) -> Option<IndexedList<'a, TableOrRow<'a, P, PRECISION>>> {
+        let searches = count <= self.tables;
+        match models_by(
+            alloc,
+            self.weights,
+            self.tables,
+            self.width,
+            searches,
+            divides,
+        ) {
+            Some(models) => Some(IndexedList {
+                models,
+                indexes: self.indexes,
+                place: 0,
+            }),
+            None => None,
+        }
+    }
+}
+
+impl<'a, P: BitArray, const PRECISION: usize> DecoderModels<P, PRECISION> for Indexed<'a, P> {
+    type DecoderList = IndexedList<'a, TableOrRow<'a, P, PRECISION>>;
+
+    fn decoder_list(
+        &self,
+        alloc: Global,
+        count: usize,
+    ) -> Option<IndexedList<'a, TableOrRow<'a, P, PRECISION>>> {
+        Models::<P, PRECISION>::list(self, alloc, count, false)
+    }
+}
+
+/// Models, and for each symbol the index of its model.
+///
+/// # Examples
+///
+/// ```
+/// if let Some(mut list) = Models::<u8, 8>::list(&indexed, alloc, 3, false) {
+///     ModelList::<u8, 8>::interval(&mut list, 2, 1) // Some((128, 128, None)), under table 1
+/// }
+/// ```
+#[derive(Drop)]
+pub struct IndexedList<'a, M> {
+    models: Vec<M>,
+    indexes: &'a [usize],
+    place: usize,
+    ghost within: { (k : ℕ) → k < length indexes.now → get_or indexes.now k 0 < length models.items },
+}
+
+impl<
+    'a,
+    P: BitArray,
+    M: EncoderModel<PRECISION, Symbol = usize, Probability = P>,
+    const PRECISION: usize,
+> ModelList<P, PRECISION> for IndexedList<'a, M> {
+    const LOOKS_AHEAD: bool = false;
+
+    ghost tables = { λ list. map (λ index. get_or (map M.table list.models.items) index []) list.indexes.now };
+
+    #[inline(always)]
+    fn interval(
+        &mut self,
+        place: usize,
+        symbol: usize,
+    ) -> Option<(P, <P as BitArray>::NonZero, Option<Reciprocal>)> {
+        let indexes = self.indexes;
+        match entry_of::<P, M, PRECISION>(&self.models[indexes[place]], symbol) {
+            Some(found) => Some(found),
+            None => None,
+        }
+    }
+}
+
+impl<
+    'a,
+    P: BitArray,
+    M: DecoderModel<PRECISION, Symbol = usize, Probability = P>,
+    const PRECISION: usize,
+> DecoderModelList<P, PRECISION> for IndexedList<'a, M> {
+    type Model = M;
+
+    ghost tables = { λ list. map (λ index. get_or (map M.table list.models.items) index []) list.indexes.now };
+
+    ghost turned_to = { λ list. list.place };
+
+    #[inline]
+    fn select(&mut self, place: usize) {
+        self.place = place;
+    }
+
+    #[inline]
+    fn model(&self) -> &M {
+        &self.models[self.indexes[self.place]]
+    }
+}
+
+/// Returns the model of each of `tables` rows of `width` weights. `weights` has the rows one after another.
+///
+/// If `searches` is true, each model is a row, whose look-up adds up weights. Otherwise it is a table, which keeps
+/// reciprocals if `divides` is true. The caller proves that `weights` has `tables` rows, and that each row adds up to
+/// `2 ^ PRECISION`. The call returns `None` if there is no memory.
+fn models_by<'a, P: BitArray, const PRECISION: usize>(
+    alloc: Global,
+    weights: &'a [P],
+    tables: usize,
+    width: usize,
+    searches: bool,
+    divides: bool,
+) -> Option<Vec<TableOrRow<'a, P, PRECISION>>>
+    requires sizes { (1 ≤ PRECISION) × (PRECISION ≤ P.BITS) }
+    requires counted { length weights.now ≡ width * tables }
+    requires totals { AreTotals PRECISION width tables (map P.number weights.now) }
+    ensures { IfSome result (λ models.
+        map ⟦<TableOrRow<'a, P, PRECISION> as EntropyModel<PRECISION>>⟧.table models.items
+        ≡ map (λ index. table_of (row_at_index width index (map P.number weights.now))) (range_with_len 0 tables)) }
+{
+    let Ok(mut models) = Vec::with_capacity(alloc, tables) else {
+        return None;
+    };
+    for index in 0..tables {
+        let Some(model) = model_by(alloc, weights, width, index, searches, divides) else {
+            return None;
+        };
+        models.push_reserved(model);
+    }
+    Some(models)
+}
+
+/// Returns the model of row `index` of `weights`, which has rows of `width` weights, one after another.
+///
+/// If `searches` is true, the model is the row. Otherwise it is a table, which keeps reciprocals if `divides` is true.
+/// The caller proves that there is such a row, and that it adds up to `2 ^ PRECISION`. The call returns `None` if there
+/// is no memory.
+fn model_by<'a, P: BitArray, const PRECISION: usize>(
+    alloc: Global,
+    weights: &'a [P],
+    width: usize,
+    index: usize,
+    searches: bool,
+    divides: bool,
+) -> Option<TableOrRow<'a, P, PRECISION>>
+    requires sizes { (1 ≤ PRECISION) × (PRECISION ≤ P.BITS) }
+    requires within { width * index + width ≤ length weights.now }
+    requires total { IsTotal PRECISION (row_at_index width index (map P.number weights.now)) }
+    ensures { IfSome result (λ model. ⟦<TableOrRow<'a, P, PRECISION> as EntropyModel<PRECISION>>⟧.table model
+        ≡ table_of (row_at_index width index (map P.number weights.now))) }
+{
+    let row = weights_at(weights, width, index);
+    if searches {
+        return Some(WeightsModel::Rows(Row::of_total(row)));
+    }
+    match table_by(alloc, row, divides) {
+        Some(table) => Some(WeightsModel::Table(table)),
+        None => None,
+    }
+}
+
+/// Returns row `index` of `weights`, which has rows of `width` weights, one after another.
+///
+/// The caller proves that there is such a row.
+#[inline(always)]
+fn weights_at<P: BitArray>(weights: &[P], width: usize, index: usize) -> &[P]
+    requires { width * index + width ≤ length weights.now }
+    ensures { map P.number result.now ≡ row_at_index width index (map P.number weights.now) }
+{
+    let start = width * index;
+    let end = start + width;
+    &weights[start..end]
+}
