@@ -1,5 +1,5 @@
 -- Models given as tables of weights, and the index of a table for each symbol.
-use Rattle.std.specs.Prelude.{◌≡◌, ℕ, ◌*◌, ◌<◌, List, length, map}
+use Rattle.std.specs.Prelude.{◌≡◌, ℕ, ◌*◌, ◌/◌, ◌<◌, List, length, map}
 use Rattle.std.specs.List.{AllByRecursion}
 use Rattle.constriction_base.specs.Models.{Item, pairs_of}
 use Rattle.constriction_base.specs.Tables.{table_of}
@@ -15,18 +15,22 @@ index_tables width weights indexes = map (λ index. table_of (row_at_index width
 abbrev pub index_items : ℕ → ℕ → List ℕ → List ℕ → List ℕ → List (Item ℕ)
 index_items precision width weights indexes symbols = pairs_of precision (λ table. table) symbols (index_tables width weights indexes)
 
--- There are `tables` rows of `width` weights, and an index for each of `count` symbols. Each index is below `tables`.
-pub record AreIndexed (tables width : ℕ) (weights indexes : List ℕ) (count : ℕ) : Type 0 where
-  pub rows : length weights ≡ width * tables
-  pub counted : length indexes ≡ count
-  pub within : AllByRecursion (λ index. index < tables) indexes
+-- How many rows of `width` weights there are. There is no row of no weights.
+abbrev pub row_count : ℕ → List ℕ → ℕ
+row_count width weights = length weights / width
 
--- The symbols with the tables of their indexes as models, and the requirements on the caller's arguments. Each table
--- has to add up to 2 ^ precision, whether or not a symbol has its index.
-abbrev pub by_indexes : ℕ → ℕ → List ℕ → List ℕ → List ℕ → Coded
-by_indexes tables width weights indexes symbols = record {
+-- The weights are rows of `width` weights. There are `count` indexes, and each is the index of a row.
+pub record AreIndexed (width : ℕ) (weights indexes : List ℕ) (count : ℕ) : Type 0 where
+  pub rows : length weights ≡ width * row_count width weights
+  pub counted : length indexes ≡ count
+  pub within : AllByRecursion (λ index. index < row_count width weights) indexes
+
+-- The symbols with the tables of their indexes as models, and the requirements on the caller's arguments. Each row has
+-- to add up to 2 ^ precision, whether or not a symbol has its index.
+abbrev pub by_indexes : ℕ → List ℕ → List ℕ → List ℕ → Coded
+by_indexes width weights indexes symbols = record {
   items_at = λ precision. index_items precision width weights indexes symbols;
-  lengths_fit = AreIndexed tables width weights indexes (length symbols);
+  lengths_fit = AreIndexed width weights indexes (length symbols);
   intervals_fit = λ precision. Unit {0};
-  weights_fit = λ precision. AreTotals precision width tables weights;
+  weights_fit = λ precision. AreTotals precision width (row_count width weights) weights;
 }

@@ -3,7 +3,7 @@
 ghost use Rattle.std.specs.Prelude.{◌≡◌, ◌+◌, ◌*◌, ◌<◌, ◌≤◌, ℕ, [], get_or, length, map, IfSome};
 ghost use Rattle.std.specs.List.{range_with_len};
 ghost use Rattle.constriction_base.specs.Tables.{table_of};
-ghost use Rattle.constriction_inputs.specs.Indexed.{by_indexes};
+ghost use Rattle.constriction_inputs.specs.Indexed.{by_indexes, row_count};
 ghost use Rattle.constriction_inputs.specs.Mixtures.{row_at_index};
 ghost use Rattle.constriction_inputs.specs.Rows.{AreTotals};
 ghost use Rattle.constriction_inputs.specs.Weights.{IsTotal};
@@ -23,8 +23,8 @@ use std::alloc::Global;
 
 /// Tables of `width` weights, one after another in `weights`, and for each symbol the index of its table.
 ///
-/// There are `tables` tables. Each has the weights of the symbols `0`, `1`, .., and these weights have to add up to
-/// `2 ^ PRECISION`. Symbol `i` of the list to encode or decode has the table `indexes[i]`.
+/// Each table has the weights of the symbols `0`, `1`, .., which have to add up to `2 ^ PRECISION`. Symbol `i` of the
+/// list to encode or decode has the table `indexes[i]`.
 ///
 /// A list with more symbols than tables makes each table once. A list with fewer symbols makes no table: a look-up adds
 /// up the weights before the symbol.
@@ -33,12 +33,11 @@ use std::alloc::Global;
 ///
 /// ```
 /// // at a precision of 8 bits, three symbols under two tables: the first and the last have table 1
-/// let indexed = Indexed { weights: &[255u8, 1, 128, 128], tables: 2, width: 2, indexes: &[1, 0, 1] };
+/// let indexed = Indexed { weights: &[255u8, 1, 128, 128], width: 2, indexes: &[1, 0, 1] };
 /// ```
 #[derive(Clone, Copy, Drop)]
 pub struct Indexed<'a, P> {
     pub weights: &'a [P],
-    pub tables: usize,
     pub width: usize,
     pub indexes: &'a [usize],
 }
@@ -46,15 +45,16 @@ pub struct Indexed<'a, P> {
 impl<'a, P: BitArray, const PRECISION: usize> Models<P, PRECISION> for Indexed<'a, P> {
     type List = IndexedList<'a, TableOrRow<'a, P, PRECISION>>;
 
-    ghost coded = { λ given. by_indexes given.tables given.width (map P.number given.weights.now) given.indexes.now };
+    ghost coded = { λ given. by_indexes given.width (map P.number given.weights.now) given.indexes.now };
 
     fn check(&self, count: usize) -> Result<(), Refusal> {
-        if !is_product(self.weights.len(), self.width, self.tables)
+        let tables = rows_of(self.weights, self.width);
+        if !is_product(self.weights.len(), self.width, tables)
             || self.indexes.len() != count
-            || !are_below::<usize>(self.indexes, self.tables) {
+            || !are_below::<usize>(self.indexes, tables) {
             return Err(Refusal::WrongLength);
         }
-        if are_totals::<P, PRECISION>(self.weights, self.width, self.tables) {
+        if are_totals::<P, PRECISION>(self.weights, self.width, tables) {
             Ok(())
         } else {
             Err(Refusal::WrongWeights)
@@ -77,15 +77,9 @@ impl<'a, P: BitArray, const PRECISION: usize> Models<P, PRECISION> for Indexed<'
         count: usize,
         divides: bool,
     ) -> Option<IndexedList<'a, TableOrRow<'a, P, PRECISION>>> {
-        let searches = count <= self.tables;
-        match models_by(
-            alloc,
-            self.weights,
-            self.tables,
-            self.width,
-            searches,
-            divides,
-        ) {
+        let tables = rows_of(self.weights, self.width);
+        let searches = count <= tables;
+        match models_by(alloc, self.weights, tables, self.width, searches, divides) {
             Some(models) => Some(IndexedList {
                 models,
                 indexes: self.indexes,
@@ -170,6 +164,16 @@ impl<
     fn model(&self) -> &M {
         &self.models[self.indexes[self.place]]
     }
+}
+
+/// Returns how many rows of `width` weights `weights` has: none if `width` is 0.
+fn rows_of<P: BitArray>(weights: &[P], width: usize) -> usize
+    ensures { result ≡ row_count width (map P.number weights.now) }
+{
+    if width == 0 {
+        return 0;
+    }
+    weights.len() / width
 }
 
 /// Returns the model of each of `tables` rows of `width` weights. `weights` has the rows one after another.

@@ -1,6 +1,7 @@
 use Rattle.std.proofs.Common.{◌<◌, length, get_or, map, arith}
 use Rattle.std.proofs.lemmas.List.{length-map}
 use Rattle.constriction_base.specs.Models.{Knows}
+use Rattle.constriction_inputs.specs.Indexed.{row_count}
 use Rattle.constriction_inputs.specs.Mixtures.{row_at_index}
 use Rattle.constriction_inputs.specs.Weights.{weights_model}
 use Rattle.constriction_inputs.proofs.IndexedTables.{all_at, known_joined, known_split}
@@ -15,8 +16,9 @@ weights_at-row-requires g c =
     let fit = c.requires.0 in
     let inside : i < length self.indexes.now = omega (arith, c.loop-i-test.true, g.S.Symbol.count_law c.args.symbols.now, fit.counted) in
     let index = get_or self.indexes.now i 0 in
-    let at : index < self.tables = all_at (λ n. n < self.tables) self.indexes.now i 0 fit.within inside in
-    omega (arith, fit.rows, length-map self.weights.now g.P.BitArray.number, row_ends self.width index self.tables at)
+    let tables = row_count self.width (map g.P.BitArray.number self.weights.now) in
+    let at : index < tables = all_at (λ n. n < tables) self.indexes.now i 0 fit.within inside in
+    omega (arith, fit.rows, length-map self.weights.now g.P.BitArray.number, row_ends self.width index tables at)
 
 pub returns-then-not-is_known : goal.returns-then-not-is_known
 returns-then-not-is_known g c =
