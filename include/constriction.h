@@ -25,10 +25,13 @@
 
    MODELS. A model is a list of weights: symbol 0 has the first weight, symbol 1 the next, and so on. The weights add
    up to 2^24 (2^12 for .._u16). A symbol is impossible if its weight is 0, or if the symbol is past the end of the
-   list. There are six ways to pass models:
+   list. There are seven ways to pass models:
    - `weights`, `weight_count`: the same weights for all symbols.
    - .._each: a row of `width` weights for each symbol, one row after another, so weight_count is width *
      symbol_count.
+   - .._indexed: tables of `width` weights, one after another, and for each symbol the index of its table. So
+     weight_count is width * the number of tables, and index_count is symbol_count. Each table has to add up to 2^24
+     (2^12), also if no symbol has its index.
    - .._intervals, only for encoding: an interval for each symbol. lefts[i] is the sum of the weights before the
      symbol's weight, and ps[i] is the symbol's weight, with 1 <= ps[i] and lefts[i] + ps[i] <= 2^24 (2^12). These
      functions need no list of weights.
@@ -177,6 +180,13 @@ uint32_t constriction_ans_encode_each_reverse_u32(uint64_t *head, uint32_t *word
                                                   const uint32_t *weights, size_t weight_count, size_t width,
                                                   const size_t *symbols, size_t symbol_count, size_t *needed);
 
+/* Does the same with tables of `width` weights. Symbol symbols[i] has table indexes[i]. Also returns WRONG_LENGTH if
+   weight_count isn't a multiple of width, if index_count isn't symbol_count, or if an index is past the tables. */
+uint32_t constriction_ans_encode_indexed_reverse_u32(uint64_t *head, uint32_t *words, size_t capacity, size_t *len,
+                                                     const uint32_t *weights, size_t weight_count, size_t width,
+                                                     const size_t *indexes, size_t index_count,
+                                                     const size_t *symbols, size_t symbol_count, size_t *needed);
+
 /* Does the same with intervals, from the last to the first.
    Errors: WRONG_LENGTH (*len > capacity, or left_count isn't p_count), WRONG_INTERVAL, NO_SPACE, NO_MEMORY. */
 uint32_t constriction_ans_encode_intervals_reverse_u32(uint64_t *head, uint32_t *words, size_t capacity, size_t *len,
@@ -204,6 +214,12 @@ uint32_t constriction_ans_decode_shorts_u32(uint64_t *head, const uint32_t *word
 uint32_t constriction_ans_decode_each_u32(uint64_t *head, const uint32_t *words, size_t word_count, size_t *len,
                                           const uint32_t *weights, size_t weight_count, size_t width,
                                           size_t *symbols, size_t symbol_count);
+
+/* Does the same with tables of `width` weights, and the index of a table for each symbol. */
+uint32_t constriction_ans_decode_indexed_u32(uint64_t *head, const uint32_t *words, size_t word_count, size_t *len,
+                                             const uint32_t *weights, size_t weight_count, size_t width,
+                                             const size_t *indexes, size_t index_count,
+                                             size_t *symbols, size_t symbol_count);
 
 /* Imports a coder from the words of into_compressed: writes the head to *head, and the number of words that stay
    below the head to *len. An empty list of words makes a new coder.
@@ -322,6 +338,14 @@ uint32_t constriction_range_encode_each_u32(struct constriction_range_encoder_st
                                             const uint32_t *weights, size_t weight_count, size_t width,
                                             const size_t *symbols, size_t symbol_count, size_t *needed);
 
+/* Does the same with tables of `width` weights. Symbol symbols[i] has table indexes[i]. Also returns WRONG_LENGTH if
+   weight_count isn't a multiple of width, if index_count isn't symbol_count, or if an index is past the tables. */
+uint32_t constriction_range_encode_indexed_u32(struct constriction_range_encoder_state_u32 *encoder,
+                                               uint32_t *words, size_t capacity, size_t *len,
+                                               const uint32_t *weights, size_t weight_count, size_t width,
+                                               const size_t *indexes, size_t index_count,
+                                               const size_t *symbols, size_t symbol_count, size_t *needed);
+
 /* Does the same with intervals.
    Errors: WRONG_LENGTH, WRONG_INTERVAL, INVALID_DATA, NO_SPACE, NO_MEMORY. */
 uint32_t constriction_range_encode_intervals_u32(struct constriction_range_encoder_state_u32 *encoder,
@@ -371,6 +395,13 @@ uint32_t constriction_range_decode_each_u32(struct constriction_range_decoder_st
                                             const uint32_t *words, size_t word_count,
                                             const uint32_t *weights, size_t weight_count, size_t width,
                                             size_t *symbols, size_t symbol_count);
+
+/* Does the same with tables of `width` weights, and the index of a table for each symbol. */
+uint32_t constriction_range_decode_indexed_u32(struct constriction_range_decoder_state_u32 *decoder,
+                                               const uint32_t *words, size_t word_count,
+                                               const uint32_t *weights, size_t weight_count, size_t width,
+                                               const size_t *indexes, size_t index_count,
+                                               size_t *symbols, size_t symbol_count);
 
 /* Moves a decoder to a position that was recorded during encoding: pos is the encoder's *len + held, and lower and
    range are the encoder's numbers.
@@ -476,6 +507,16 @@ uint32_t constriction_chain_decode_each_u32(struct constriction_chain_heads_u32 
                                             const uint32_t *weights, size_t weight_count, size_t width,
                                             size_t *symbols, size_t symbol_count, size_t *needed);
 
+/* Does the same with tables of `width` weights. Symbol symbols[i] has table indexes[i]. Also returns WRONG_LENGTH if
+   weight_count isn't a multiple of width, if index_count isn't symbol_count, or if an index is past the tables. */
+uint32_t constriction_chain_decode_indexed_u32(struct constriction_chain_heads_u32 *heads,
+                                               const uint32_t *compressed, size_t compressed_count,
+                                               size_t *compressed_len,
+                                               uint32_t *remainders, size_t capacity, size_t *remainders_len,
+                                               const uint32_t *weights, size_t weight_count, size_t width,
+                                               const size_t *indexes, size_t index_count,
+                                               size_t *symbols, size_t symbol_count, size_t *needed);
+
 /* Encodes symbols from the last to the first. An encode is the inverse of a decode.
    Errors: WRONG_LENGTH (*compressed_len > capacity or *remainders_len > remainders_count), WRONG_WEIGHTS,
    INVALID_DATA (no coder has such heads), IMPOSSIBLE_SYMBOL, OUT_OF_DATA (remainders is too short), NO_SPACE (in
@@ -509,6 +550,15 @@ uint32_t constriction_chain_encode_each_reverse_u32(struct constriction_chain_he
                                                     size_t *remainders_len,
                                                     const uint32_t *weights, size_t weight_count, size_t width,
                                                     const size_t *symbols, size_t symbol_count, size_t *needed);
+
+/* Does the same with tables of `width` weights, and the index of a table for each symbol. */
+uint32_t constriction_chain_encode_indexed_reverse_u32(struct constriction_chain_heads_u32 *heads,
+                                                       uint32_t *compressed, size_t capacity, size_t *compressed_len,
+                                                       const uint32_t *remainders, size_t remainders_count,
+                                                       size_t *remainders_len,
+                                                       const uint32_t *weights, size_t weight_count, size_t width,
+                                                       const size_t *indexes, size_t index_count,
+                                                       const size_t *symbols, size_t symbol_count, size_t *needed);
 
 /* Does the same with intervals. Also returns WRONG_INTERVAL, but neither WRONG_WEIGHTS nor IMPOSSIBLE_SYMBOL. */
 uint32_t constriction_chain_encode_intervals_reverse_u32(struct constriction_chain_heads_u32 *heads,
@@ -634,6 +684,13 @@ uint32_t constriction_ans_encode_each_reverse_u16(uint32_t *head, uint16_t *word
                                                   const uint16_t *weights, size_t weight_count, size_t width,
                                                   const size_t *symbols, size_t symbol_count, size_t *needed);
 
+/* Does the same with tables of `width` weights. Symbol symbols[i] has table indexes[i]. Also returns WRONG_LENGTH if
+   weight_count isn't a multiple of width, if index_count isn't symbol_count, or if an index is past the tables. */
+uint32_t constriction_ans_encode_indexed_reverse_u16(uint32_t *head, uint16_t *words, size_t capacity, size_t *len,
+                                                     const uint16_t *weights, size_t weight_count, size_t width,
+                                                     const size_t *indexes, size_t index_count,
+                                                     const size_t *symbols, size_t symbol_count, size_t *needed);
+
 /* Does the same with intervals, from the last to the first.
    Errors: WRONG_LENGTH (*len > capacity, or left_count isn't p_count), WRONG_INTERVAL, NO_SPACE, NO_MEMORY. */
 uint32_t constriction_ans_encode_intervals_reverse_u16(uint32_t *head, uint16_t *words, size_t capacity, size_t *len,
@@ -661,6 +718,12 @@ uint32_t constriction_ans_decode_shorts_u16(uint32_t *head, const uint16_t *word
 uint32_t constriction_ans_decode_each_u16(uint32_t *head, const uint16_t *words, size_t word_count, size_t *len,
                                           const uint16_t *weights, size_t weight_count, size_t width,
                                           size_t *symbols, size_t symbol_count);
+
+/* Does the same with tables of `width` weights, and the index of a table for each symbol. */
+uint32_t constriction_ans_decode_indexed_u16(uint32_t *head, const uint16_t *words, size_t word_count, size_t *len,
+                                             const uint16_t *weights, size_t weight_count, size_t width,
+                                             const size_t *indexes, size_t index_count,
+                                             size_t *symbols, size_t symbol_count);
 
 /* Imports a coder from the words of into_compressed: writes the head to *head, and the number of words that stay
    below the head to *len. An empty list of words makes a new coder.
@@ -779,6 +842,14 @@ uint32_t constriction_range_encode_each_u16(struct constriction_range_encoder_st
                                             const uint16_t *weights, size_t weight_count, size_t width,
                                             const size_t *symbols, size_t symbol_count, size_t *needed);
 
+/* Does the same with tables of `width` weights. Symbol symbols[i] has table indexes[i]. Also returns WRONG_LENGTH if
+   weight_count isn't a multiple of width, if index_count isn't symbol_count, or if an index is past the tables. */
+uint32_t constriction_range_encode_indexed_u16(struct constriction_range_encoder_state_u16 *encoder,
+                                               uint16_t *words, size_t capacity, size_t *len,
+                                               const uint16_t *weights, size_t weight_count, size_t width,
+                                               const size_t *indexes, size_t index_count,
+                                               const size_t *symbols, size_t symbol_count, size_t *needed);
+
 /* Does the same with intervals.
    Errors: WRONG_LENGTH, WRONG_INTERVAL, INVALID_DATA, NO_SPACE, NO_MEMORY. */
 uint32_t constriction_range_encode_intervals_u16(struct constriction_range_encoder_state_u16 *encoder,
@@ -828,6 +899,13 @@ uint32_t constriction_range_decode_each_u16(struct constriction_range_decoder_st
                                             const uint16_t *words, size_t word_count,
                                             const uint16_t *weights, size_t weight_count, size_t width,
                                             size_t *symbols, size_t symbol_count);
+
+/* Does the same with tables of `width` weights, and the index of a table for each symbol. */
+uint32_t constriction_range_decode_indexed_u16(struct constriction_range_decoder_state_u16 *decoder,
+                                               const uint16_t *words, size_t word_count,
+                                               const uint16_t *weights, size_t weight_count, size_t width,
+                                               const size_t *indexes, size_t index_count,
+                                               size_t *symbols, size_t symbol_count);
 
 /* Moves a decoder to a position that was recorded during encoding: pos is the encoder's *len + held, and lower and
    range are the encoder's numbers.
@@ -933,6 +1011,16 @@ uint32_t constriction_chain_decode_each_u16(struct constriction_chain_heads_u16 
                                             const uint16_t *weights, size_t weight_count, size_t width,
                                             size_t *symbols, size_t symbol_count, size_t *needed);
 
+/* Does the same with tables of `width` weights. Symbol symbols[i] has table indexes[i]. Also returns WRONG_LENGTH if
+   weight_count isn't a multiple of width, if index_count isn't symbol_count, or if an index is past the tables. */
+uint32_t constriction_chain_decode_indexed_u16(struct constriction_chain_heads_u16 *heads,
+                                               const uint16_t *compressed, size_t compressed_count,
+                                               size_t *compressed_len,
+                                               uint16_t *remainders, size_t capacity, size_t *remainders_len,
+                                               const uint16_t *weights, size_t weight_count, size_t width,
+                                               const size_t *indexes, size_t index_count,
+                                               size_t *symbols, size_t symbol_count, size_t *needed);
+
 /* Encodes symbols from the last to the first. An encode is the inverse of a decode.
    Errors: WRONG_LENGTH (*compressed_len > capacity or *remainders_len > remainders_count), WRONG_WEIGHTS,
    INVALID_DATA (no coder has such heads), IMPOSSIBLE_SYMBOL, OUT_OF_DATA (remainders is too short), NO_SPACE (in
@@ -966,6 +1054,15 @@ uint32_t constriction_chain_encode_each_reverse_u16(struct constriction_chain_he
                                                     size_t *remainders_len,
                                                     const uint16_t *weights, size_t weight_count, size_t width,
                                                     const size_t *symbols, size_t symbol_count, size_t *needed);
+
+/* Does the same with tables of `width` weights, and the index of a table for each symbol. */
+uint32_t constriction_chain_encode_indexed_reverse_u16(struct constriction_chain_heads_u16 *heads,
+                                                       uint16_t *compressed, size_t capacity, size_t *compressed_len,
+                                                       const uint16_t *remainders, size_t remainders_count,
+                                                       size_t *remainders_len,
+                                                       const uint16_t *weights, size_t weight_count, size_t width,
+                                                       const size_t *indexes, size_t index_count,
+                                                       const size_t *symbols, size_t symbol_count, size_t *needed);
 
 /* Does the same with intervals. Also returns WRONG_INTERVAL, but neither WRONG_WEIGHTS nor IMPOSSIBLE_SYMBOL. */
 uint32_t constriction_chain_encode_intervals_reverse_u16(struct constriction_chain_heads_u16 *heads,

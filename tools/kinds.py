@@ -50,6 +50,13 @@ COUNTS = of_models(
     "by_counts 32 width counts.now",
     "let models = Counts { counts, width }",
 )
+INDEXED = of_models(
+    "indexed",
+    r"\1 with the table of `width` weights at each symbol's index ([`Indexed`])",
+    "weights: &[u32], width: usize, indexes: &[usize]",
+    "by_indexes width (map (lowest 32) weights.now) indexes.now",
+    "let models = Indexed { weights, width, indexes }",
+)
 QUANTIZED = of_models(
     "quantized",
     ", each with the model of its own location and scale ([`Families`])",
@@ -116,18 +123,22 @@ HUFFMAN = {
 
 # The changes of each module, with the ending of the names that they apply to. A function is from u32.rt, or from an
 # earlier change.
-CODED = [
+MODELS = [
     ("(encode|decode)(_reverse)?_u32", EACH),
     ("(encode|decode)(_reverse)?_u32", COUNTS),
     ("encode(_reverse)?_u32", INTERVALS),
     ("(encode|decode)(_reverse)?_u32", QUANTIZED),
     ("(encode|decode)(_reverse)?_u32", MIXTURE),
+]
+CODED = [
+    *MODELS,
+    ("(encode|decode)(_reverse)?_u32", INDEXED),
     ("(encode|decode)(_reverse)?_u32", BYTES),
     ("(encode|decode)(_reverse)?_u32", SHORTS),
 ]
 KINDS = {
     "ans": [*CODED, ("into_compressed_u32", ANS_BINARY)],
-    "lanes": CODED[:5],  # no symbols of 8 and 16 bits
+    "lanes": MODELS,
     "chain": [*CODED, ("_compressed_u32", BINARY), ("_compressed_u32", REMAINDERS)],
     "range": [*CODED, ("into_compressed_u32", SELF_DELIMITED)],
     "symbol": [("queue_u32", STACK), ("exp_golomb.*", HUFFMAN)],
@@ -140,6 +151,7 @@ ghost use Rattle.constriction_calls.specs.declared.chain.Form.TheVariants.{InBin
 ghost use Rattle.constriction_calls.specs.RangeCalls.{IsSelfSealed};
 ghost use Rattle.constriction_calls.specs.SymbolCalls.{AsStack, OfWeights};
 ghost use Rattle.constriction_inputs.specs.Counts.{by_counts};
+ghost use Rattle.constriction_inputs.specs.Indexed.{by_indexes};
 ghost use Rattle.constriction_inputs.specs.Mixtures.{in_mixture};
 ghost use Rattle.constriction_inputs.specs.Quantized.{in_family};
 ghost use Rattle.constriction_inputs.specs.Rows.{by_rows};
@@ -153,7 +165,7 @@ use constriction_calls::range::words::into_self_delimited;
 use constriction_calls::symbol::{Tree, decode_stack, encode_stack};
 use constriction_lanes::decoding::decode;
 use constriction_inputs::intervals::Intervals;
-use constriction_inputs::models::{Counts, Families, Mixtures, Rows};
+use constriction_inputs::models::{Counts, Families, Indexed, Mixtures, Rows};
 """
 
 # For each struct: the type of constriction_calls with the same fields, and the definition of the conversion to it.

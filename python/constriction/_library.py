@@ -100,6 +100,7 @@ _length, _needed = POINTER(c_size_t), POINTER(c_size_t)
 _buffer = [_list, _size, _length]
 _table, _rows, _pairs = [_list, _size], [_list, _size, _size], [_list, _size, _list, _size]
 _counted = [_list, _size, _size]
+_indexed = [_list, _size, _size, _list, _size]
 _located = [c_uint32, c_int32, c_int32, _list, _size, _list, _size]
 _mixed = [c_uint32, c_int32, c_int32, _size, _list, _size, _list, _size, _list, _size]
 _items = [_list, _size]
@@ -125,6 +126,7 @@ _PARAMETERS: dict[str, list[Any]] = {
     "ans_encode_intervals_reverse": [_head, *_buffer, *_pairs, _needed],
     "ans_encode_quantized_reverse": [_head, *_buffer, *_located, *_items, _needed],
     "ans_encode_mixture_reverse": [_head, *_buffer, *_mixed, *_items, _needed],
+    "ans_encode_indexed_reverse": [_head, *_buffer, *_indexed, *_items, _needed],
     "ans_decode": [_head, *_buffer, *_table, *_items],
     "ans_decode_bytes": [_head, *_buffer, *_table, *_items],
     "ans_decode_shorts": [_head, *_buffer, *_table, *_items],
@@ -132,6 +134,7 @@ _PARAMETERS: dict[str, list[Any]] = {
     "ans_decode_counts": [_head, *_buffer, *_counted, *_items],
     "ans_decode_quantized": [_head, *_buffer, *_located, *_items],
     "ans_decode_mixture": [_head, *_buffer, *_mixed, *_items],
+    "ans_decode_indexed": [_head, *_buffer, *_indexed, *_items],
     "ans_lanes_encode_reverse": [*_lanes, *_table, *_items, _needed],
     "ans_lanes_encode_each_reverse": [*_lanes, *_rows, *_items, _needed],
     "ans_lanes_encode_counts_reverse": [*_lanes, *_counted, *_items, _needed],
@@ -156,6 +159,7 @@ _PARAMETERS: dict[str, list[Any]] = {
     "range_encode_intervals": [_encoder, *_buffer, *_pairs, _needed],
     "range_encode_quantized": [_encoder, *_buffer, *_located, *_items, _needed],
     "range_encode_mixture": [_encoder, *_buffer, *_mixed, *_items, _needed],
+    "range_encode_indexed": [_encoder, *_buffer, *_indexed, *_items, _needed],
     "range_into_compressed": [_encoder, *_buffer, _needed],
     "range_into_self_delimited": [_encoder, *_buffer, _needed],
     "range_from_compressed": [*_items, _decoder],
@@ -166,6 +170,7 @@ _PARAMETERS: dict[str, list[Any]] = {
     "range_decode_counts": [_decoder, *_items, *_counted, *_items],
     "range_decode_quantized": [_decoder, *_items, *_located, *_items],
     "range_decode_mixture": [_decoder, *_items, *_mixed, *_items],
+    "range_decode_indexed": [_decoder, *_items, *_indexed, *_items],
     "range_seek": [_decoder, *_items, _size, _number, _number],
     "range_maybe_exhausted": [_decoder, *_items, POINTER(c_uint32)],
     "store_build": [*_buffer, *_items, *_items, *_items, *_table, *_items, *_items, _needed],
@@ -180,6 +185,7 @@ _PARAMETERS: dict[str, list[Any]] = {
     "chain_decode_counts": [_heads, *_buffer, *_buffer, *_counted, *_items, _needed],
     "chain_decode_quantized": [_heads, *_buffer, *_buffer, *_located, *_items, _needed],
     "chain_decode_mixture": [_heads, *_buffer, *_buffer, *_mixed, *_items, _needed],
+    "chain_decode_indexed": [_heads, *_buffer, *_buffer, *_indexed, *_items, _needed],
     "chain_encode_reverse": [_heads, *_buffer, *_buffer, *_table, *_items, _needed],
     "chain_encode_bytes_reverse": [_heads, *_buffer, *_buffer, *_table, *_items, _needed],
     "chain_encode_shorts_reverse": [_heads, *_buffer, *_buffer, *_table, *_items, _needed],
@@ -188,6 +194,7 @@ _PARAMETERS: dict[str, list[Any]] = {
     "chain_encode_intervals_reverse": [_heads, *_buffer, *_buffer, *_pairs, _needed],
     "chain_encode_quantized_reverse": [_heads, *_buffer, *_buffer, *_located, *_items, _needed],
     "chain_encode_mixture_reverse": [_heads, *_buffer, *_buffer, *_mixed, *_items, _needed],
+    "chain_encode_indexed_reverse": [_heads, *_buffer, *_buffer, *_indexed, *_items, _needed],
     "chain_into_compressed": [_heads, *_buffer, _needed],
     "chain_into_binary": [_heads, *_buffer, _needed],
     "chain_into_remainders": [_heads, *_buffer, _needed],

@@ -5,6 +5,7 @@ ghost use Rattle.constriction_c.specs.U32.{AnsDecodesU32, AnsEncodesU32, AnsExpo
 ghost use Rattle.constriction_c.specs.Words.{lowest};
 ghost use Rattle.constriction_calls.specs.AnsCalls.{AreBinary, HasBinary};
 ghost use Rattle.constriction_inputs.specs.Counts.{by_counts};
+ghost use Rattle.constriction_inputs.specs.Indexed.{by_indexes};
 ghost use Rattle.constriction_inputs.specs.Mixtures.{in_mixture};
 ghost use Rattle.constriction_inputs.specs.Quantized.{in_family};
 ghost use Rattle.constriction_inputs.specs.Rows.{by_rows};
@@ -16,7 +17,7 @@ use constriction_calls::ans::decoding::{decode, decode_narrow};
 use constriction_calls::ans::encoding::encode_reverse;
 use constriction_calls::ans::words::into_binary;
 use constriction_inputs::intervals::Intervals;
-use constriction_inputs::models::{Counts, Families, Mixtures, Rows, Weights};
+use constriction_inputs::models::{Counts, Families, Indexed, Mixtures, Rows, Weights};
 use constriction_inputs::symbols::Symbols;
 use std::alloc::Global;
 
@@ -232,6 +233,53 @@ pub extern "C" fn constriction_ans_decode_mixture_u32(
 {
     let components = Families::new(family, min, max, locations, scales);
     let models = Mixtures::new(components, component_weights, width);
+    let answer = decode::<_, _, u32, _, 24>(alloc, head, words, len, &models, symbols);
+    code_without_space(answer)
+}
+
+/// Encodes symbols from the last to the first, with the table of `width` weights at each symbol's index ([`Indexed`]).
+///
+/// Calls [`encode_reverse`] and returns the code of its result ([`code_of`]).
+#[unsafe(no_mangle)]
+pub extern "C" fn constriction_ans_encode_indexed_reverse_u32(
+    alloc: Global,
+    head: &mut u64,
+    words: &mut [u32],
+    len: &mut usize,
+    weights: &[u32],
+    width: usize,
+    indexes: &[usize],
+    symbols: &[usize],
+    needed: &mut usize,
+) -> u32
+    ensures { AnsEncodesU32 result needed.old needed.new
+        (by_indexes width (map (lowest 32) weights.now) indexes.now symbols.now) head.old words.old len.old head.new
+        words.new len.new }
+{
+    let models = Indexed { weights, width, indexes };
+    let items = Symbols { models, symbols };
+    let answer = encode_reverse::<_, _, u32, _, 24>(alloc, head, words, len, &items);
+    code_of(answer, needed)
+}
+
+/// Decodes symbols into `symbols`, with the table of `width` weights at each symbol's index ([`Indexed`]).
+///
+/// Calls [`decode`] and returns the code of its result ([`code_of`]).
+#[unsafe(no_mangle)]
+pub extern "C" fn constriction_ans_decode_indexed_u32(
+    alloc: Global,
+    head: &mut u64,
+    words: &[u32],
+    len: &mut usize,
+    weights: &[u32],
+    width: usize,
+    indexes: &[usize],
+    symbols: &mut [usize],
+) -> u32
+    ensures { AnsDecodesU32 result (by_indexes width (map (lowest 32) weights.now) indexes.now) words.now head.old
+        len.old head.new len.new symbols.old symbols.new }
+{
+    let models = Indexed { weights, width, indexes };
     let answer = decode::<_, _, u32, _, 24>(alloc, head, words, len, &models, symbols);
     code_without_space(answer)
 }

@@ -5,6 +5,7 @@ ghost use Rattle.constriction_c.specs.U16.{ChainBeginsU16, ChainDecodesU16, Chai
 ghost use Rattle.constriction_c.specs.Words.{lowest};
 ghost use Rattle.constriction_calls.specs.declared.chain.Form.TheVariants.{InBinary, InRemainders};
 ghost use Rattle.constriction_inputs.specs.Counts.{by_counts};
+ghost use Rattle.constriction_inputs.specs.Indexed.{by_indexes};
 ghost use Rattle.constriction_inputs.specs.Mixtures.{in_mixture};
 ghost use Rattle.constriction_inputs.specs.Quantized.{in_family};
 ghost use Rattle.constriction_inputs.specs.Rows.{by_rows};
@@ -17,7 +18,7 @@ use constriction_calls::chain::{
     Form, decode, decode_narrow, encode_reverse, from_words, into_words,
 };
 use constriction_inputs::intervals::Intervals;
-use constriction_inputs::models::{Counts, Families, Mixtures, Rows, Weights};
+use constriction_inputs::models::{Counts, Families, Indexed, Mixtures, Rows, Weights};
 use constriction_inputs::symbols::Symbols;
 use std::alloc::Global;
 
@@ -297,6 +298,68 @@ pub extern "C" fn constriction_chain_encode_mixture_reverse_u16(
 {
     let components = Families::new(family, min, max, locations, scales);
     let models = Mixtures::new(components, component_weights, width);
+    let items = Symbols { models, symbols };
+    let mut both = heads.parts();
+    let answer = encode_reverse::<_, _, u16, _, 12>(
+        alloc, &mut both, compressed, count, remainders, rest, &items,
+    );
+    *heads = ChainHeadsU16::of(both);
+    code_of(answer, needed)
+}
+
+/// Decodes symbols into `symbols`, with the table of `width` weights at each symbol's index ([`Indexed`]).
+///
+/// Calls [`decode`] and returns the code of its result ([`code_of`]).
+#[unsafe(no_mangle)]
+pub extern "C" fn constriction_chain_decode_indexed_u16(
+    alloc: Global,
+    heads: &mut ChainHeadsU16,
+    compressed: &[u16],
+    count: &mut usize,
+    remainders: &mut [u16],
+    rest: &mut usize,
+    weights: &[u16],
+    width: usize,
+    indexes: &[usize],
+    symbols: &mut [usize],
+    needed: &mut usize,
+) -> u32
+    ensures { ChainDecodesU16 result needed.old needed.new (by_indexes width (map (lowest 16) weights.now) indexes.now)
+        (chain_u16 heads.old compressed.now count.old remainders.old rest.old)
+        (chain_u16 heads.new compressed.now count.new remainders.new rest.new) symbols.old symbols.new }
+{
+    let models = Indexed { weights, width, indexes };
+    let mut both = heads.parts();
+    let answer = decode::<_, _, u16, _, 12>(
+        alloc, &mut both, compressed, count, remainders, rest, &models, symbols,
+    );
+    *heads = ChainHeadsU16::of(both);
+    code_of(answer, needed)
+}
+
+/// Encodes symbols from the last to the first, with the table of `width` weights at each symbol's index ([`Indexed`]).
+///
+/// Calls [`encode_reverse`] and returns the code of its result ([`code_of`]).
+#[unsafe(no_mangle)]
+pub extern "C" fn constriction_chain_encode_indexed_reverse_u16(
+    alloc: Global,
+    heads: &mut ChainHeadsU16,
+    compressed: &mut [u16],
+    count: &mut usize,
+    remainders: &[u16],
+    rest: &mut usize,
+    weights: &[u16],
+    width: usize,
+    indexes: &[usize],
+    symbols: &[usize],
+    needed: &mut usize,
+) -> u32
+    ensures { ChainEncodesU16 result needed.old needed.new
+        (by_indexes width (map (lowest 16) weights.now) indexes.now symbols.now)
+        (chain_u16 heads.old compressed.old count.old remainders.now rest.old)
+        (chain_u16 heads.new compressed.new count.new remainders.now rest.new) }
+{
+    let models = Indexed { weights, width, indexes };
     let items = Symbols { models, symbols };
     let mut both = heads.parts();
     let answer = encode_reverse::<_, _, u16, _, 12>(

@@ -5,6 +5,7 @@ ghost use Rattle.constriction_c.specs.U16.{RangeDecodesU16, RangeEncodesU16, Ran
 ghost use Rattle.constriction_c.specs.Words.{lowest};
 ghost use Rattle.constriction_calls.specs.RangeCalls.{IsSelfSealed, RangeSeals};
 ghost use Rattle.constriction_inputs.specs.Counts.{by_counts};
+ghost use Rattle.constriction_inputs.specs.Indexed.{by_indexes};
 ghost use Rattle.constriction_inputs.specs.Mixtures.{in_mixture};
 ghost use Rattle.constriction_inputs.specs.Quantized.{in_family};
 ghost use Rattle.constriction_inputs.specs.Rows.{by_rows};
@@ -17,7 +18,7 @@ use constriction_calls::range::decoding::{decode, decode_narrow};
 use constriction_calls::range::encoding::encode;
 use constriction_calls::range::words::into_self_delimited;
 use constriction_inputs::intervals::Intervals;
-use constriction_inputs::models::{Counts, Families, Mixtures, Rows, Weights};
+use constriction_inputs::models::{Counts, Families, Indexed, Mixtures, Rows, Weights};
 use constriction_inputs::symbols::Symbols;
 use std::alloc::Global;
 
@@ -246,6 +247,56 @@ pub extern "C" fn constriction_range_decode_mixture_u16(
 {
     let components = Families::new(family, min, max, locations, scales);
     let models = Mixtures::new(components, component_weights, width);
+    let mut parts = decoder.parts();
+    let answer = decode::<_, _, u16, _, 12>(alloc, &mut parts, words, &models, symbols);
+    *decoder = RangeDecoderU16::of(parts);
+    code_without_space(answer)
+}
+
+/// Encodes symbols in order, with the table of `width` weights at each symbol's index ([`Indexed`]).
+///
+/// Calls [`encode`] and returns the code of its result ([`code_of`]).
+#[unsafe(no_mangle)]
+pub extern "C" fn constriction_range_encode_indexed_u16(
+    alloc: Global,
+    encoder: &mut RangeEncoderU16,
+    words: &mut [u16],
+    len: &mut usize,
+    weights: &[u16],
+    width: usize,
+    indexes: &[usize],
+    symbols: &[usize],
+    needed: &mut usize,
+) -> u32
+    ensures { RangeEncodesU16 result needed.old needed.new
+        (by_indexes width (map (lowest 16) weights.now) indexes.now symbols.now) (length symbols.now) encoder.old
+        words.old len.old encoder.new words.new len.new }
+{
+    let models = Indexed { weights, width, indexes };
+    let items = Symbols { models, symbols };
+    let mut parts = encoder.parts();
+    let answer = encode::<_, _, u16, _, 12>(alloc, &mut parts, words, len, &items);
+    *encoder = RangeEncoderU16::of(parts);
+    code_of(answer, needed)
+}
+
+/// Decodes symbols into `symbols`, in order, with the table of `width` weights at each symbol's index ([`Indexed`]).
+///
+/// Calls [`decode`] and returns the code of its result ([`code_of`]).
+#[unsafe(no_mangle)]
+pub extern "C" fn constriction_range_decode_indexed_u16(
+    alloc: Global,
+    decoder: &mut RangeDecoderU16,
+    words: &[u16],
+    weights: &[u16],
+    width: usize,
+    indexes: &[usize],
+    symbols: &mut [usize],
+) -> u32
+    ensures { RangeDecodesU16 result (by_indexes width (map (lowest 16) weights.now) indexes.now) words.now decoder.old
+        decoder.new symbols.old symbols.new }
+{
+    let models = Indexed { weights, width, indexes };
     let mut parts = decoder.parts();
     let answer = decode::<_, _, u16, _, 12>(alloc, &mut parts, words, &models, symbols);
     *decoder = RangeDecoderU16::of(parts);
