@@ -65,7 +65,8 @@ def encoded(
     parameters = tuple(it if is_one(it) else sequence_of(it) for it in parameters)
     if not one:
         symbols = sequence_of(symbols)
-        parameters = aligned(model.core, parameters, shape_of(symbols))[0] if parameters else ()
+        if parameters:
+            parameters = aligned(model.core, parameters, shape_of(symbols), model.has_wholes)[0]
         symbols = flat(symbols)
     try:
         return _encoded(state, symbols, model, parameters, encode, backwards, ready)
@@ -86,10 +87,11 @@ def _encoded(
     weights = model.table() if located is None else ()
     places = places_of(symbols, model.first, narrow=located is None)
     if located is not None and len(places) != located.symbols:
-        raise _other_lengths(len(places), located.symbols, "sets of parameters")
+        names = model.missing[0] if model.has_wholes else "sets of parameters"
+        raise _other_lengths(len(places), located.symbols, names)
     try:
         state = ready(state, len(places))
-        parts = _parts(len(places), len(weights))
+        parts = _parts(len(places), len(weights) if located is None else located.costs)
         for part in reversed(parts) if backwards else parts:
             models, count = listed(weights) if located is None else located.lent(part), part.stop - part.start
             state = encode(
@@ -142,7 +144,7 @@ def _rows(model: Model, given: tuple[Any, ...]) -> Iterator[Sequence[int]]:
     else:
         located = model.located(given)
         if located is not None:
-            yield from repeat(range(1, located.greatest - located.least + 2))
+            yield from located.rows()
 
 
 def _encoded_under_rows(
@@ -216,7 +218,7 @@ def _under_located(state: Any, located: Located, decode: Call, kind: Any) -> tup
         count = part.stop - part.start
         return decode(located.form, state, count, (*located.lent(part), lent(symbols, part.start), count))
 
-    return _in_parts(state, symbols, 0, some)
+    return _in_parts(state, symbols, located.costs, some)
 
 
 def _under_parameters(
@@ -286,7 +288,8 @@ def decoded(
             symbols = room(wanted.code(model), count, ANSWER if shape else Numbers)
             state, places = _under_table(state, model, symbols, decode)
         else:
-            given, shape = aligned(model.core, [it if is_one(it) else sequence_of(it) for it in rest])
+            lists = [it if is_one(it) else sequence_of(it) for it in rest]
+            given, shape = aligned(model.core, lists, wholes=model.has_wholes)
             wanted.check(shape)
             if not shape and model.has_rows:
                 given = tuple([it] for it in given)

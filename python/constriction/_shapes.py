@@ -6,8 +6,8 @@ from collections.abc import Sequence
 from math import prod
 from typing import Any
 
-from ._buffers import NUMBER, numpy_module, room
-from ._numbers import as_numpy, is_one, is_row, real
+from ._buffers import NUMBER, SYMBOL, numpy_module, room
+from ._numbers import as_numpy, is_one, is_row, real, whole
 from .errors import WrongLengthError
 
 __all__ = ["Shape", "aligned", "flat", "shape_of"]
@@ -47,7 +47,7 @@ def flat(numbers: Any) -> Any:
     return memoryview(view.tobytes()).cast("B").cast(view.format)
 
 
-def _stretched(numbers: Any, shape: Shape, row: bool = False) -> Any:
+def _stretched(numbers: Any, shape: Shape, row: bool = False, wholes: bool = False) -> Any:
     """Returns numbers that broadcast to ``shape`` as a list in C order, or as a list of rows."""
     if shape_of(numbers) == shape and len(shape) == 1 + row:
         return numbers
@@ -57,17 +57,22 @@ def _stretched(numbers: Any, shape: Shape, row: bool = False) -> Any:
     if table is not None:
         table = numpy.broadcast_to(table, shape)
         return table.reshape(-1, shape[-1]) if row else table.ravel()
-    single = real(numbers if is_one(numbers) else next(iter(numbers)))
-    stretched = room(NUMBER, prod(shape))
-    stretched[:] = type(stretched)(NUMBER, (single,)) * len(stretched)
+    single, code = numbers if is_one(numbers) else next(iter(numbers)), SYMBOL if wholes else NUMBER
+    stretched = room(code, prod(shape))
+    try:
+        stretched[:] = type(stretched)(code, (whole(single) if wholes else real(single),)) * len(stretched)
+    except OverflowError:
+        return [single] * len(stretched)
     return stretched
 
 
-def aligned(core: int, given: Sequence[Any], symbols: Shape | None = None) -> tuple[tuple[Any, ...], Shape]:
+def aligned(
+    core: int, given: Sequence[Any], symbols: Shape | None = None, wholes: bool = False
+) -> tuple[tuple[Any, ...], Shape]:
     """Returns parameters as lists of one length, and the shape that they have in common.
 
     ``core`` is the number of dimensions of one symbol's parameter: 1 for rows. ``symbols`` is the shape of symbols that
-    the parameters are for. Lists that don't fit are returned as they are. The functions that take them say why.
+    the parameters are for. With ``wholes`` the parameters are whole numbers. Lists that don't fit are returned as they are. The functions that take them say why.
     """
     if core:
         return _aligned_rows(given, symbols)
@@ -86,7 +91,7 @@ def aligned(core: int, given: Sequence[Any], symbols: Shape | None = None) -> tu
         if len(common) > 1:
             raise WrongLengthError(f"expected symbols of shape {common}, got {symbols}")
         return tuple(given), symbols
-    return tuple(_stretched(it, common) for it in given), common
+    return tuple(_stretched(it, common, wholes=wholes) for it in given), common
 
 
 def _aligned_rows(given: Sequence[Any], symbols: Shape | None) -> tuple[tuple[Any, ...], Shape]:

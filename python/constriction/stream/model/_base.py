@@ -6,7 +6,7 @@ import math
 from array import array
 from collections.abc import Callable, Iterator, Sequence
 from copy import copy
-from itertools import accumulate
+from itertools import accumulate, repeat
 from typing import Any, NamedTuple
 
 from ..._buffers import lent, listed
@@ -68,6 +68,15 @@ class Located(NamedTuple):
         """The number of symbols that have parameters."""
         return len(self.scales)
 
+    @property
+    def costs(self) -> int:
+        """The number of weights that decides how many symbols a part of a list has."""
+        return 0
+
+    def rows(self) -> Iterator[Sequence[int]]:
+        """Yields a row for each symbol, whose items are above 0 for the symbols of the range."""
+        return repeat(range(1, self.greatest - self.least + 2))
+
     def lent(self, part: slice) -> tuple[Any, ...]:
         """Returns the arguments for C functions, with the parameters of a part of the symbols."""
         start, count = part.start, part.stop - part.start
@@ -96,6 +105,8 @@ class Model:
     missing: tuple[str, ...] = ()
     #: The number of dimensions of a symbol's parameter: 1 if it is a row.
     core = 0
+    #: Whether the parameters are whole numbers, and not floats.
+    has_wholes = False
     #: Whether the parameters are rows of weights or counts for the C functions.
     has_rows = False
     #: The part of the names of a coder's C functions that says what the rows have.

@@ -3,7 +3,8 @@
 from __future__ import annotations
 
 from array import array
-from collections.abc import Sequence
+from collections.abc import Iterator, Sequence
+from itertools import repeat
 from typing import Any, NamedTuple
 
 from ..._buffers import lent
@@ -39,6 +40,15 @@ class Mixed(NamedTuple):
     def symbols(self) -> int:
         """The number of symbols that have parameters."""
         return len(self.scales) // self.width
+
+    @property
+    def costs(self) -> int:
+        """The number of weights that decides how many symbols a part of a list has."""
+        return 0
+
+    def rows(self) -> Iterator[Sequence[int]]:
+        """Yields a row for each symbol, whose items are above 0 for the symbols of the range."""
+        return repeat(range(1, self.greatest - self.least + 2))
 
     def lent(self, part: slice) -> tuple[Any, ...]:
         """Returns the arguments for C functions, with the parameters of a part of the symbols."""

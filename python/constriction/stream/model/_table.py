@@ -1,9 +1,9 @@
-"""Models with a row of weights: ``WeightTable`` takes the weights, and ``Categorical`` takes probabilities."""
+"""Models with rows of weights: ``WeightTable`` takes the weights, and ``Categorical`` takes probabilities."""
 
 from __future__ import annotations
 
 from array import array
-from collections.abc import Iterator, Sequence
+from collections.abc import Callable, Iterable, Iterator, Sequence
 from operator import index
 from typing import Any
 
@@ -28,8 +28,9 @@ from ..._quick import (
 from ..._row import MOST_FLOATS, MOST_QUICK_FLOATS
 from ..._units import counts_of, counts_of_row, counts_of_rows, counts_of_wholes
 from ..._sizes import LARGE, SMALL, Size
-from ...errors import WrongWeightsError, wrong_weights
-from ._base import COUNTS, FLOATS, QUICK, ROW, SHARED, Model, sized
+from ...errors import Refusal, WrongWeightsError, wrong_weights
+from ._base import COUNTS, FLOATS, QUICK, ROW, SHARED, Model, lists_named, sized
+from ._indexed import Indexed, explained, indexes_of, is_matrix, joined, table_alone
 
 __all__ = ["ROWS_AT_A_TIME", "Categorical", "Rows", "WeightTable"]
 
@@ -41,9 +42,14 @@ ROWS_AT_A_TIME = 1 << 16
 
 
 class Rows(Model):
-    """Symbols 0, 1, .. with a row of weights. The row belongs to the model, or comes with each symbol."""
+    """Symbols 0, 1, .. with a row of weights. The row belongs to the model, or comes with each symbol.
+
+    Or the model has several rows, and the index of its row comes with each symbol.
+    """
 
     has_rows, core = True, 1
+    #: The width of the model's rows if it has several, one after another in ``_fixed``. Otherwise None.
+    _width: int | None = None
     #: The form of the model of a single symbol with a row of its own.
     _form = ROW
 
@@ -52,6 +58,8 @@ class Rows(Model):
 
     def _said(self) -> str:
         """Returns the weights of the symbols as text."""
+        if self._width is not None:
+            return f"<{len(self._every()) // self._width} rows of {self._width} weights>"
         if self.missing:
             return ""
         table = self.table()
@@ -61,7 +69,52 @@ class Rows(Model):
         """Returns the weights that a list of parameters stands for."""
         raise NotImplementedError
 
+    def _hold(self, rows: list[array[int]]) -> array[int]:
+        """Makes this a model of several rows, and returns the rows one after another."""
+        every, self._width = joined(rows)
+        self._count, self.missing = self._width, ("indexes",)
+        self.has_rows, self.core, self.has_wholes = False, 0, True
+        return every
+
+    def _every(self) -> array[int]:
+        """Returns the weights of all rows of the model, one row after another."""
+        if self._fixed is None:
+            self._fixed = self._weights(())
+        return self._fixed
+
+    def table(self) -> array[int]:
+        """Returns the weights of a model that has one row. No caller writes to them."""
+        if self._width is not None:
+            raise TypeError(f"expected {lists_named(self.missing)}, got none")
+        return super().table()
+
+    def located(self, given: Sequence[Any]) -> Any:
+        """Returns the model's rows and the indexes as arguments for C functions. Returns None for other models."""
+        if self._width is None:
+            return None
+        self._known(given)
+        return Indexed(self._every(), self._width, indexes_of(given[0]))
+
+    def explained(self, refused: Refusal, given: Sequence[Any]) -> Refusal:
+        """Returns the exception with a text that names the row with a wrong sum, or the index past all rows."""
+        if self._width is None or not given:
+            return refused
+        return explained(refused, self._every(), self._width, self.words.total, given[0])
+
+    def _alone_at(self, given: tuple[Any, ...], width: int) -> tuple[int, Any, Any] | None:
+        """Does the same as ``alone_by`` for a model of several rows, which all have to have the right sum."""
+        every = self._every()
+        if not self._uses:
+            total = self.words.total
+            if any(sum(every[start : start + width]) != total for start in range(0, len(every), width)):
+                return None
+            self._uses = 1
+        row = table_alone(every, width, given[0]) if len(given) == 1 else None
+        return None if row is None else (ROW, row, None)
+
     def alone_by(self, given: tuple[Any, ...]) -> tuple[int, Any, Any] | None:
+        if self._width is not None:
+            return self._alone_at(given, self._width)
         if len(given) != 1 or not self.missing or not is_row(given[0]):
             return None
         row = self._row(given[0])
@@ -91,14 +144,16 @@ class Rows(Model):
         if packed:
             yield packed, width, len(packed) // width
 
-    def _listed(self, rows: Any, start: int) -> list[array[int]]:
+    def _listed(
+        self, rows: Any, start: int = 0, convert: Callable[[Any], array[int]] | None = None
+    ) -> list[array[int]]:
         """Returns the weights of each row. An exception names the row, of which the first is number ``start``."""
-        place = start - 1
+        place, converted = start - 1, convert or self._row
 
         def row(numbers: Any) -> array[int]:
             nonlocal place
             place += 1
-            return self._row(numbers)
+            return converted(numbers)
 
         try:
             return rows_of(rows, row)
@@ -117,15 +172,28 @@ class WeightTable(Rows):
     >>> coder.encode_reverse([1, 1], model)
     >>> coder.get_compressed().tolist()
     [16777220]
+
+    The weights of several tables are a list of rows of one width, or an array of two dimensions. Then pass the index of
+    its table for each symbol to the coder's calls, as whole numbers, or one index for all.
+
+    >>> coder, model = AnsCoder(), WeightTable([[3, 2, 16777211], [8388608, 0, 8388608]])
+    >>> coder.encode_reverse([1, 2, 0], model, [0, 1, 1])
+    >>> coder.decode(model, 0)
+    1
+    >>> coder.decode(model, [1, 1]).tolist()
+    [2, 0]
     """
 
-    def __init__(self, weights: List | None = None) -> None:
+    def __init__(self, weights: List | Iterable[List] | None = None) -> None:
         """Creates a model with these weights: whole numbers that add up to 2^24, or to 2^12 for words of 16 bits.
 
-        If you leave them out, pass a row of weights for each symbol to the coder's calls.
+        If you leave them out, pass a row of weights for each symbol to the coder's calls. With several rows, pass the
+        index of a row for each symbol.
         """
         if weights is None:
             self.missing = ("weights",)
+        elif is_matrix(weights):
+            self._fixed = self._hold(self._listed(weights))
         else:
             self._fixed = self._row(weights)
 
@@ -140,9 +208,11 @@ class WeightTable(Rows):
     def _refixed(self, words: Size) -> array[int] | None:
         if self._fixed is None:
             return None
-        total = sum(self._fixed)
-        if total != words.total:
-            raise WrongWeightsError(f"{wrong_weights(words.total)}, got a sum of {total}")
+        width = len(self._fixed) if self._width is None else self._width
+        for start in range(0, max(len(self._fixed), 1), max(width, 1)):
+            total, where = sum(self._fixed[start : start + width]), "" if self._width is None else f" in row {start // width}"
+            if total != words.total:
+                raise WrongWeightsError(f"{wrong_weights(words.total)}, got a sum of {total}{where}")
         return array(words.code, self._fixed)
 
     def rows(self, given: Sequence[Any]) -> Iterator[tuple[array[int], int, int]]:
@@ -186,6 +256,14 @@ class Categorical(Rows):
     If the probabilities are missing, pass a row for each symbol to the coder's calls. ``lazy`` is ignored. In the Rust
     crate's package it chooses when to round.
 
+    The probabilities of several tables are a list of rows of one width, or an array of two dimensions. Each row is
+    rounded once, here. Then pass the index of its table for each symbol to the coder's calls, or one index for all.
+
+    >>> from constriction.stream.queue import RangeEncoder
+    >>> encoder, model = RangeEncoder(), Categorical([[0.5, 0.25, 0.25], [0.125, 0.125, 0.75]])
+    >>> encoder.encode([1, 2, 2], model, [0, 1, 1])
+    >>> encoder.get_decoder().decode(model, [0, 1, 1]).tolist()
+    [1, 2, 2]
     >>> Categorical([1, 2, 1]).table().tolist() == [2**22, 2**23, 2**22]
     True
     >>> Categorical([0.25, 0.5, 0.25]) == Categorical([1, 2, 1])
@@ -195,26 +273,34 @@ class Categorical(Rows):
     """
 
     def __init__(
-        self, probabilities: Reals | None = None, *, perfect: bool | None = None, lazy: bool | None = None
+        self,
+        probabilities: Reals | Iterable[Reals] | None = None,
+        *,
+        perfect: bool | None = None,
+        lazy: bool | None = None,
     ) -> None:
         """Creates a model with probabilities or counts. Only their proportions matter.
 
-        If you leave them out, pass a row for each symbol to the coder's calls. ``perfect=False`` rounds in less time.
-        ``lazy`` is ignored.
+        If you leave them out, pass a row for each symbol to the coder's calls. With several rows, pass the index of a
+        row for each symbol. ``perfect=False`` rounds in less time. ``lazy`` is ignored.
         """
         if perfect is not None and not perfect:
             self.rows_form, self._form = "_counts", COUNTS
         self._counts: array[int] | None = None
         if probabilities is None:
             self.missing = ("probabilities",)
+        elif is_matrix(probabilities):
+            self._counts = self._hold(self._listed(probabilities, convert=self._counted))
+            self._fixed = self._weights(())
         else:
             self._counts = self._counted(probabilities)
             self._fixed = self._weights(())
 
     def _compared(self) -> dict[str, Any]:
         """Returns the weights for words of both sizes."""
-        tables = () if self._counts is None else tuple(self.at(it).table() for it in self._sizes())
-        return {"missing": self.missing, "form": self._form if self.missing else ROW, "tables": tables}
+        tables = () if self._counts is None else tuple(self._at(it)._every() for it in self._sizes())
+        form = self._form if self._counts is None else ROW
+        return {"missing": self.missing, "form": form, "tables": tables, "width": self._width}
 
     def _said(self) -> str:
         """Returns the weights of the symbols as text, and how they are rounded."""
@@ -224,13 +310,25 @@ class Categorical(Rows):
     def _sizes(self) -> tuple[Size, ...]:
         """Returns the sizes of words for which there are weights."""
         most = SMALL.total - (self._form == COUNTS)
-        return (LARGE, SMALL) if self._counts is not None and len(self._counts) <= most else (LARGE,)
+        if self._counts is None:
+            return (LARGE,)
+        return (LARGE, SMALL) if (self._width or len(self._counts)) <= most else (LARGE,)
+
+    def _at(self, words: Size) -> Categorical:
+        """Does the same as ``at``."""
+        return self.at(words)  # type: ignore[return-value]
 
     def __getstate__(self) -> dict[str, Any]:
         return {name: it for name, it in super().__getstate__().items() if name != "_fixed"}
 
     def _weights(self, parameters: tuple[Any, ...]) -> array[int]:
-        return self._shared(self._counts)  # type: ignore[arg-type]
+        counts: array[int] = self._counts  # type: ignore[assignment]
+        if self._width is None:
+            return self._shared(counts)
+        weights = array(self.words.code)
+        for start in range(0, len(counts), self._width):
+            weights += self._shared(counts[start : start + self._width])
+        return weights
 
     def _shared(self, counts: array[int]) -> array[int]:
         """Returns weights in proportion to the counts."""
@@ -249,6 +347,8 @@ class Categorical(Rows):
         return array("I") if self._form == COUNTS else super()._nothing()
 
     def alone_by(self, given: tuple[Any, ...]) -> tuple[int, Any, Any] | None:
+        if self._width is not None:
+            return self._alone_at(given, self._width)
         if len(given) != 1 or not self.missing:
             return None
         row = given[0]
