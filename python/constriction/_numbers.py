@@ -17,7 +17,7 @@ from .errors import InvalidDataError, Refusal, WrongLengthError, shown
 
 __all__ = [
     "as_numpy", "count_of", "doubles", "floats_of", "grid_of", "is_one", "is_row", "items_of", "listed_of", "own_of", "past", "plain_of", "real",
-    "reals_of", "rows_of", "sequence_of", "table_of", "unmasked", "whole", "wholes_of", "wholes_wanted", "words_of",
+    "rows_of", "sequence_of", "table_of", "unmasked", "whole", "wholes_of", "wholes_wanted", "words_of",
 ]  # fmt: skip
 
 #: The least and the greatest number that a word and a symbol can be.
@@ -258,15 +258,6 @@ def floats_of(numbers: Any) -> array[float]:
         return array(NUMBER, numbers)
     memory = own_of(NUMBER, numbers)
     return array(NUMBER, map(real, items_of(numbers))) if memory is None else memory
-
-
-def reals_of(numbers: Any) -> Any:
-    """Does the same as ``floats_of``, for a list.
-
-    A numpy array becomes an array of 64-bit floats. If it is one already, it is returned without a copy.
-    """
-    table = _real_table(numbers)
-    return floats_of(numbers) if table is None else doubles(table)
 
 
 def table_of(numbers: Any) -> Any:

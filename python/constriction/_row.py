@@ -1,23 +1,19 @@
-"""Memory for the parameters of a call with one symbol: counts with their weights, or the components of a mixture."""
+"""Memory for the parameters of a call with one symbol: floats with their weights, or the components of a mixture."""
 
 from __future__ import annotations
 
 from array import array
 from ctypes import c_size_t, c_void_p
 from functools import partial
-from math import frexp, inf, ldexp
 from struct import Struct
 from struct import error as OutOfRange
 from typing import Any
 
-from ._buffers import room, seen_numpy
+from ._buffers import NUMBER, room, seen_numpy
 from ._sizes import Size
-from ._quick import QUICK_BITS, SHORT
-from ._units import COUNT_BITS, GREATEST_SHIFT, WHOLE
 
 __all__ = [
     "MOST_FLOATS",
-    "MOST_QUICK_FLOATS",
     "Components",
     "QuickRow",
     "Row",
@@ -30,14 +26,8 @@ __all__ = [
 #: Arguments of C functions with such numbers. A call doesn't convert them.
 count_as_argument: Any = c_size_t.from_param
 pointer_as_argument: Any = c_void_p.from_param
-#: Rows of at most so many floats are converted in this memory, by each of the two rules. Longer rows get memory of their
-#: own.
-MOST_FLOATS, MOST_QUICK_FLOATS = 1 << 12, SHORT - 1
-#: The memory keeps at most so many scales.
-_MOST_SCALES = 32
-#: The least greatest float of a row and the limit of the greatest floats, an array of a power of two, and the least float
-#: whose product with this power is known to be whole. A product with an array takes less time than with a float.
-_Scale = tuple[float, float, Any, float]
+#: Rows of at most so many floats are copied to this memory. Longer rows get memory of their own.
+MOST_FLOATS = 1 << 12
 
 
 def memory_of(numbers: array[Any]) -> Any:
@@ -54,102 +44,83 @@ def lent_for_good(memory: Any) -> tuple[Any, Any]:
     return pointer_as_argument(place), count_as_argument(len(memory))
 
 
-class _Counts:
-    """Memory for a row of counts, which numpy makes of floats. ``width`` is the number of counts."""
+class _Floats:
+    """Memory for a row of floats. ``width`` is the number of floats."""
 
-    #: The number of bits of a count's limit, and numpy's type of counts.
-    _bits: int
-    _kind: str
-    #: Whether each count is at least 1.
-    _raises: bool
-    _table: Any = None
+    _seen: Any = None
 
-    def __init__(self, counts: array[int]) -> None:
-        self._counts, self.width = counts, len(counts)
-        self._scales: dict[int, _Scale] = {}
-        self._scale: _Scale = inf, inf, None, inf
+    def __init__(self, width: int) -> None:
+        self.width, self._floats = width, room(NUMBER, width, array)
 
-    def _counted(self, row: Any) -> bool:
-        """Makes counts of a numpy array of floats. Returns whether this succeeded.
-
-        It fails if no float is above 0, or if one is negative or not finite, and for some rows of tiny floats.
-        """
-        least, greatest = row.item(row.argmin()), row.item(row.argmax())
-        low, high, units, limit = self._scale
-        if not low <= greatest < high:  # NaN is in no range.
-            exponent = frexp(greatest)[1]
-            if not (0 < greatest < inf and self._bits - exponent <= GREATEST_SHIFT):
-                return False
-            _, _, units, limit = self._scale = self._scales.get(exponent) or self._made_scale(exponent)
-        table = self._table
-        self._multiply(row, units, table)
-        if least < limit:
-            if least < 0:
-                return False
-            if self._raises:
-                self._maximum(table, self._ones, table)
-            self._rint(table, table)
-        self._seen[...] = table
-        return True
-
-    def _made_scale(self, exponent: int) -> _Scale:
-        """Returns the scale for rows whose greatest float has this exponent. Makes the memory for floats first."""
-        numpy, width = seen_numpy(), self.width
-        if self._table is None:
-            self._multiply, self._maximum, self._rint = numpy.multiply, numpy.maximum, numpy.rint
-            self._ones, self._seen = numpy.ones(width), numpy.frombuffer(self._counts, dtype=self._kind)
-            self._table = numpy.empty(width)
-        if len(self._scales) >= _MOST_SCALES:
-            self._scales.clear()
-        shift, low = self._bits - exponent, ldexp(0.5, exponent)
-        limit = ldexp(WHOLE, -shift) if self._bits == COUNT_BITS else inf
-        scale = self._scales[exponent] = low, 2 * low, numpy.full(width, 2.0**shift), limit
-        return scale
+    def _put(self, row: Any) -> None:
+        """Copies a row of floats to this memory: an array of floats, or a numpy array."""
+        if type(row) is array:
+            self._floats[:] = row
+            return
+        if self._seen is None:
+            self._seen = seen_numpy().frombuffer(self._floats, dtype="float64")
+        self._seen[...] = row
 
 
-class Row(_Counts):
-    """Memory for a row of counts, and for weights in proportion to them. ``place`` is the address of the weights."""
+class Row(_Floats):
+    """Memory for a row of floats or counts, and for weights in proportion to them.
 
-    is_quick, _bits, _kind, _raises = False, COUNT_BITS, "int64", True
+    ``place`` is the address of the weights.
+    """
+
+    is_quick = False
+    _counts: array[int] | None = None
 
     def __init__(self, size: Size, width: int) -> None:
         """Creates the memory for rows of a width."""
-        super().__init__(room("Q", width, array))
-        self._weights = room(size.code, width, array)
-        self.place, count = self._weights.buffer_info()[0], count_as_argument(width)
-        lists = memory_of(self._counts), count, memory_of(self._weights), count
-        self._share = partial(size.short_function("weights_of_counts"), *lists)
+        super().__init__(width)
+        self._size, self._weights = size, room(size.code, width, array)
+        self.place = self._weights.buffer_info()[0]
+        self._share_floats = self._sharing("weights_of_floats", self._floats)
+
+    def _sharing(self, name: str, numbers: array[Any]) -> Any:
+        """Returns a C function that computes the weights of numbers, with its arguments."""
+        count = count_as_argument(self.width)
+        return partial(self._size.short_function(name), memory_of(numbers), count, memory_of(self._weights), count)
 
     def take_counts(self, counts: array[int]) -> int:
         """Computes the weights of these counts. Returns the result of the C function."""
+        if self._counts is None:
+            memory = room("Q", self.width, array)
+            self._share_counts = self._sharing("weights_of_counts", memory)
+            self._counts = memory
         self._counts[:] = counts
-        refused: int = self._share()
+        refused: int = self._share_counts()
         return refused
 
     def take_floats(self, row: Any) -> int:
-        """Computes the weights of a numpy array of floats, with the counts of ``counts_of``.
-
-        Returns the result of the C function, or 1 if there are no such counts.
-        """
-        if not self._counted(row):
-            return 1
-        refused: int = self._share()
+        """Computes the weights of a row of floats. Returns the result of the C function."""
+        self._put(row)
+        refused: int = self._share_floats()
         return refused
 
 
-class QuickRow(_Counts):
-    """Memory for a row of counts, from which a coder's C function computes an interval. ``place`` is its address."""
+class QuickRow(_Floats):
+    """Memory for a row of floats and their counts, from which a coder's C function computes an interval.
 
-    is_quick, _bits, _kind, _raises = True, QUICK_BITS, "uint32", False
+    ``place`` is the address of the counts.
+    """
+
+    is_quick = True
 
     def __init__(self, size: Size, width: int) -> None:
         """Creates the memory for rows of a width."""
-        super().__init__(room("I", width, array))
+        super().__init__(width)
+        self._counts, count = room("I", width, array), count_as_argument(width)
         self.place = self._counts.buffer_info()[0]
+        lists = memory_of(self._floats), count, count, memory_of(self._counts), count
+        self._count = partial(size.short_function("counts_of_floats"), *lists)
 
     def take_floats(self, row: Any) -> int:
-        """Takes a numpy array of floats, with the counts of ``quick_counts_of``. Returns 1 if there are none, else 0."""
-        return 0 if self._counted(row) else 1
+        """Computes the counts of a row of floats. Returns the result of the C function."""
+        self._put(row)
+        refused: int = self._count()
+        return refused
 
 
 class Components:

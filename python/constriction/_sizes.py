@@ -26,8 +26,11 @@ class Size:
         #: The types of the numbers of coders in C.
         self.head, self.encoder, self.decoder, self.heads = head, encoder, decoder, heads
         self.end = f"_u{bits}"
-        #: The C function that computes weights from counts. It gets two addresses, each with a number of items.
-        self.share_out = bound(f"weights_of_counts_u{bits}")
+        #: The C functions that compute weights from counts and from floats. They get two addresses, each with a number of
+        #: items.
+        self.share_counts, self.share_floats = bound(f"weights_of_counts_u{bits}"), bound(f"weights_of_floats_u{bits}")
+        #: The C function that computes counts from rows of floats. It also gets the width of a row after the floats.
+        self.count_floats = bound(f"counts_of_floats_u{bits}")
 
     def __reduce__(self) -> str:
         return "SMALL" if self.bits == 16 else "LARGE"

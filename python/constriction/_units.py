@@ -4,18 +4,18 @@ from __future__ import annotations
 
 from array import array
 from collections.abc import Callable, Iterable
-from math import frexp, inf, isfinite, isnan, ldexp, nan
+from math import inf, isfinite, isnan, nan
 from typing import Any
 
 from . import _buffers
 from ._buffers import NUMBER, SYMBOL, WORD, numpy_module, room
-from ._numbers import doubles, real
+from ._numbers import real
 from ._sizes import Size
 from .errors import WrongWeightsError, shown
 
 __all__ = [
-    "COUNT_BITS", "FARTHEST", "GREATEST_SHIFT", "MOST_WEIGHT", "NARROWEST", "SHARES", "UNITS_OF_ONE", "WHOLE", "WIDEST", "component_weights_of", "counts_of", "counts_of_row",
-    "counts_of_rows", "counts_of_wholes", "fault_of", "halved", "locations_of", "moved", "parts_of", "scales_of", "unit_of", "units_of", "wrong_row",
+    "FARTHEST", "MOST_WEIGHT", "NARROWEST", "SHARES", "UNITS_OF_ONE", "WIDEST", "component_weights_of", "counts_of_wholes", "halved", "locations_of",
+    "moved", "parts_of", "scales_of", "unit_of", "units_of", "wrong_probabilities", "wrong_row",
 ]  # fmt: skip
 
 #: The number of units in a location or a scale of 1.
@@ -27,17 +27,13 @@ NARROWEST, WIDEST, TOO_WIDE = 1 / UNITS_OF_ONE, 65536.0 - 1 / UNITS_OF_ONE, 6553
 #: The number of units in a component's weight of 1, the greatest sum of a row's weights, and the greatest weight.
 SHARES, _MOST_SHARES = 2.0**31, 2.0
 MOST_WEIGHT = _MOST_SHARES - 1 / SHARES
-#: The number of bits in the count of the greatest probability of a list.
-COUNT_BITS = 62
+#: The number of bits of the greatest count, if whole numbers become counts.
+_COUNT_BITS = 62
 
 
 #: For lists that aren't longer than this, Python's own functions are faster than those of numpy.
 _FEW = 32
 _FLOAT = frozenset((float,))
-#: Floats from this one upwards are whole.
-WHOLE = 2.0**52
-#: Shifts up to this one are exponents of a float.
-GREATEST_SHIFT = 999
 #: The least float of a list, and the greatest float.
 Ends = tuple[float, float]
 #: Rounds a float half to even, like ``round``, without a search for the method of a number's type.
@@ -72,7 +68,7 @@ def _ends(floats: Any) -> Ends:
     return (min(floats), max(floats)) if all(map(isfinite, floats)) else (nan, nan)
 
 
-def fault_of(
+def _fault_of(
     name: str, floats: array[float], good: Callable[[float], bool], wanted: str, width: int | None = None
 ) -> ValueError:
     """Returns the exception for the first float that isn't good.
@@ -166,7 +162,7 @@ def locations_of(name: str, floats: array[float], width: int | None = None) -> a
     """Returns locations in units of 2^-16. Raises ValueError if one isn't finite."""
     ends = _ends(floats)
     if isnan(ends[0]):
-        raise fault_of(name, floats, isfinite, "that is finite", width)
+        raise _fault_of(name, floats, isfinite, "that is finite", width)
     return _rounded(SYMBOL, floats, UNITS_OF_ONE, (-FARTHEST, FARTHEST), ends)
 
 
@@ -177,9 +173,9 @@ def scales_of(name: str, floats: array[float], width: int | None = None) -> arra
     """
     ends = _ends(floats)
     if not ends[0] > 0:
-        raise fault_of(name, floats, lambda it: 0 < it < inf, "that is positive and finite", width)
+        raise _fault_of(name, floats, lambda it: 0 < it < inf, "that is positive and finite", width)
     if ends[1] >= TOO_WIDE:
-        raise fault_of(name, floats, lambda it: it < TOO_WIDE, "below 65536", width)
+        raise _fault_of(name, floats, lambda it: it < TOO_WIDE, "below 65536", width)
     return _rounded(WORD, floats, UNITS_OF_ONE, (NARROWEST, WIDEST), ends)
 
 
@@ -191,7 +187,7 @@ def component_weights_of(floats: array[float], width: int) -> array[int]:
     """
     ends = _ends(floats)
     if not ends[0] >= 0:
-        raise fault_of("weight", floats, lambda it: 0 <= it < inf, "that is at least 0 and finite", width)
+        raise _fault_of("weight", floats, lambda it: 0 <= it < inf, "that is at least 0 and finite", width)
     if not width or ends[1] >= _MOST_SHARES:
         raise wrong_row(floats, width)
     return _rounded(WORD, floats, SHARES, (0.0, MOST_WEIGHT), ends)
@@ -210,6 +206,13 @@ def wrong_row(floats: Any, width: int) -> WrongWeightsError:
     return WrongWeightsError("expected weights with a sum above 0 and of at most 2")
 
 
+def wrong_probabilities(floats: Any) -> ValueError:
+    """Returns the exception for probabilities of which one is negative or not finite, or none is above 0."""
+    if all(0 <= it < inf for it in floats):
+        return ValueError("expected a probability above 0, got none")
+    return _fault_of("probability", floats, lambda it: 0 <= it < inf, "that is at least 0 and finite")
+
+
 def parts_of(probabilities: array[float], words: Size) -> array[int]:
     """Returns probabilities in units of 2^-24, from 1 to 2^24 - 1, or of 2^-12 for words of 16 bits.
 
@@ -217,75 +220,9 @@ def parts_of(probabilities: array[float], words: Size) -> array[int]:
     """
     ends = _ends(probabilities)
     if not (ends[0] >= 0 and ends[1] <= 1):
-        raise fault_of("probability", probabilities, lambda it: 0 <= it <= 1, "between 0 and 1")
+        raise _fault_of("probability", probabilities, lambda it: 0 <= it <= 1, "between 0 and 1")
     total = float(words.total)
     return _rounded(words.code, probabilities, total, (1 / total, 1 - 1 / total), ends)
-
-
-def counts_of_row(row: Any) -> array[int] | None:
-    """Does the same as ``counts_of`` in fewer steps, for a list of floats or a numpy array of these.
-
-    Returns None for other lists, and for those that ``counts_of`` refuses.
-    """
-    numpy = numpy_module()
-    if type(row) is list:
-        if len(row) > _FEW or not _FLOAT.issuperset(map(type, row)) or not row:
-            return None
-        least, greatest, total = min(row), max(row), sum(row)
-    elif numpy is not None and type(row) is numpy.ndarray and row.ndim == 1 and row.dtype.char == "d" and len(row):
-        least, greatest = row.item(row.argmin()), row.item(row.argmax())
-        total = greatest
-    else:
-        return None
-    shift = COUNT_BITS - frexp(greatest)[1]
-    if not (least >= 0 and 0 < greatest and total < inf and shift <= GREATEST_SHIFT):  # The comparisons fail for NaN.
-        return None
-    unit = 2.0**shift
-    if type(row) is list:
-        return array("Q", [_nearest(it * unit) or 1 for it in row])
-    table = numpy.multiply(row, unit)
-    if least * unit < WHOLE:
-        numpy.maximum(numpy.rint(table, table), 1.0, table)
-    return array("Q", table.astype(numpy.uint64).tobytes())
-
-
-def counts_of(probabilities: Any) -> array[int]:
-    """Returns counts in proportion to probabilities. Each count is at least 1.
-
-    The probabilities are an array of floats or a numpy array. Each is rounded to a multiple of 2^-62 times the power of
-    two above the greatest one. Raises ValueError if none is above 0, or if one is negative or not finite.
-    """
-    least, greatest = _ends(probabilities)
-    if not least >= 0:
-        raise fault_of("probability", probabilities, lambda it: 0 <= it < inf, "that is at least 0 and finite")
-    if not len(probabilities) or not greatest:
-        raise ValueError("expected a probability above 0, got none")
-    shift = COUNT_BITS - frexp(greatest)[1]
-    numpy = _numpy_for(probabilities)
-    if numpy is not None:
-        counts = room("Q", len(probabilities))
-        table = numpy.ldexp(_seen(numpy, probabilities), shift)
-        numpy.maximum(numpy.rint(table, out=table), 1.0, out=table)
-        numpy.frombuffer(counts, dtype="uint64")[...] = table
-        return counts
-    return array("Q", [round(ldexp(it, shift)) or 1 for it in probabilities])
-
-
-def counts_of_rows(table: Any) -> array[int] | None:
-    """Returns the counts of each row of a numpy array, one row after another.
-
-    Returns None if a row has no such counts.
-    """
-    numpy = numpy_module()
-    rows = doubles(table)
-    greatest = rows.max(axis=1)
-    if not (numpy.isfinite(rows).all() and rows.min() >= 0 and greatest.min() > 0):
-        return None
-    shifts = COUNT_BITS - numpy.frexp(greatest)[1]
-    rows = numpy.rint(numpy.ldexp(rows, shifts[:, None]))
-    counts = room("Q", rows.size)
-    numpy.copyto(numpy.frombuffer(counts, dtype="uint64"), numpy.maximum(rows, 1.0, out=rows).ravel(), casting="unsafe")
-    return counts
 
 
 def _counts_of_table(table: Any) -> array[int] | None:
@@ -299,7 +236,7 @@ def _counts_of_table(table: Any) -> array[int] | None:
     counts = room("Q", table.size)
     seen = numpy.frombuffer(counts, dtype="uint64")
     numpy.copyto(seen, table, casting="unsafe")
-    numpy.left_shift(seen, numpy.uint64(max(COUNT_BITS - bits, 0)), out=seen)
+    numpy.left_shift(seen, numpy.uint64(max(_COUNT_BITS - bits, 0)), out=seen)
     numpy.maximum(seen, numpy.uint64(1), out=seen)
     return counts
 
@@ -319,9 +256,9 @@ def counts_of_wholes(counts: Any) -> array[int]:
     if not bits:
         raise ValueError("expected a probability above 0, got none")
     if bits > 64:
-        down = bits - COUNT_BITS
+        down = bits - _COUNT_BITS
         return array("Q", [halved(count, down) or 1 for count in counts])
-    up = max(COUNT_BITS - bits, 0)
+    up = max(_COUNT_BITS - bits, 0)
     return array("Q", [count << up or 1 for count in counts])
 
 

@@ -8,13 +8,14 @@ from operator import index
 from typing import Any
 
 from ... import _buffers
-from ..._buffers import List, Reals, room
+from ..._buffers import NUMBER, List, Reals, room
 from ..._numbers import (
     as_numpy,
+    doubles,
+    floats_of,
     is_one,
     is_row,
     plain_of,
-    reals_of,
     rows_of,
     sequence_of,
     table_of,
@@ -22,11 +23,9 @@ from ..._numbers import (
     words_of,
 )
 
-from ..._quick import (
-    quick_counts_of, quick_counts_of_row, quick_counts_of_rows, quick_counts_of_wholes, quick_weights,
-)  # fmt: skip
-from ..._row import MOST_FLOATS, MOST_QUICK_FLOATS
-from ..._units import counts_of, counts_of_row, counts_of_rows, counts_of_wholes
+from ..._quick import quick_counts_of, quick_counts_of_rows, quick_counts_of_wholes, quick_weights
+from ..._row import MOST_FLOATS
+from ..._units import counts_of_wholes, wrong_probabilities
 from ..._sizes import LARGE, SMALL, Size
 from ...errors import Refusal, WrongWeightsError, wrong_weights
 from ._base import COUNTS, FLOATS, QUICK, ROW, SHARED, Model, lists_named, sized
@@ -34,7 +33,7 @@ from ._indexed import Indexed, explained, indexes_of, is_matrix, joined, table_a
 
 __all__ = ["ROWS_AT_A_TIME", "Categorical", "Rows", "WeightTable"]
 
-_INT = frozenset((int,))
+_INT, _FLOAT = frozenset((int,)), frozenset((float,))
 #: The formats of memory that holds whole numbers.
 _WHOLE_FORMATS = frozenset("bBhHiIlLqQ")
 #: The greatest number of weights in the rows that one call gets, if a row isn't longer.
@@ -286,20 +285,25 @@ class Categorical(Rows):
         """
         if perfect is not None and not perfect:
             self.rows_form, self._form = "_counts", COUNTS
-        self._counts: array[int] | None = None
+        self._given: list[array[Any]] = []
         if probabilities is None:
             self.missing = ("probabilities",)
         elif is_matrix(probabilities):
-            self._counts = self._hold(self._listed(probabilities, convert=self._counted))
-            self._fixed = self._weights(())
+            self._fixed = self._hold(self._listed(probabilities, convert=self._kept))
         else:
-            self._counts = self._counted(probabilities)
-            self._fixed = self._weights(())
+            self._fixed = self._kept(probabilities)
+
+    def _kept(self, probabilities: Any) -> array[int]:
+        """Keeps a row of probabilities or counts, and returns its weights."""
+        given = self._counted(probabilities)
+        weights = self._shared(given)
+        self._given.append(given)
+        return weights
 
     def _compared(self) -> dict[str, Any]:
         """Returns the weights for words of both sizes."""
-        tables = () if self._counts is None else tuple(self._at(it)._every() for it in self._sizes())
-        form = self._form if self._counts is None else ROW
+        tables = tuple(self._at(it)._every() for it in self._sizes()) if self._given else ()
+        form = ROW if self._given else self._form
         return {"missing": self.missing, "form": form, "tables": tables, "width": self._width}
 
     def _said(self) -> str:
@@ -310,9 +314,7 @@ class Categorical(Rows):
     def _sizes(self) -> tuple[Size, ...]:
         """Returns the sizes of words for which there are weights."""
         most = SMALL.total - (self._form == COUNTS)
-        if self._counts is None:
-            return (LARGE,)
-        return (LARGE, SMALL) if (self._width or len(self._counts)) <= most else (LARGE,)
+        return (LARGE, SMALL) if self._given and len(self._given[0]) <= most else (LARGE,)
 
     def _at(self, words: Size) -> Categorical:
         """Does the same as ``at``."""
@@ -322,21 +324,24 @@ class Categorical(Rows):
         return {name: it for name, it in super().__getstate__().items() if name != "_fixed"}
 
     def _weights(self, parameters: tuple[Any, ...]) -> array[int]:
-        counts: array[int] = self._counts  # type: ignore[assignment]
-        if self._width is None:
-            return self._shared(counts)
         weights = array(self.words.code)
-        for start in range(0, len(counts), self._width):
-            weights += self._shared(counts[start : start + self._width])
+        for row in self._given:
+            weights += self._shared(row)
         return weights
 
-    def _shared(self, counts: array[int]) -> array[int]:
-        """Returns weights in proportion to the counts."""
+    def _shared(self, given: array[Any]) -> array[int]:
+        """Returns weights in proportion to a row of floats or counts."""
         if self._form == COUNTS:
-            return quick_weights(counts, self.words)
-        sized(len(counts), self.words)
-        weights = room(self.words.code, len(counts), array)
-        self.words.share_out(*counts.buffer_info(), *weights.buffer_info())
+            return quick_weights(given, self.words)
+        sized(len(given), self.words)
+        weights = room(self.words.code, len(given), array)
+        if given.typecode != NUMBER:
+            self.words.share_counts(*given.buffer_info(), *weights.buffer_info())
+            return weights
+        try:
+            self.words.share_floats(*given.buffer_info(), *weights.buffer_info())
+        except WrongWeightsError:
+            raise wrong_probabilities(given) from None
         return weights
 
     def _row(self, numbers: Any) -> array[int]:
@@ -352,39 +357,40 @@ class Categorical(Rows):
         if len(given) != 1 or not self.missing:
             return None
         row = given[0]
-        if type(row) is _buffers.array_class and row.ndim == 1 and row.dtype.char in "df":
-            form, most = (QUICK, MOST_QUICK_FLOATS) if self._form == COUNTS else (FLOATS, MOST_FLOATS)
-            if 0 < len(row) <= most:
-                return form, row, None
+        if type(row) is _buffers.array_class and row.ndim == 1 and row.dtype.char in "df" and 0 < len(row) <= MOST_FLOATS:
+            return QUICK if self._form == COUNTS else FLOATS, row, None
         if not is_row(row):
             return None
-        return COUNTS if self._form == COUNTS else SHARED, self._counted(row), None
+        counts = self._counted(row)
+        if counts.typecode == NUMBER:
+            return FLOATS, counts, None
+        return COUNTS if self._form == COUNTS else SHARED, counts, None
 
-    def _counted(self, numbers: Any) -> array[int]:
-        """Returns the counts that probabilities or counts stand for."""
+    def _counted(self, numbers: Any) -> array[Any]:
+        """Returns the counts that probabilities or counts stand for, or floats whose counts a C function computes."""
+        given, wholes = numbers, None
+        if type(numbers) is not list or not _FLOAT.issuperset(map(type, numbers)):
+            if is_one(numbers):
+                raise TypeError(f"expected a list of probabilities, got {type(numbers).__name__}")
+            given = sequence_of(numbers)
+            wholes = _wholes(given)
         if self._form == COUNTS:
-            return self._quickly_counted(numbers)
-        counts = counts_of_row(numbers)
-        if counts is None:
-            if is_one(numbers):
-                raise TypeError(f"expected a list of probabilities, got {type(numbers).__name__}")
-            given = sequence_of(numbers)
-            sized(len(given))
-            wholes = _wholes(given)
-            counts = counts_of(reals_of(given)) if wholes is None else counts_of_wholes(wholes)
-        return counts
+            return self._quickly_counted(given, wholes)
+        sized(len(given))
+        if wholes is not None:
+            return counts_of_wholes(wholes)
+        return floats_of(given)
 
-    def _quickly_counted(self, numbers: Any) -> array[int]:
-        """Returns the counts that a row of probabilities or counts stands for with ``perfect=False``."""
-        counts = quick_counts_of_row(numbers)
-        if counts is None:
-            if is_one(numbers):
-                raise TypeError(f"expected a list of probabilities, got {type(numbers).__name__}")
-            given = sequence_of(numbers)
-            wholes = _wholes(given)
-            counts = quick_counts_of(reals_of(given)) if wholes is None else _quick_counts_of_wholes(wholes)
-        self._fewer(len(counts))
-        return counts
+    def _quickly_counted(self, given: Any, wholes: Any) -> array[int]:
+        """Returns the counts of a row with ``perfect=False``. ``wholes`` are its whole numbers, or None for floats."""
+        if wholes is not None:
+            counts = _quick_counts_of_wholes(wholes)
+            self._fewer(len(counts))
+            return counts
+        if not len(given):
+            raise wrong_probabilities(given)
+        self._fewer(len(given))
+        return quick_counts_of(floats_of(given))
 
     def _fewer(self, count: int) -> int:
         """Returns ``count``. Raises ValueError unless that number of symbols leaves quantiles for counts to share."""
@@ -422,15 +428,21 @@ class Categorical(Rows):
         size = max(ROWS_AT_A_TIME // width, 1)
         for start in range(0, len(table), size):
             some = table[start : start + size]
-            counts = counts_of_rows(some)
-            if counts is None:
+            try:
+                weights = self._shared_rows(some)
+            except WrongWeightsError:
                 yield from self._packed(some, start)  # This raises an exception that names the probability.
                 continue
-            weights = room(self.words.code, len(counts), array)
-            at, to = counts.buffer_info()[0], weights.buffer_info()[0]
-            for i in range(0, len(counts), width):
-                self.words.share_out(at + counts.itemsize * i, width, to + weights.itemsize * i, width)
             yield weights, width, len(some)
+
+    def _shared_rows(self, table: Any) -> array[int]:
+        """Returns the weights of each row of a numpy array of floats, one row after another."""
+        floats, width = doubles(table).ravel(), table.shape[1]
+        weights = room(self.words.code, len(floats), array)
+        at, to = floats.ctypes.data, weights.buffer_info()[0]
+        for start in range(0, len(floats), width):
+            self.words.share_floats(at + 8 * start, width, to + weights.itemsize * start, width)
+        return weights
 
 
 def _quick_counts_of_wholes(wholes: Any) -> array[int]:
