@@ -40,7 +40,8 @@
      location and a scale. See constriction_models.h.
    - .._counts: a row of `width` counts for each symbol. The weights are in proportion to the counts, and each is at
      least 1. See constriction_models.h.
-   constriction_weights_of_counts computes weights from counts.
+   constriction_weights_of_counts computes weights from counts. constriction_weights_of_floats and
+   constriction_counts_of_floats compute weights and counts from probabilities.
 
    SYMBOLS are numbers 0, 1, .. of type size_t. The functions .._bytes and .._shorts have symbols of type uint8_t and
    uint16_t, and the same weights for all symbols. The symbols of Exp-Golomb codewords have the type of the words. A
@@ -114,7 +115,8 @@ enum constriction_result {
     /* Weights don't add up to 2^24 (2^12). For a Huffman tree: there are no weights, or their sum doesn't fit their
        type. For a family: a scale is 0, or the family doesn't exist. For constriction_weights_of_counts: no
        count is above 0, or more than 2^24 (2^12) counts are above 0. For .._counts: a row has 2^24 (2^12) counts or
-       more, or its counts add up to 0 or to 2^40 or more. */
+       more, or its counts add up to 0 or to 2^40 or more. For .._of_floats: a float is negative, infinite or NaN, or
+       none is above 0, or there are too many. */
     CONSTRICTION_WRONG_WEIGHTS = 2,
     /* An interval is empty or ends past 2^24 (2^12). For a family: the range has fewer than 2 symbols, or more than
        2^24 (2^12) symbols. */

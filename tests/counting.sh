@@ -62,7 +62,7 @@ counts_python() {
 # them.
 tests_in_c() {
     local program size
-    for program in calls rows models mixtures counts indexed lanes refused_memory vectors; do
+    for program in calls rows models mixtures counts floats indexed lanes refused_memory vectors; do
         for size in 32 16; do
             wants "$program.c at $size bits$1: builds" \
                 "$2" -std=c11 -O1 $warnings $3 -DBITS=$size "$here/tests/c/$program.c" "${@:4}" $refusing -o "$room/$program"

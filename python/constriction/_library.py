@@ -200,6 +200,8 @@ _PARAMETERS: dict[str, list[Any]] = {
     "chain_into_remainders": [_heads, *_buffer, _needed],
     "quantized_intervals": [*_located, *_items, *_items, *_items],
     "weights_of_counts": [*_items, *_items],
+    "weights_of_floats": [*_items, *_items],
+    "counts_of_floats": [*_items, _size, *_items],
     "huffman_encode_queue": [*_table, *_items, *_buffer, _needed],
     "huffman_encode_stack": [*_table, *_items, *_buffer, _needed],
     "huffman_decode_queue": [*_table, *_items, *_items],

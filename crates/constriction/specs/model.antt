@@ -2,6 +2,7 @@ pub mod Bernoulli
 pub mod Categorical
 pub mod Counts
 pub mod Distributions
+pub mod Floats
 pub mod Lookup
 pub mod Mixtures
 pub mod Quantized

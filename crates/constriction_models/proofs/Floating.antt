@@ -12,15 +12,15 @@ use Rattle.constriction_models.proofs.Dividing.{quotient_of}
 use Rattle.constriction_models.specs.Floats.{float_bits, significand, exponent, units, float_units, greatest_bits, greatest_units, bit_length, row_length, nearest, float_count, weight_count, weight_counts, counts_at, quick_bits, quick_counts, is_probability, IsScale}
 
 -- ---- the nearest whole number
-nearest_down : (n d : ℕ) → 2 * (n % d) < d → nearest n d ≡ n / d
+pub nearest_down : (n d : ℕ) → 2 * (n % d) < d → nearest n d ≡ n / d
 unfolding nearest
 nearest_down n d h = grind (arith, nat_tests)
 
-nearest_up : (n d : ℕ) → d < 2 * (n % d) → nearest n d ≡ n / d + 1
+pub nearest_up : (n d : ℕ) → d < 2 * (n % d) → nearest n d ≡ n / d + 1
 unfolding nearest
 nearest_up n d h = grind (arith, nat_tests)
 
-nearest_even : (n d : ℕ) → 2 * (n % d) ≡ d → nearest n d ≡ n / d + n / d % 2
+pub nearest_even : (n d : ℕ) → 2 * (n % d) ≡ d → nearest n d ≡ n / d + n / d % 2
 unfolding nearest
 nearest_even n d h = grind (arith, nat_tests)
 
@@ -201,7 +201,7 @@ units_some c h =
 
 -- ---- lengths
 -- the exponent of a power between two others
-less_by_power : (i j : ℕ) → 2 ^ i < 2 ^ j → i < j
+pub less_by_power : (i j : ℕ) → 2 ^ i < 2 ^ j → i < j
 less_by_power i j h = elim (cases_lt i j) [ inl less ↦ less | inr from ↦ absurd (omega (arith, pow_le j i from)) ]
 
 -- the greatest float's length, from the space above its significand
@@ -212,6 +212,7 @@ pub record HasLength (g space len : ℕ) : Type 0 where
   pub below : significand g < 2 ^ (64 - space)
   pub from : 2 ^ (63 - space) ≤ significand g
   pub within : units g < 2 ^ len
+  pub least : 2 ^ (len - 1) ≤ units g
 
 pub has_length : (g space : ℕ) → 0 < g → g < 9218868437227405312 → space ≡ count_leading_zeros 64 (significand g) → HasLength g space (bit_length 2098 (units g))
 unfolding bit_length
@@ -245,6 +246,7 @@ has_length g space some finite is =
       below = rw bits top.3;
       from = rw less top.2;
       within = rw len_is below;
+      least = let place_is : 2098 - count_leading_zeros 2098 (units g) - 1 ≡ i + d = omega (arith, len_is) in rw place_is from;
     }
 
 -- no float of the row has a longer significand
@@ -314,7 +316,7 @@ probable_no : (b : ℕ) → 9218868437227405312 ≤ float_bits b → is_probabil
 unfolding is_probability
 probable_no b h = grind (arith, nat_tests)
 
-most_from : (a : ℕ) (xs : List ℕ) → a ≤ fold (λ (m b : ℕ). max m (float_bits b)) a xs
+pub most_from : (a : ℕ) (xs : List ℕ) → a ≤ fold (λ (m b : ℕ). max m (float_bits b)) a xs
 most_from a [] = omega arith
 most_from a (x ∷ xs) = omega (arith, most_from (max a (float_bits x)) xs, le-max_left a (float_bits x))
 

@@ -1,5 +1,6 @@
 // Written by tools/sizes from u32.rt.
-//! Symbols' intervals under a family of distributions, and weights from counts, at a precision of 12 bits.
+//! Symbols' intervals under a family of distributions, weights from counts or floats, and counts from floats, at a
+//! precision of 12 bits.
 //!
 //! The interval starts, the interval lengths and the weights are 16-bit words.
 
@@ -7,11 +8,13 @@ ghost use Rattle.std.specs.Prelude.{map};
 ghost use Rattle.constriction_c.specs.Codes.{answer_by_code};
 ghost use Rattle.constriction_c.specs.U16.{WritesIntervalsU16};
 ghost use Rattle.constriction_c.specs.Words.{lowest};
+ghost use Rattle.constriction_inputs.specs.Floats.{WritesCountsOfFloats, WritesWeightsOfFloats};
 ghost use Rattle.constriction_inputs.specs.QuantizedCalls.{WritesWeightsOfCounts};
 
 use crate::codes::code_without_space;
 use constriction_inputs::models::Families;
 use constriction_inputs::quantized::counts::put_weights_of_counts;
+use constriction_inputs::quantized::floats::{put_counts_of_floats, put_weights_of_floats};
 use constriction_inputs::quantized::intervals::intervals_of_quantized;
 use std::alloc::Global;
 
@@ -54,4 +57,39 @@ pub extern "C" fn constriction_weights_of_counts_u16(
         (answer_by_code result 0) }
 {
     code_without_space(put_weights_of_counts::<u16, 12>(alloc, counts, weights))
+}
+
+/// Writes a weight for each float into `weights`. The weights add up to `2^12`.
+///
+/// Each float is given by its bits (IEEE 754 binary64), so C passes its `double`s as they are. The weights are in
+/// proportion to the floats, apart from rounding, and each weight is at least 1.
+///
+/// Calls [`put_weights_of_floats`] and returns the code of its result ([`code_of`](crate::codes::code_of)).
+#[unsafe(no_mangle)]
+pub extern "C" fn constriction_weights_of_floats_u16(
+    alloc: Global,
+    floats: &[u64],
+    weights: &mut [u16],
+) -> u32
+    ensures { WritesWeightsOfFloats 12 floats.now (map (lowest 16) weights.old) (map (lowest 16) weights.new)
+        (answer_by_code result 0) }
+{
+    code_without_space(put_weights_of_floats::<u16, 12>(alloc, floats, weights))
+}
+
+/// Writes a count for each float into `counts`. `floats` has rows of `width` floats, one after another.
+///
+/// Each float is given by its bits (IEEE 754 binary64), so C passes its `double`s as they are. The counts of each row are
+/// in proportion to its floats, apart from rounding.
+///
+/// Calls [`put_counts_of_floats`] and returns the code of its result ([`code_of`](crate::codes::code_of)).
+#[unsafe(no_mangle)]
+pub extern "C" fn constriction_counts_of_floats_u16(
+    floats: &[u64],
+    width: usize,
+    counts: &mut [u32],
+) -> u32
+    ensures { WritesCountsOfFloats 12 width floats.now counts.old counts.new (answer_by_code result 0) }
+{
+    code_without_space(put_counts_of_floats::<12>(floats, width, counts))
 }
