@@ -113,6 +113,17 @@ def weights(counts: list[int], precision: int = 24) -> list[int]:
     return found
 
 
+def counts(numbers: Iterable[float]) -> list[int]:
+    """The counts that floats stand for, by exact fractions."""
+    exact, unit = [Fraction(it) for it in numbers], Fraction(1)
+    greatest = max(exact)
+    while greatest * unit >= 2**62:
+        unit /= 2
+    while greatest * unit < 2**61:
+        unit *= 2
+    return [max(round(it * unit), 1) for it in exact]
+
+
 def quick_counts(numbers: Iterable[float]) -> list[int]:
     """The counts that probabilities stand for with ``perfect=False``, by exact fractions."""
     given = list(numbers)

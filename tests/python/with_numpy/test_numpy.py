@@ -42,6 +42,7 @@ except ImportError:
 
 sys.path.insert(0, str(Path(__file__).resolve().parents[1]))
 
+import definitions_of_models as models  # noqa: E402
 from classes_of_families import KINDS  # noqa: E402
 
 TEN, WEIGHTS, WORDS = [0, 1, 2, 0, 1, 2, 0, 0, 0, 1], [1, 2, 16777213], [0, 16777218, 2307, 16777218, 0, 64]
@@ -341,9 +342,9 @@ print(calls > 0, found, type(coder.decode(family, [0.5] * 60, [2.0] * 60)).__nam
             chances = [
                 dice.choice((0.0, dice.random(), math.exp(-40 * dice.random()), 5e-324)) for _ in range(length)
             ] + [2.0 ** dice.randint(-1060, 1020)]
-            ours = _units.counts_of(array("d", chances))
-            with mock.patch.object(_units, "numpy_module", return_value=None):
-                self.assertEqual(ours, _units.counts_of(array("d", chances)))
+            expected = models.weights(models.counts(chances))
+            for given in (chances, array("d", chances), numpy.array(chances), numpy.array([chances, chances])[::-1][0]):
+                self.assertEqual(Categorical(given).table().tolist(), expected)
 
     def test_lists_of_whole_numbers(self) -> None:
         """Lists of numpy's whole numbers are counts, under both rules of promotion."""
