@@ -64,6 +64,19 @@ def pops(page, head, words, before):
         judge((head, words) == before.pop(), "a pop undoes a push")
 
 
+def selections(page, before):
+    """Finds the two pops of the page's coder between which the branch differs. ``before`` are the states of its pushes."""
+    (_, _), (_, _), (head, words), (first, rest) = before
+    judge(words == rest, "no word moves between the two pops")
+    symbol, quantile, low, back, _ = pop(WEIGHTS, first, rest)
+    left, length = entries(WEIGHTS)[symbol]
+    formula = f"{first // 16} * {length} + {quantile - left} = {low}"
+    judge(low == back == head, "the head that is selected without a word")
+    low, back = pop(WEIGHTS, head, words)[2:4]
+    moved = f"{low} * 256 + {words[-1]} = {back}"
+    page.has(f"after {first} the low head `{formula}`, and after {head} the head `{moved}`, because {low} is below 256")
+
+
 def rounds_within(head, length, precision, word, state, bits):
     """Returns whether pushes of a weight change the head by its exact factor, up to a relative error of 1 / 2^bits."""
     if head >> state - precision >= length:
@@ -121,6 +134,7 @@ def test():
     head, words, before = pushes(page, head, [])
     export = words + list(reversed(digits(head, 2)))
     page.has(f"`{listed(export)}`, since `{head} = {head // 256} * 256 + {head % 256}`")
+    selections(page, list(before))
     pops(page, head, words, before)
     page.has("`log2(16 / p)` bits")
     rounding(page)
