@@ -18,7 +18,7 @@ def popped(head, words):
     symbol = next(k for k in range(len(WEIGHTS)) if quantile < sum(WEIGHTS[: k + 1]))
     place = quantile - sum(WEIGHTS[:symbol])
     head = (head >> PRECISION) * WEIGHTS[symbol] + place
-    moves = head < 2 ** WORD_BITS and bool(words)
+    moves = bool(words) and head >> WORD_BITS == 0
     if moves:
         head, words = (head << WORD_BITS) + words[-1], words[:-1]
     return symbol, place, head, words, moves
