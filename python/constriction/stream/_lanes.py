@@ -54,6 +54,12 @@ def _is_nested(first: Any, core: int) -> bool:
     return not is_one(first) and (not core or not is_row(first))
 
 
+def _want_rows(model: Model) -> None:
+    """Raises TypeError if the model has several tables, because no C function for many coders takes indexes."""
+    if model.has_wholes:
+        raise TypeError("expected a model of one table, or a row for each symbol, got rows with indexes")
+
+
 def _rows(numbers: Any, count: int, core: int = 0) -> tuple[Any, Shape]:
     """Returns a list of numbers for each of ``count`` coders as a flat list or as an array, and its shape.
 
@@ -135,6 +141,7 @@ class AnsCoders(Coder):
         if not isinstance(model, Model):
             model_wanted(model, symbols)
         model, coders = model.at(self._size), len(state.heads)
+        _want_rows(model)
         symbols, shape = _rows(symbols, coders)
         if len(shape) not in (1, 2) or shape[0] != coders:
             raise WrongLengthError(f"expected symbols of shape ({coders},) or ({coders}, T), got {shape}")
@@ -238,6 +245,7 @@ class AnsCoders(Coder):
         if not isinstance(model, Model):
             model_wanted(model)
         model, coders = model.at(self._size), len(state.heads)
+        _want_rows(model)
         try:
             if not given:
                 shape = (coders,) if amt is None else (coders, count_of(amt))

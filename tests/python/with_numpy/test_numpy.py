@@ -259,12 +259,53 @@ print(calls > 0, found, type(coder.decode(family, [0.5] * 60, [2.0] * 60)).__nam
         coder.encode_reverse(TEN, Categorical(), chances)
         self.assertEqual(coder.decode(Categorical(), chances).tolist(), TEN)
 
+    def test_tables_by_index(self) -> None:
+        """Tables may be an array of two dimensions, and indexes and symbols arrays of any shape and type."""
+        shares = numpy.linspace(0.5, 3.0, 60).reshape(6, 10)
+        model = Categorical(shares)
+        self.assertEqual(model, Categorical(shares.tolist()))
+        weights = numpy.stack([Categorical(row).table() for row in shares])
+        symbols = numpy.arange(12).reshape(3, 4) % 10
+        for kind in WHOLE_KINDS:
+            indexes, other = (numpy.arange(12).reshape(3, 4) * 5 % 6).astype(kind), WeightTable(weights.astype(">u4"))
+            coder, listed = AnsCoder(), AnsCoder()
+            coder.encode_reverse(symbols, model, indexes)
+            listed.encode_reverse(symbols.ravel().tolist(), other, indexes.ravel().tolist())
+            self.assertEqual(coder, listed)
+            self.assertEqual(coder.decode(other, indexes[0]).tolist(), symbols[0].tolist())
+            self.assertEqual(coder.decode(other, indexes[1, 0]), symbols[1, 0])
+            into = numpy.empty(3, dtype=numpy.int64)
+            self.assertIs(coder.decode(other, indexes[1, 1:], out=into), into)
+            self.assertEqual(into.tolist(), symbols[1, 1:].tolist())
+            found = coder.decode(other, indexes[2:], dtype="uint8")
+            self.assertEqual((found.dtype, found.tolist()), (numpy.uint8, symbols[2:].tolist()))
+        coder.encode_reverse(symbols, model, numpy.array([[1], [2], [3]]))
+        self.assertEqual([coder.decode(model, at) for at in (1, 1, 1, 1, 2)], [0, 1, 2, 3, 4])
+        wrong = (
+            (TypeError, "^expected whole numbers, got float64", numpy.zeros(1)),
+            (TypeError, "masked array", numpy.ma.array([1])),
+            (errors.WrongLengthError, "^expected indexes from 0 to 5, got 6 at place 0$", numpy.array([6])),
+            (errors.WrongLengthError, f"got {2**64 - 1} at place 0$", numpy.array([2**64 - 1], dtype="uint64")),
+            (errors.WrongLengthError, r"shape \(1, 1\)", numpy.array([[1]])),
+        )
+        for error, text, given in wrong:
+            with self.assertRaisesRegex(error, text):
+                coder.encode_reverse([0], model, given)
+        for error, text, given in (
+            (errors.WrongWeightsError, "^expected at least one table, got none$", numpy.zeros((0, 3), dtype="uint8")),
+            (errors.WrongWeightsError, "^expected at least one weight, got none in row 0$", numpy.zeros((3, 0))),
+            (TypeError, "dimensions", numpy.zeros((1, 1, 1), dtype="uint8")),
+            (TypeError, "in row 0$", numpy.zeros((1, 1))),
+        ):  # fmt: skip
+            with self.assertRaisesRegex(error, text):
+                WeightTable(given)
+
     def test_shapes(self) -> None:
         """Arrays of other dimensions are refused, and an array without dimensions is a number."""
-        table = numpy.zeros((2, 3), dtype="int64")
+        table, block = numpy.zeros((2, 3), dtype="int64"), numpy.zeros((2, 3, 1), dtype="int64")
         for call in (
-            lambda: AnsCoder(table), lambda: ExpGolomb().symbols(table), lambda: WeightTable(table), lambda: EncoderHuffmanTree(table),
-            lambda: Categorical(table),
+            lambda: AnsCoder(table), lambda: ExpGolomb().symbols(table), lambda: WeightTable(block), lambda: EncoderHuffmanTree(table),
+            lambda: Categorical(block),
         ):  # fmt: skip
             self.assertRaisesRegex(TypeError, "dimensions", call)
         coder = AnsCoder()

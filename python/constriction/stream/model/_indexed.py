@@ -54,7 +54,9 @@ def is_matrix(numbers: Any) -> bool:
     dimensions = getattr(numbers, "ndim", None)
     if dimensions is not None:
         return bool(dimensions == 2)
-    return isinstance(numbers, (list, tuple)) and len(numbers) > 0 and not is_one(numbers[0])
+    if not isinstance(numbers, (list, tuple)) or not numbers or isinstance(numbers[0], (str, bytes, bytearray)):
+        return False
+    return not is_one(numbers[0])
 
 
 def joined(rows: list[array[int]]) -> tuple[array[int], int]:
