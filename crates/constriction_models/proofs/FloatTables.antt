@@ -24,13 +24,13 @@ nearest_is n d some =
     let more : (n / d + 1) * d ≡ n / d * d + d = omega arith in
     elim (cases_order (2 * (n % d)) d) [
       | inl half ↦ elim (cases_lt (n / d % 2) 1) [
-          | inl even ↦
-              let e : nearest n d ≡ n / d = omega (arith, nearest_even n d half, even) in
-              record { low = rw e (omega (arith, whole)); high = rw e (omega (arith, whole, half)) }
-          | inr odd ↦
-              let e : nearest n d ≡ n / d + 1 = omega (arith, nearest_even n d half, odd, mod_below (n / d) 2 (lit< tt)) in
-              record { low = rw e (omega (arith, whole, half, more)); high = rw e (omega (arith, whole, half, more)) }
-        ]
+        | inl even ↦
+            let e : nearest n d ≡ n / d = omega (arith, nearest_even n d half, even) in
+            record { low = rw e (omega (arith, whole)); high = rw e (omega (arith, whole, half)) }
+        | inr odd ↦
+            let e : nearest n d ≡ n / d + 1 = omega (arith, nearest_even n d half, odd, mod_below (n / d) 2 (lit< tt)) in
+            record { low = rw e (omega (arith, whole, half, more)); high = rw e (omega (arith, whole, half, more)) }
+      ]
       | inr (inl down) ↦
           let e = nearest_down n d down in
           record { low = rw e (omega (arith, whole)); high = rw e (omega (arith, whole, down)) }
@@ -81,9 +81,9 @@ max_at a [] h = absurd (omega (arith, h))
 max_at a (x ∷ xs) h = elim (cases_lt (max a (float_bits x)) (fold (λ (m b : ℕ). max m (float_bits b)) (max a (float_bits x)) xs)) [
   | inl later ↦ (let found = max_at (max a (float_bits x)) xs later in (suc found.0, omega (arith, found.1), found.2))
   | inr here ↦ elim (cases_lt a (float_bits x)) [
-      | inl less ↦ (0, omega arith, omega (arith, most_from (max a (float_bits x)) xs, here, max-eq_right {n = a} {m = float_bits x} (omega (arith, less))))
-      | inr from ↦ absurd (omega (arith, h, here, max-eq_left {n = a} {m = float_bits x} from))
-    ]
+    | inl less ↦ (0, omega arith, omega (arith, most_from (max a (float_bits x)) xs, here, max-eq_right {n = a} {m = float_bits x} (omega (arith, less))))
+    | inr from ↦ absurd (omega (arith, h, here, max-eq_left {n = a} {m = float_bits x} from))
+  ]
 ]
 
 greatest_at : (xs : List ℕ) → 0 < greatest_bits xs → (k : ℕ) × (k < length xs) × (float_bits (get_or xs k 0) ≡ greatest_bits xs)

@@ -256,7 +256,11 @@ pub extern "C" fn constriction_ans_encode_indexed_reverse_u16(
         (by_indexes width (map (lowest 16) weights.now) indexes.now symbols.now) head.old words.old len.old head.new
         words.new len.new }
 {
-    let models = Indexed { weights, width, indexes };
+    let models = Indexed {
+        weights,
+        width,
+        indexes,
+    };
     let items = Symbols { models, symbols };
     let answer = encode_reverse::<_, _, u16, _, 12>(alloc, head, words, len, &items);
     code_of(answer, needed)
@@ -279,7 +283,11 @@ pub extern "C" fn constriction_ans_decode_indexed_u16(
     ensures { AnsDecodesU16 result (by_indexes width (map (lowest 16) weights.now) indexes.now) words.now head.old
         len.old head.new len.new symbols.old symbols.new }
 {
-    let models = Indexed { weights, width, indexes };
+    let models = Indexed {
+        weights,
+        width,
+        indexes,
+    };
     let answer = decode::<_, _, u16, _, 12>(alloc, head, words, len, &models, symbols);
     code_without_space(answer)
 }

@@ -328,7 +328,11 @@ pub extern "C" fn constriction_chain_decode_indexed_u16(
         (chain_u16 heads.old compressed.now count.old remainders.old rest.old)
         (chain_u16 heads.new compressed.now count.new remainders.new rest.new) symbols.old symbols.new }
 {
-    let models = Indexed { weights, width, indexes };
+    let models = Indexed {
+        weights,
+        width,
+        indexes,
+    };
     let mut both = heads.parts();
     let answer = decode::<_, _, u16, _, 12>(
         alloc, &mut both, compressed, count, remainders, rest, &models, symbols,
@@ -359,7 +363,11 @@ pub extern "C" fn constriction_chain_encode_indexed_reverse_u16(
         (chain_u16 heads.old compressed.old count.old remainders.now rest.old)
         (chain_u16 heads.new compressed.new count.new remainders.now rest.new) }
 {
-    let models = Indexed { weights, width, indexes };
+    let models = Indexed {
+        weights,
+        width,
+        indexes,
+    };
     let items = Symbols { models, symbols };
     let mut both = heads.parts();
     let answer = encode_reverse::<_, _, u16, _, 12>(

@@ -272,7 +272,11 @@ pub extern "C" fn constriction_range_encode_indexed_u32(
         (by_indexes width (map (lowest 32) weights.now) indexes.now symbols.now) (length symbols.now) encoder.old
         words.old len.old encoder.new words.new len.new }
 {
-    let models = Indexed { weights, width, indexes };
+    let models = Indexed {
+        weights,
+        width,
+        indexes,
+    };
     let items = Symbols { models, symbols };
     let mut parts = encoder.parts();
     let answer = encode::<_, _, u32, _, 24>(alloc, &mut parts, words, len, &items);
@@ -296,7 +300,11 @@ pub extern "C" fn constriction_range_decode_indexed_u32(
     ensures { RangeDecodesU32 result (by_indexes width (map (lowest 32) weights.now) indexes.now) words.now decoder.old
         decoder.new symbols.old symbols.new }
 {
-    let models = Indexed { weights, width, indexes };
+    let models = Indexed {
+        weights,
+        width,
+        indexes,
+    };
     let mut parts = decoder.parts();
     let answer = decode::<_, _, u32, _, 24>(alloc, &mut parts, words, &models, symbols);
     *decoder = RangeDecoderU32::of(parts);

@@ -51,7 +51,8 @@ impl<'a, P: BitArray, const PRECISION: usize> Models<P, PRECISION> for Indexed<'
         let tables = rows_of(self.weights, self.width);
         if !is_product(self.weights.len(), self.width, tables)
             || self.indexes.len() != count
-            || !are_below::<usize>(self.indexes, tables) {
+            || !are_below::<usize>(self.indexes, tables)
+        {
             return Err(Refusal::WrongLength);
         }
         if are_totals::<P, PRECISION>(self.weights, self.width, tables) {
