@@ -55,7 +55,7 @@ INDEXED = of_models(
     r"\1 with the table of `width` weights at each symbol's index ([`Indexed`])",
     "weights: &[u32], width: usize, indexes: &[usize]",
     "by_indexes width (map (lowest 32) weights.now) indexes.now",
-    "let models = Indexed { weights, width, indexes }",
+    "let models = Indexed {\n        weights,\n        width,\n        indexes,\n    }",
 )
 QUANTIZED = of_models(
     "quantized",

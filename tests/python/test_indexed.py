@@ -39,7 +39,15 @@ class Words(unittest.TestCase):
 
     def test_three_coders(self) -> None:
         dice = random.Random(1)
-        for count, width, length in ((1, 1, 5), (1, 7, 40), (3, 2, 200), (30, 5, 20), (40, 9, 41), (2, 300, 3), (5, 4, 0)):
+        for count, width, length in (
+            (1, 1, 5),
+            (1, 7, 40),
+            (3, 2, 200),
+            (30, 5, 20),
+            (40, 9, 41),
+            (2, 300, 3),
+            (5, 4, 0),
+        ):
             tables = random_tables(dice, count, width)
             model = WeightTable(tables)
             indexes = [dice.randrange(count) for _ in range(length)]
@@ -115,7 +123,13 @@ class Words(unittest.TestCase):
         symbols = [0, 2, 2, 0]
         coder = AnsCoder()
         coder.encode_reverse(symbols, TWO, [1, 0, 0, 1])
-        for form in ((1, 0, 0, 1), array("b", [1, 0, 0, 1]), array("Q", [1, 0, 0, 1]), (it & 1 for it in (1, 2, 4, 3)), [True, False, False, True]):
+        for form in (
+            (1, 0, 0, 1),
+            array("b", [1, 0, 0, 1]),
+            array("Q", [1, 0, 0, 1]),
+            (it & 1 for it in (1, 2, 4, 3)),
+            [True, False, False, True],
+        ):
             other = AnsCoder()
             other.encode_reverse(symbols, TWO, form)
             self.assertEqual(coder, other)
@@ -129,7 +143,11 @@ class Words(unittest.TestCase):
         self.assertEqual(coder.decode(TWO, True), 2)
 
     def test_forms_of_tables(self) -> None:
-        for form in ([array("I", [1, 16777215]), (16777216, 0)], ([1, 16777215], range(16777216, -1, -16777216)), [[1, 16777215], memoryview(array("H", [0, 0]))]):
+        for form in (
+            [array("I", [1, 16777215]), (16777216, 0)],
+            ([1, 16777215], range(16777216, -1, -16777216)),
+            [[1, 16777215], memoryview(array("H", [0, 0]))],
+        ):
             model = WeightTable(form)
             self.assertEqual(model.size, 2)
             self.assertTrue(repr(model).startswith("WeightTable(<2 rows of 2 weights>"))
@@ -162,7 +180,9 @@ class Words(unittest.TestCase):
         self.assertNotEqual(Categorical([[1, 2]]), Categorical([1, 2]))
         self.assertNotEqual(Categorical([[1, 2, 1, 2]]), Categorical([[1, 2], [1, 2]]))
         self.assertEqual(repr(TWO), "WeightTable(<2 rows of 3 weights>)")
-        self.assertEqual(repr(Categorical([[1, 2]], perfect=False)), "Categorical(<1 rows of 2 weights>, perfect=False)")
+        self.assertEqual(
+            repr(Categorical([[1, 2]], perfect=False)), "Categorical(<1 rows of 2 weights>, perfect=False)"
+        )
 
 
 class Faults(unittest.TestCase):
@@ -199,7 +219,9 @@ class Faults(unittest.TestCase):
             self.refused(wrong, f"^expected indexes from 0 to 1, got {number} at place 0$", [0, 0], TWO, number)
         text = "^expected as many indexes as symbols, got 2 indexes and 3 symbols$"
         self.refused(wrong, text, [0, 0, 0], TWO, [0, 1])
-        self.refused(wrong, "^expected as many indexes as symbols, got 3 indexes and 2 symbols$", [0, 0], TWO, [0, 1, 0])
+        self.refused(
+            wrong, "^expected as many indexes as symbols, got 3 indexes and 2 symbols$", [0, 0], TWO, [0, 1, 0]
+        )
         for given in (0.0, [0.0], array("d", [0.0]), "0", ["0"]):
             self.refused(TypeError, "expected ", [0], TWO, given)
             self.refused_decode(TypeError, "expected ", TWO, given)
@@ -255,15 +277,21 @@ class Faults(unittest.TestCase):
         ):  # fmt: skip
             with self.assertRaisesRegex(kind, text):
                 Categorical(rows)
-        with self.assertRaisesRegex(TypeError, r"^expected a list of parameters after the model \(indexes\), got none$"):
+        with self.assertRaisesRegex(
+            TypeError, r"^expected a list of parameters after the model \(indexes\), got none$"
+        ):
             TWO.table()
 
     def test_many_coders(self) -> None:
         """Many coders in one call take no indexes."""
         coders = AnsCoders(2)
-        with self.assertRaisesRegex(TypeError, "^expected a model of one table, or a row for each symbol, got rows with indexes$"):
+        with self.assertRaisesRegex(
+            TypeError, "^expected a model of one table, or a row for each symbol, got rows with indexes$"
+        ):
             coders.encode_reverse([[0, 0], [0, 0]], TWO, [[0, 1], [1, 0]])
-        with self.assertRaisesRegex(TypeError, "^expected a model of one table, or a row for each symbol, got rows with indexes$"):
+        with self.assertRaisesRegex(
+            TypeError, "^expected a model of one table, or a row for each symbol, got rows with indexes$"
+        ):
             coders.decode(TWO, [[0, 1], [1, 0]])
         self.assertTrue(all(coders.is_empty() for _ in (0,)))
 

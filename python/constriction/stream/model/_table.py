@@ -209,7 +209,10 @@ class WeightTable(Rows):
             return None
         width = len(self._fixed) if self._width is None else self._width
         for start in range(0, max(len(self._fixed), 1), max(width, 1)):
-            total, where = sum(self._fixed[start : start + width]), "" if self._width is None else f" in row {start // width}"
+            total, where = (
+                sum(self._fixed[start : start + width]),
+                "" if self._width is None else f" in row {start // width}",
+            )
             if total != words.total:
                 raise WrongWeightsError(f"{wrong_weights(words.total)}, got a sum of {total}{where}")
         return array(words.code, self._fixed)
@@ -357,7 +360,12 @@ class Categorical(Rows):
         if len(given) != 1 or not self.missing:
             return None
         row = given[0]
-        if type(row) is _buffers.array_class and row.ndim == 1 and row.dtype.char in "df" and 0 < len(row) <= MOST_FLOATS:
+        if (
+            type(row) is _buffers.array_class
+            and row.ndim == 1
+            and row.dtype.char in "df"
+            and 0 < len(row) <= MOST_FLOATS
+        ):
             return QUICK if self._form == COUNTS else FLOATS, row, None
         if not is_row(row):
             return None
