@@ -1,4 +1,4 @@
-use Rattle.std.proofs.Common.{◌+◌, ◌*◌, arith, length}
+use Rattle.std.proofs.Common.{arith, length}
 use Rattle.std.proofs.lemmas.List.Sums.{sum_by-take-le}
 use Rattle.constriction_models.specs.Cumulative.{differences}
 use Rattle.constriction_models.proofs.Searching.{scaled_fits}
