@@ -10,7 +10,7 @@ use Rattle.std.proofs.lemmas.List.{length-map, get_or-map}
 use Rattle.constriction_base.proofs.Sizes.{pow_le}
 use Rattle.constriction_models.specs.Categorical.{MakeCategorical}
 use Rattle.constriction_models.specs.Floats.{bit_length, counts_at, float_bits, float_count, float_units, greatest_bits, greatest_units, is_probability, nearest, quick_bits, quick_counts, row_length, significand, units}
-use Rattle.constriction_models.proofs.Floating.{HasLength, count_most, greatest_reaches, has_length, less_by_power, most_from, nearest_down, nearest_even, nearest_up, row_length_is}
+use Rattle.constriction_models.proofs.Floating.{HasLength, count_most, greatest_reaches, has_length, less_by_power, most_from, nearest_down, nearest_even, nearest_up, quick_bits_few, quick_bits_fewer, row_length_is}
 
 -- ---- a rounded quotient lies within a half
 pub record IsNearest (n d q : ℕ) : Type 0 where
@@ -158,5 +158,45 @@ module _ (xs : List ℕ) (some : 0 < greatest_bits xs) (finite : greatest_bits x
       let both : sum (counts_at least xs) * 2 ^ k < 1099511627776 * 2 ^ k = omega (arith, again, is, below, power, many, one) in
       lt_of_mul-lt-mul_right (2 ^ k) both
 
-  makes : (precision : ℕ) → precision ≤ 31 → length xs < 2 ^ precision → MakeCategorical precision (quick_counts xs)
-  makes precision narrow short = ?
+  quick_fits : (total : ℕ) → length xs < 2147483648 → total ≡ sum (counts_at 31 xs) → sum (counts_at (quick_bits total) xs) < 1099511627776
+  quick_fits total short is = elim (cases_lt total 1099511627776) [
+    | inl less ↦ (let bits = quick_bits_few total less in rw (← bits) (omega (arith, less, is)))
+    | inr more ↦
+        let most : total < 4611686018427387904 = omega (arith, is, row_few, short) in
+        let top = leading_top 128 total (omega (arith, more)) (omega (arith, most)) in
+        let j : ℕ = top.0 in
+        let from : 40 < suc j = less_by_power 40 (suc j) (omega (arith, more, top.3)) in
+        let upto : j < 62 = less_by_power j 62 (omega (arith, most, top.2)) in
+        let bits : 31 - (suc j - 39) ≡ quick_bits total = quick_bits_fewer total (31 - (suc j - 39)) more (omega (arith, top.1)) in
+        rw (← bits) (fits_again total j short is (omega (arith, from)) (omega (arith, upto)) top.3)
+  ]
+
+  quick_some : (total : ℕ) → length xs < 2147483648 → total ≡ sum (counts_at 31 xs) → 1 ≤ quick_bits total
+  quick_some total short is = elim (cases_lt total 1099511627776) [
+    | inl less ↦ omega (arith, quick_bits_few total less)
+    | inr more ↦
+        let most : total < 4611686018427387904 = omega (arith, is, row_few, short) in
+        let top = leading_top 128 total (omega (arith, more)) (omega (arith, most)) in
+        let upto : top.0 < 62 = less_by_power top.0 62 (omega (arith, most, top.2)) in
+        let bits : 31 - (suc top.0 - 39) ≡ quick_bits total = quick_bits_fewer total (31 - (suc top.0 - 39)) more (omega (arith, top.1)) in
+        omega (arith, bits, upto)
+  ]
+
+  long_row : (n : ℕ) → length xs ≡ n → length (quick_counts xs) ≡ n
+  unfolding quick_counts counts_at
+  long_row n is = length-map xs (float_count (row_length xs) (quick_bits (sum (counts_at 31 xs)))) ∙ is
+
+  -- a row's counts have a table
+  pub makes : (precision : ℕ) → precision ≤ 31 → length xs < 2 ^ precision → MakeCategorical precision (quick_counts xs)
+  unfolding quick_counts
+  makes precision narrow short =
+      let few : length xs < 2147483648 = omega (arith, short, pow_le precision 31 narrow) in
+      record {
+        few = omega (arith, short, long_row (length xs) refl);
+        some = row_some (quick_bits (sum (counts_at 31 xs))) (quick_some (sum (counts_at 31 xs)) few refl);
+        fits = quick_fits (sum (counts_at 31 xs)) few refl;
+      }
+
+pub counts_make : (xs counts : List ℕ) (most precision : ℕ) → counts ≡ quick_counts xs → (most ≡ greatest_bits xs) × (0 < most) × (most < 9218868437227405312) → precision ≤ 31
+    → length xs < 2 ^ precision → MakeCategorical precision counts
+counts_make xs counts most precision is best narrow short = rw is (makes xs (omega (arith, best.0, best.1)) (omega (arith, best.0, best.2)) precision narrow short)

@@ -8,6 +8,7 @@
 
 ghost use Rattle.std.specs.Prelude.{◌≡◌, ℕ, ◌+◌, ◌-◌, ◌*◌, ◌^◌, ◌<◌, ◌≤◌, ◌↔◌, true, false, length, map, slice_index, IfOk, IfErr, IsErrOf};
 ghost use Rattle.std.specs.List.{list_all, sum};
+ghost use Rattle.constriction_models.specs.Categorical.{MakeCategorical};
 ghost use Rattle.constriction_models.specs.Floats.{float_bits, is_probability, significand, exponent, units, float_units};
 ghost use Rattle.constriction_models.specs.Floats.{greatest_bits, greatest_units, bit_length, row_length, nearest, IsScale};
 ghost use Rattle.constriction_models.specs.Floats.{float_count, weight_count, weight_counts, counts_at, quick_bits, quick_counts};
@@ -266,7 +267,8 @@ pub fn counts_of_floats(alloc: Global, floats: &[u64]) -> Result<Vec<u64>, Float
 /// is the float times a power of two, rounded to the nearest whole number (half to even). The power of two is the same
 /// for all floats. It makes the greatest count at least `2^30` and at most `2^31`. If the counts then add up to `2^40`
 /// or more, the power of two is divided by the least power of two that brings this sum below `2^39` (but by at most
-/// `2^31`), and the counts are computed from the floats again.
+/// `2^31`), and the counts are computed from the floats again. Fewer than `2^precision` counts have a table at this
+/// precision, because their sum is above 0 and below `2^40`.
 ///
 /// # Errors
 ///
@@ -285,6 +287,8 @@ pub fn counts_of_floats(alloc: Global, floats: &[u64]) -> Result<Vec<u64>, Float
 pub fn put_quick_counts(floats: &[u64], counts: &mut [u32]) -> Result<(), FloatsError>
     requires { length floats.now ≡ length counts.now }
     ensures counts { IfOk result (λ _. counts.new ≡ quick_counts floats.now) }
+    ensures table { IfOk result
+        (λ _. (precision : ℕ) → precision ≤ 31 → length floats.now < 2 ^ precision → MakeCategorical precision counts.new) }
     ensures unchanged { IfErr result (λ _. counts.new ≡ counts.old) }
     ensures invalid { IsErrOf result FloatsError.Invalid ↔ (list_all is_probability floats.now ≡ false) }
     ensures empty { IsErrOf result FloatsError.Empty
