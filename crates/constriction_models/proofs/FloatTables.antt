@@ -1,15 +1,15 @@
 -- The counts of a row of floats for a table: their sum is above 0 and below 2 ^ 40.
-use Rattle.std.proofs.Common.{◌≡◌, ◌↔◌, ℕ, zero, suc, ◌+◌, ◌-◌, ◌*◌, ◌/◌, ◌%◌, ◌^◌, ◌<◌, ◌≤◌, List, [], ◌∷◌, length, get_or, map, max, refl, sym, ap, ◌∙◌, inl, inr, arith, lit<}
-use Rattle.std.specs.List.{fold, list_all, sum}
+use Rattle.std.proofs.Common.{◌≡◌, ℕ, suc, ◌+◌, ◌-◌, ◌*◌, ◌/◌, ◌%◌, ◌^◌, ◌<◌, ◌≤◌, List, [], ◌∷◌, length, get_or, map, max, refl, ap, ◌∙◌, inl, inr, arith, lit<}
+use Rattle.std.specs.List.{fold, sum}
 use lib.Count.{count_leading_zeros}
 use Rattle.std.proofs.Math.Nat.{max-eq_left, max-eq_right, mul-le-mul_left, mul-le-mul_right, le_of_mul-le-mul_right, lt_of_mul-lt-mul_right}
 use Rattle.std.proofs.lemmas.Bool.{cases_lt, cases_order}
-use Rattle.std.proofs.lemmas.Nat.{pow_pos, pow-add, mod_below, div-add-mod', le-div, leading_top}
+use Rattle.std.proofs.lemmas.Nat.{pow_pos, pow-add, mod_below, div-add-mod', leading_top}
 use Rattle.std.proofs.lemmas.List.Sums.{sum_by-cons, get_or-le-sum_by}
 use Rattle.std.proofs.lemmas.List.{length-map, get_or-map}
 use Rattle.constriction_base.proofs.Sizes.{pow_le}
 use Rattle.constriction_models.specs.Categorical.{MakeCategorical}
-use Rattle.constriction_models.specs.Floats.{bit_length, counts_at, float_bits, float_count, float_units, greatest_bits, greatest_units, is_probability, nearest, quick_bits, quick_counts, row_length, significand, units}
+use Rattle.constriction_models.specs.Floats.{counts_at, float_bits, float_count, float_units, greatest_bits, nearest, quick_bits, quick_counts, row_length, significand, units}
 use Rattle.constriction_models.proofs.Floating.{HasLength, count_most, greatest_reaches, has_length, less_by_power, most_from, nearest_down, nearest_even, nearest_up, quick_bits_few, quick_bits_fewer, row_length_is}
 
 -- ---- a rounded quotient lies within a half

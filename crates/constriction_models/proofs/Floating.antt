@@ -1,11 +1,11 @@
 -- Counts of floats by shifts, over whole numbers.
-use Rattle.std.proofs.Common.{◌≡◌, ℕ, zero, suc, ◌+◌, ◌-◌, ◌*◌, ◌/◌, ◌%◌, ◌^◌, ◌<◌, ◌≤◌, ◌⊎◌, List, [], ◌∷◌, ◌++◌, length, get_or, map, take, set, min, max, refl, sym, ap, ◌∙◌, inl, inr, arith, lit<, Bool, true, false}
+use Rattle.std.proofs.Common.{◌≡◌, ℕ, zero, suc, ◌+◌, ◌-◌, ◌*◌, ◌/◌, ◌%◌, ◌^◌, ◌<◌, ◌≤◌, ◌⊎◌, List, [], ◌∷◌, ◌++◌, length, get_or, map, take, set, min, max, refl, sym, ap, ◌∙◌, inl, inr, arith, lit<, true, false}
 use Rattle.std.specs.List.{fold, list_all, sum}
 use lib.Count.{count_leading_zeros}
-use Rattle.std.proofs.Math.Nat.{mod-eq_of_lt, mod-le, div-eq_of_lt, mul-div-mul_right, le-max_left, le-max_right, min-eq_left, min-eq_right, max-eq_left, max-eq_right, mul-le-mul_right, mul-le-mul_left, le_of_mul-le-mul_right, lt_of_mul-lt-mul_right, div-div-eq-div-mul, div-lt_iff_lt-mul, div-mul-le_self}
+use Rattle.std.proofs.Math.Nat.{mod-eq_of_lt, mod-le, div-eq_of_lt, mul-div-mul_right, le-max_left, le-max_right, min-eq_left, min-eq_right, max-eq_left, max-eq_right, mul-le-mul_right, le_of_mul-le-mul_right, div-div-eq-div-mul}
 use Rattle.std.proofs.lemmas.Bool.{cases_lt, cases_order}
 use Rattle.std.proofs.lemmas.Bool.Decides.{nat_tests}
-use Rattle.std.proofs.lemmas.Nat.{pow_pos, pow-add, pow_below, mod_below, div-add-mod', leading_top, leading_le, one_shl}
+use Rattle.std.proofs.lemmas.Nat.{pow_pos, pow-add, mod_below, div-add-mod', leading_top}
 use Rattle.constriction_base.proofs.Sizes.{pow_le}
 use Rattle.std.proofs.lemmas.List.{map_push, take_all, take_more, take_more_set}
 use Rattle.constriction_models.proofs.Dividing.{quotient_of}

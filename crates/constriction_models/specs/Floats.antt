@@ -1,6 +1,6 @@
 -- Counts in proportion to floats. Each float is given by its bits (IEEE 754 binary64), as a number below 2 ^ 64.
 use Rattle.std.specs.Prelude.{◌≡◌, ℕ, ◌+◌, ◌-◌, ◌*◌, ◌/◌, ◌%◌, ◌^◌, ◌<◌, ◌≤◌, List, map, Bool, cond, nat_eq, nat_lt, max}
-use Rattle.std.specs.List.{fold, sum, list_all}
+use Rattle.std.specs.List.{fold, sum}
 use lib.Count.{count_leading_zeros}
 
 -- The bits of a float, where negative zero (2 ^ 63) has the bits of zero. Floats that are at least 0 have the order of

@@ -6,12 +6,12 @@
 //! - `counts_of_floats` computes the counts for [`weights_of_counts`](crate::counts::weights_of_counts).
 //! - `put_quick_counts` computes the counts for [`CategoricalCounts`](crate::categorical::CategoricalCounts).
 
-ghost use Rattle.std.specs.Prelude.{◌≡◌, ℕ, ◌+◌, ◌-◌, ◌*◌, ◌^◌, ◌<◌, ◌≤◌, ◌↔◌, true, false, length, map, slice_index, IfOk, IfErr, IsErrOf};
+ghost use Rattle.std.specs.Prelude.{◌≡◌, ℕ, ◌*◌, ◌^◌, ◌<◌, ◌≤◌, ◌↔◌, true, false, length, IfOk, IfErr, IsErrOf};
 ghost use Rattle.std.specs.List.{list_all, sum};
 ghost use Rattle.constriction_models.specs.Categorical.{MakeCategorical};
-ghost use Rattle.constriction_models.specs.Floats.{float_bits, is_probability, significand, exponent, units, float_units};
-ghost use Rattle.constriction_models.specs.Floats.{greatest_bits, greatest_units, bit_length, row_length, nearest, IsScale};
-ghost use Rattle.constriction_models.specs.Floats.{float_count, weight_count, weight_counts, counts_at, quick_bits, quick_counts};
+ghost use Rattle.constriction_models.specs.Floats.{float_bits, is_probability, significand, exponent, units, nearest};
+ghost use Rattle.constriction_models.specs.Floats.{greatest_bits, greatest_units, bit_length, float_count, IsScale};
+ghost use Rattle.constriction_models.specs.Floats.{weight_counts, counts_at, quick_bits, quick_counts};
 ghost use Rattle.constriction_models.specs.declared.floats.FloatsError.TheVariants as errors;
 
 use std::alloc::{AllocError, Global};

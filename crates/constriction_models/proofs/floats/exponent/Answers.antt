@@ -1,5 +1,4 @@
 use Rattle.constriction_models.specs.Floats.{exponent}
-use Rattle.constriction_models.proofs.Floating.{scaled_most}
 use Rattle.constriction_models.proofs.floats.exponent.Goals as goal
 
 pub returns : goal.returns

@@ -1,4 +1,4 @@
-use Rattle.std.proofs.Common.{◌≡◌, Bool, true, false, refl, sym, ◌∙◌, arith}
+use Rattle.std.proofs.Common.{refl, sym, ◌∙◌, arith}
 use Rattle.std.proofs.lemmas.Bool.{false≢true}
 use Rattle.constriction_models.proofs.Floating.{is_broken, is_sound, is_none, is_some}
 use Rattle.constriction_models.proofs.floats.greatest_float.Goals as goal

@@ -1,4 +1,4 @@
-use Rattle.std.proofs.Common.{refl, arith}
+use Rattle.std.proofs.Common.{arith}
 use Rattle.constriction_models.proofs.FloatTables.{counts_make}
 use Rattle.constriction_models.proofs.Floating.{quick_counts_are}
 use Rattle.constriction_models.proofs.floats.put_quick_counts.Goals as goal

@@ -1,4 +1,4 @@
-use Rattle.std.proofs.Common.{sym, ◌∙◌, arith}
+use Rattle.std.proofs.Common.{sym, arith}
 use Rattle.constriction_models.proofs.Floating.{significand_small, significand_large}
 use Rattle.constriction_models.proofs.floats.significand.Goals as goal
 

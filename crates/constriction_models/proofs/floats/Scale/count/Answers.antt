@@ -1,5 +1,4 @@
-use Rattle.std.proofs.Common.{◌≡◌, arith}
-use Rattle.constriction_models.specs.Floats.{float_count, bit_length, units}
+use Rattle.std.proofs.Common.{arith}
 use Rattle.constriction_models.proofs.Floating.{scale_rises, scaled_fits, scaled_result, scaled_limit}
 use Rattle.constriction_models.proofs.floats.Scale.count.Goals as goal
 use Rattle.constriction_models.proofs.floats.Scale.count.Goals.{After-nearest}

@@ -1,4 +1,4 @@
-use Rattle.std.proofs.Common.{◌≡◌, ◌<◌, length, ◌∙◌, arith, rules}
+use Rattle.std.proofs.Common.{◌<◌, length, ◌∙◌, arith}
 use Rattle.constriction_models.specs.Floats.{float_count, bit_length, units}
 use Rattle.constriction_models.proofs.Floating.{reaches_most, counts_are, put_all}
 use Rattle.constriction_models.proofs.floats.Scale.put.Goals as goal
