@@ -9,7 +9,7 @@ use Rattle.std.proofs.lemmas.Nat.{pow_pos, pow-add, mod_below, div-add-mod', lea
 use Rattle.constriction_base.proofs.Sizes.{pow_le}
 use Rattle.std.proofs.lemmas.List.{map_push, take_all, take_more, take_more_set}
 use Rattle.constriction_models.proofs.Dividing.{quotient_of}
-use Rattle.constriction_models.specs.Floats.{float_bits, significand, exponent, units, float_units, greatest_bits, greatest_units, bit_length, row_length, nearest, float_count, weight_count, weight_counts, counts_at, quick_bits, quick_counts, is_probability, IsScale}
+use Rattle.constriction_models.specs.Floats.{float_bits, significand, exponent, units, float_units, greatest_bits, greatest_units, binary_length, row_length, nearest, float_count, weight_count, weight_counts, counts_at, quick_bits, quick_counts, is_probability, IsScale}
 
 -- ---- the nearest whole number
 pub nearest_down : (n d : ℕ) → 2 * (n % d) < d → nearest n d ≡ n / d
@@ -214,8 +214,8 @@ pub record HasLength (g space len : ℕ) : Type 0 where
   pub within : units g < 2 ^ len
   pub least : 2 ^ (len - 1) ≤ units g
 
-pub has_length : (g space : ℕ) → 0 < g → g < 9218868437227405312 → space ≡ count_leading_zeros 64 (significand g) → HasLength g space (bit_length 2098 (units g))
-unfolding bit_length
+pub has_length : (g space : ℕ) → 0 < g → g < 9218868437227405312 → space ≡ count_leading_zeros 64 (significand g) → HasLength g space (binary_length 2098 (units g))
+unfolding binary_length
 has_length g space some finite is =
     let p = are_parts g in
     let limit : exponent g ≤ 2046 = exponent_few g finite in
@@ -380,25 +380,25 @@ no_units xs e = greatest_is xs ∙ ap units e ∙ units_none
 pub some_units : (xs : List ℕ) → 0 < greatest_bits xs → 0 < greatest_units xs
 some_units xs h = omega (arith, greatest_is xs, units_some (greatest_bits xs) h)
 
-pub row_length_is : (xs : List ℕ) → row_length xs ≡ bit_length 2098 (units (greatest_bits xs))
+pub row_length_is : (xs : List ℕ) → row_length xs ≡ binary_length 2098 (units (greatest_bits xs))
 unfolding row_length
-row_length_is xs = ap (λ (x : ℕ). bit_length 2098 x) (greatest_is xs)
+row_length_is xs = ap (λ (x : ℕ). binary_length 2098 x) (greatest_is xs)
 
 -- ---- the scale of a row: its greatest float, and how far to shift
-scale_length : (most bits lift rise : ℕ) → IsScale most bits lift rise → HasLength most (lift + 2) (bit_length 2098 (units most))
+scale_length : (most bits lift rise : ℕ) → IsScale most bits lift rise → HasLength most (lift + 2) (binary_length 2098 (units most))
 scale_length most bits lift rise s = has_length most (lift + 2) s.some s.finite s.lifted
 
 pub scaled_small : (most bits lift rise c : ℕ) → IsScale most bits lift rise → c ≤ most → significand c * 2 ^ lift < 4611686018427387904
-scaled_small most bits lift rise c s h = lifted_below most c (lift + 2) lift (bit_length 2098 (units most)) (scale_length most bits lift rise s) refl h
+scaled_small most bits lift rise c s h = lifted_below most c (lift + 2) lift (binary_length 2098 (units most)) (scale_length most bits lift rise s) refl h
 
 pub scaled_count : (most bits lift rise b : ℕ) → IsScale most bits lift rise → float_bits b ≤ most
-    → nearest (significand (float_bits b) * 2 ^ lift) (2 ^ min (rise - exponent (float_bits b)) 63) ≡ float_count (bit_length 2098 (units most)) bits b
+    → nearest (significand (float_bits b) * 2 ^ lift) (2 ^ min (rise - exponent (float_bits b)) 63) ≡ float_count (binary_length 2098 (units most)) bits b
 unfolding float_count float_units
-scaled_count most bits lift rise b s h = count_is most (float_bits b) bits (lift + 2) lift rise (bit_length 2098 (units most)) (scale_length most bits lift rise s) refl s.few s.risen h
+scaled_count most bits lift rise b s h = count_is most (float_bits b) bits (lift + 2) lift rise (binary_length 2098 (units most)) (scale_length most bits lift rise s) refl s.few s.risen h
 
-pub scaled_most : (most bits lift rise b : ℕ) → IsScale most bits lift rise → float_bits b ≤ most → float_count (bit_length 2098 (units most)) bits b ≤ 2 ^ bits
+pub scaled_most : (most bits lift rise b : ℕ) → IsScale most bits lift rise → float_bits b ≤ most → float_count (binary_length 2098 (units most)) bits b ≤ 2 ^ bits
 unfolding float_count float_units
-scaled_most most bits lift rise b s h = count_most most (float_bits b) bits (lift + 2) (bit_length 2098 (units most)) (scale_length most bits lift rise s) h
+scaled_most most bits lift rise b s h = count_most most (float_bits b) bits (lift + 2) (binary_length 2098 (units most)) (scale_length most bits lift rise s) h
 
 pub scale_lifts : (most : ℕ) → 0 < most → most < 9218868437227405312 → 2 ≤ count_leading_zeros 64 (significand most)
 scale_lifts most some finite =
@@ -417,7 +417,7 @@ scaled_fits most bits lift rise b f m s h f_is m_is =
     omega (arith, small, same, mod-le (m * 2 ^ lift) 18446744073709551616)
 
 pub scaled_result : (most bits lift rise b f m e t r : ℕ) → IsScale most bits lift rise → float_bits b ≤ most → f ≡ float_bits b → m ≡ significand f
-    → e ≡ exponent f → t ≡ min (rise - e) 63 → r ≡ nearest (m * 2 ^ lift % 18446744073709551616) (2 ^ t) → r ≡ float_count (bit_length 2098 (units most)) bits b
+    → e ≡ exponent f → t ≡ min (rise - e) 63 → r ≡ nearest (m * 2 ^ lift % 18446744073709551616) (2 ^ t) → r ≡ float_count (binary_length 2098 (units most)) bits b
 scaled_result most bits lift rise b f m e t r s h f_is m_is e_is t_is r_is =
     let small : significand f * 2 ^ lift < 4611686018427387904 = scaled_small most bits lift rise f s (omega (arith, f_is, h)) in
     let same : m * 2 ^ lift ≡ significand f * 2 ^ lift = ap (λ (x : ℕ). x * 2 ^ lift) m_is in
@@ -426,7 +426,7 @@ scaled_result most bits lift rise b f m e t r s h f_is m_is e_is t_is r_is =
     let places : t ≡ min (rise - exponent (float_bits b)) 63 = t_is ∙ ap (λ (x : ℕ). min (rise - x) 63) (e_is ∙ ap exponent f_is) in
     r_is ∙ ap (λ (x : ℕ). nearest x (2 ^ t)) number ∙ ap (λ (x : ℕ). nearest (significand (float_bits b) * 2 ^ lift) (2 ^ x)) places ∙ scaled_count most bits lift rise b s h
 
-pub scaled_limit : (most bits lift rise b r : ℕ) → IsScale most bits lift rise → float_bits b ≤ most → r ≡ float_count (bit_length 2098 (units most)) bits b → r ≤ 2 ^ bits
+pub scaled_limit : (most bits lift rise b r : ℕ) → IsScale most bits lift rise → float_bits b ≤ most → r ≡ float_count (binary_length 2098 (units most)) bits b → r ≤ 2 ^ bits
 scaled_limit most bits lift rise b r s h is = omega (arith, is, scaled_most most bits lift rise b s h)
 
 -- ---- loops over a row
@@ -439,14 +439,14 @@ put_more f xs ys i y within within' is before =
 pub put_all : (f : ℕ → ℕ) (xs ys : List ℕ) (i : ℕ) → length xs ≤ i → length ys ≡ length xs → take i ys ≡ map f (take i xs) → ys ≡ map f xs
 put_all f xs ys i past same done = sym (take_all i ys (omega (arith, past, same))) ∙ done ∙ ap (map f) (take_all i xs past)
 
-length_at : (xs : List ℕ) (most : ℕ) → most ≡ greatest_bits xs → row_length xs ≡ bit_length 2098 (units most)
-length_at xs most is = row_length_is xs ∙ ap (λ (x : ℕ). bit_length 2098 (units x)) (sym is)
+length_at : (xs : List ℕ) (most : ℕ) → most ≡ greatest_bits xs → row_length xs ≡ binary_length 2098 (units most)
+length_at xs most is = row_length_is xs ∙ ap (λ (x : ℕ). binary_length 2098 (units x)) (sym is)
 
-pub counts_are : (xs : List ℕ) (most bits : ℕ) → most ≡ greatest_bits xs → map (float_count (bit_length 2098 (units most)) bits) xs ≡ counts_at bits xs
+pub counts_are : (xs : List ℕ) (most bits : ℕ) → most ≡ greatest_bits xs → map (float_count (binary_length 2098 (units most)) bits) xs ≡ counts_at bits xs
 unfolding counts_at
 counts_are xs most bits is = ap (λ (x : ℕ). map (float_count x bits) xs) (sym (length_at xs most is))
 
-pub weight_counts_are : (xs : List ℕ) (most : ℕ) → most ≡ greatest_bits xs → map (weight_count (bit_length 2098 (units most))) xs ≡ weight_counts xs
+pub weight_counts_are : (xs : List ℕ) (most : ℕ) → most ≡ greatest_bits xs → map (weight_count (binary_length 2098 (units most))) xs ≡ weight_counts xs
 unfolding weight_counts
 weight_counts_are xs most is = ap (λ (x : ℕ). map (weight_count x) xs) (sym (length_at xs most is))
 
@@ -463,7 +463,7 @@ unfolding quick_bits
 quick_bits_few total h = grind (arith, nat_tests)
 
 pub quick_bits_fewer : (total r : ℕ) → 1099511627776 ≤ total → r ≡ 31 - (128 - count_leading_zeros 128 total - 39) → r ≡ quick_bits total
-unfolding quick_bits bit_length
+unfolding quick_bits binary_length
 quick_bits_fewer total r h is = grind (arith, nat_tests)
 
 pub quick_length : (total : ℕ) → 1099511627776 ≤ total → total < 340282366920938463463374607431768211456 → 39 ≤ 128 - count_leading_zeros 128 total

@@ -37,12 +37,12 @@ unfoldable pub greatest_units : List ℕ → ℕ
 greatest_units floats = fold (λ most b. max most (float_units b)) 0 floats
 
 -- The number of binary digits of n, from its highest 1. `most` is a limit: n is below 2 ^ most.
-unfoldable pub bit_length : ℕ → ℕ → ℕ
-bit_length most n = most - count_leading_zeros most n
+unfoldable pub binary_length : ℕ → ℕ → ℕ
+binary_length most n = most - count_leading_zeros most n
 
 -- The number of binary digits of the greatest float's units. Each finite float has fewer than 2 ^ 2098 units.
 unfoldable pub row_length : List ℕ → ℕ
-row_length floats = bit_length 2098 (greatest_units floats)
+row_length floats = binary_length 2098 (greatest_units floats)
 
 -- n / d, rounded to the nearest whole number. A half is rounded to the even one.
 unfoldable pub nearest : ℕ → ℕ → ℕ
@@ -68,7 +68,7 @@ counts_at bits floats = map (float_count (row_length floats) bits) floats
 -- The number of bits for `CategoricalCounts`: 31, or fewer if the counts then add up to 2 ^ 40 or more. With fewer bits
 -- they add up to about half of that.
 unfoldable pub quick_bits : ℕ → ℕ
-quick_bits total = cond (nat_lt total (2 ^ 40)) 31 (31 - (bit_length 128 total - 39))
+quick_bits total = cond (nat_lt total (2 ^ 40)) 31 (31 - (binary_length 128 total - 39))
 
 -- The counts of a row for `CategoricalCounts`.
 unfoldable pub quick_counts : List ℕ → List ℕ

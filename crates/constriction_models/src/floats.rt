@@ -10,7 +10,7 @@ ghost use Rattle.std.specs.Prelude.{◌≡◌, ℕ, ◌*◌, ◌^◌, ◌<◌, �
 ghost use Rattle.std.specs.List.{list_all, sum};
 ghost use Rattle.constriction_models.specs.Categorical.{MakeCategorical};
 ghost use Rattle.constriction_models.specs.Floats.{float_bits, is_probability, significand, exponent, units, nearest};
-ghost use Rattle.constriction_models.specs.Floats.{greatest_bits, greatest_units, bit_length, float_count, IsScale};
+ghost use Rattle.constriction_models.specs.Floats.{greatest_bits, greatest_units, binary_length, float_count, IsScale};
 ghost use Rattle.constriction_models.specs.Floats.{weight_counts, counts_at, quick_bits, quick_counts};
 ghost use Rattle.constriction_models.specs.declared.floats.FloatsError.TheVariants as errors;
 
@@ -80,8 +80,8 @@ impl Scale {
         ensures most { result.most ≡ most }
         ensures bits { result.bits ≡ bits }
     {
-        let lift = significand(most).leading_zeros() - 2;
-        let rise = exponent(most) + 62 - bits;
+        let lift = read_significand(most).leading_zeros() - 2;
+        let rise = read_exponent(most) + 62 - bits;
         Scale {
             most,
             bits,
@@ -94,13 +94,13 @@ impl Scale {
     #[inline]
     fn count(&self, float: u64) -> u64
         requires { float_bits float ≤ self.now.most }
-        ensures count { result ≡ float_count (bit_length 2098 (units self.now.most)) self.now.bits float }
+        ensures count { result ≡ float_count (binary_length 2098 (units self.now.most)) self.now.bits float }
         ensures fits { result ≤ 2 ^ self.now.bits }
     {
-        let bits = float_bits(float);
-        let lifted = significand(bits) << self.lift;
-        let places = (self.rise - exponent(bits)).min(63);
-        nearest(lifted, places)
+        let bits = clear_zero_sign(float);
+        let lifted = read_significand(bits) << self.lift;
+        let places = (self.rise - read_exponent(bits)).min(63);
+        shift_to_nearest(lifted, places)
     }
 
     /// Writes the count of each float into `counts`.
@@ -130,7 +130,7 @@ impl Scale {
 
 /// Returns the bits of a float, and 0 for negative zero.
 #[inline]
-fn float_bits(float: u64) -> u64
+fn clear_zero_sign(float: u64) -> u64
     ensures { result ≡ float_bits float }
 {
     if float == NEGATIVE_ZERO { 0 } else { float }
@@ -138,7 +138,7 @@ fn float_bits(float: u64) -> u64
 
 /// Returns the significand of a finite float that is at least 0, as a whole number.
 #[inline]
-fn significand(bits: u64) -> u64
+fn read_significand(bits: u64) -> u64
     ensures { result ≡ significand bits }
 {
     if bits < LEADING {
@@ -150,7 +150,7 @@ fn significand(bits: u64) -> u64
 
 /// Returns the exponent field of a finite float that is at least 0, or 1 if the float is subnormal.
 #[inline]
-fn exponent(bits: u64) -> u64
+fn read_exponent(bits: u64) -> u64
     ensures { result ≡ exponent bits }
 {
     (bits / LEADING).max(1)
@@ -160,7 +160,7 @@ fn exponent(bits: u64) -> u64
 ///
 /// The caller proves that the number is below `2^62`.
 #[inline]
-fn nearest(number: u64, places: u64) -> u64
+fn shift_to_nearest(number: u64, places: u64) -> u64
     requires small { number < 2 ^ 62 }
     requires few { places ≤ 63 }
     ensures { result ≡ nearest number (2 ^ places) }
@@ -172,12 +172,12 @@ fn nearest(number: u64, places: u64) -> u64
 /// Returns the bits of the greatest float, or 0 if there are no floats.
 ///
 /// If a float is negative, infinite or NaN, these bits are at least those of infinity.
-fn greatest_bits(floats: &[u64]) -> u64
+fn find_greatest_bits(floats: &[u64]) -> u64
     ensures { result ≡ greatest_bits floats.now }
 {
     let mut most = 0u64;
     for float in floats {
-        most = most.max(float_bits(*float));
+        most = most.max(clear_zero_sign(*float));
     }
     most
 }
@@ -188,14 +188,14 @@ fn greatest_bits(floats: &[u64]) -> u64
 ///
 /// - `Invalid`: a float is negative, infinite or NaN.
 /// - `Empty`: no float is above 0.
-pub fn greatest_float(floats: &[u64]) -> Result<u64, FloatsError>
+pub fn find_greatest_float(floats: &[u64]) -> Result<u64, FloatsError>
     ensures most { IfOk result (λ most. (most ≡ greatest_bits floats.now) × (0 < most) × (most < 2047 * 2 ^ 52)) }
     ensures invalid { IsErrOf result FloatsError.Invalid ↔ (list_all is_probability floats.now ≡ false) }
     ensures empty { IsErrOf result FloatsError.Empty
         ↔ ((list_all is_probability floats.now ≡ true) × (greatest_units floats.now ≡ 0)) }
     ensures memory { IsErrOf result FloatsError.Memory → ⊥ }
 {
-    let most = greatest_bits(floats);
+    let most = find_greatest_bits(floats);
     if most >= INFINITY {
         return Err(FloatsError::Invalid);
     }
@@ -217,7 +217,7 @@ fn sum_of(counts: &[u32]) -> u128
 }
 
 /// Returns the number of bits of the greatest count, where the counts add up to `total` with 31 bits.
-fn quick_bits(total: u128) -> u64
+fn choose_bits(total: u128) -> u64
     ensures bits { result ≡ quick_bits total }
     ensures few { result ≤ 31 }
 {
@@ -253,7 +253,7 @@ pub fn counts_of_floats(alloc: Global, floats: &[u64]) -> Result<Vec<u64>, Float
     ensures memory { IsErrOf result FloatsError.Memory
         → (list_all is_probability floats.now ≡ true) × (0 < greatest_units floats.now) }
 {
-    let most = greatest_float(floats)?;
+    let most = find_greatest_float(floats)?;
     let scale = Scale::new(most, 62);
     let mut counts = vec![in alloc; 0u64; floats.len()]?;
     scale.put_all_above_0(floats, &mut counts);
@@ -295,9 +295,9 @@ pub fn put_quick_counts(floats: &[u64], counts: &mut [u32]) -> Result<(), Floats
         ↔ ((list_all is_probability floats.now ≡ true) × (greatest_units floats.now ≡ 0)) }
     ensures memory { IsErrOf result FloatsError.Memory → ⊥ }
 {
-    let most = greatest_float(floats)?;
+    let most = find_greatest_float(floats)?;
     Scale::new(most, 31).put(floats, counts);
-    let bits = quick_bits(sum_of(counts));
+    let bits = choose_bits(sum_of(counts));
     if bits < 31 {
         Scale::new(most, bits).put(floats, counts);
     }

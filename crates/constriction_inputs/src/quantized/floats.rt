@@ -11,7 +11,7 @@ ghost use Rattle.constriction_models.specs.Floats.{quick_counts};
 use crate::quantized::counts::put_weights_of_counts;
 use crate::refusal::Refusal;
 use constriction_models::floats::{
-    FloatsError, counts_of_floats, greatest_float, put_quick_counts,
+    FloatsError, counts_of_floats, find_greatest_float, put_quick_counts,
 };
 use constriction_words::{BitArray, WordOf};
 use std::alloc::Global;
@@ -118,7 +118,7 @@ fn is_row<const PRECISION: usize>(row: &[u64]) -> bool
     if row.len() >= 1usize << PRECISION {
         return false;
     }
-    greatest_float(row).is_ok()
+    find_greatest_float(row).is_ok()
 }
 
 /// Writes the counts of `count` rows of `width` floats into `counts`, one row after another.
@@ -126,7 +126,7 @@ fn is_row<const PRECISION: usize>(row: &[u64]) -> bool
 /// The caller proves that `floats` has `count` rows, that each row has counts, and that `counts` has the same length.
 fn put_rows<const PRECISION: usize>(floats: &[u64], width: usize, count: usize, counts: &mut [u32])
     requires counted { length floats.now ≡ width * count }
-    requires same { length counts.now ≡ length floats.now }
+    requires room { length counts.now ≡ length floats.now }
     requires rows { AreFloatRows PRECISION width count floats.now }
     ensures { counts.new ≡ counts_of_rows width count floats.now }
 {
@@ -140,8 +140,8 @@ fn put_rows<const PRECISION: usize>(floats: &[u64], width: usize, count: usize, 
 
 /// Writes the counts of a row. The caller proves that the row has counts, and that both lists have the same length.
 fn put_row<const PRECISION: usize>(row: &[u64], counts: &mut [u32])
-    requires row { IsFloatRow PRECISION row.now }
-    requires same { length row.now ≡ length counts.now }
+    requires fit { IsFloatRow PRECISION row.now }
+    requires room { length row.now ≡ length counts.now }
     ensures { counts.new ≡ quick_counts row.now }
 {
     put_quick_counts(row, counts).unwrap()

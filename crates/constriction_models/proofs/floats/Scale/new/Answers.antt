@@ -5,10 +5,10 @@ use Rattle.constriction_models.proofs.Floating.{scale_lifts, exponent_few}
 use Rattle.constriction_models.proofs.floats.Scale.new.Goals as goal
 
 pub overflow_sub-lift : goal.overflow_sub-lift
-overflow_sub-lift c = rw c.significand.ensures (scale_lifts c.args.most c.requires.some c.requires.finite)
+overflow_sub-lift c = rw c.read_significand.ensures (scale_lifts c.args.most c.requires.some c.requires.finite)
 
 pub overflow_add-rise : goal.overflow_add-rise
-overflow_add-rise c = omega (arith, c.exponent.ensures, exponent_few c.args.most c.requires.finite)
+overflow_add-rise c = omega (arith, c.read_exponent.ensures, exponent_few c.args.most c.requires.finite)
 
 pub invariant_of-result : goal.invariant_of-result
 invariant_of-result c =
@@ -18,7 +18,7 @@ invariant_of-result c =
         some = c.requires.some;
         finite = c.requires.finite;
         few = c.requires.few;
-        lifted = rw c.significand.ensures (omega (arith, lifts));
-        risen = rw c.exponent.ensures;
+        lifted = rw c.read_significand.ensures (omega (arith, lifts));
+        risen = rw c.read_exponent.ensures;
       };
     }

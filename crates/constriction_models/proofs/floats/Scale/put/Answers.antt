@@ -1,5 +1,5 @@
 use Rattle.std.proofs.Common.{◌<◌, length, ◌∙◌, arith}
-use Rattle.constriction_models.specs.Floats.{float_count, bit_length, units}
+use Rattle.constriction_models.specs.Floats.{float_count, binary_length, units}
 use Rattle.constriction_models.proofs.Floating.{reaches_most, counts_are, put_all}
 use Rattle.constriction_models.proofs.floats.Scale.put.Goals as goal
 
@@ -11,5 +11,5 @@ count-requires c =
 pub returns : goal.returns
 returns c =
     let s = c.args.self.now in
-    put_all (float_count (bit_length 2098 (units s.most)) s.bits) c.args.floats.now c.loop-i.counts c.loop-i.i (omega arith) (omega arith) c.loop-i.invariant.done
+    put_all (float_count (binary_length 2098 (units s.most)) s.bits) c.args.floats.now c.loop-i.counts c.loop-i.i (omega arith) (omega arith) c.loop-i.invariant.done
     ∙ counts_are c.args.floats.now s.most s.bits c.requires.most

@@ -2,7 +2,7 @@ use Rattle.std.proofs.Common.{ℕ, List, max, ap, ◌∙◌, arith}
 use Rattle.std.specs.List.{fold}
 use Rattle.std.proofs.lemmas.List.{take_all}
 use Rattle.constriction_models.specs.Floats.{float_bits, greatest_bits}
-use Rattle.constriction_models.proofs.floats.greatest_bits.Goals as goal
+use Rattle.constriction_models.proofs.floats.find_greatest_bits.Goals as goal
 
 pub returns : goal.returns
 unfolding greatest_bits

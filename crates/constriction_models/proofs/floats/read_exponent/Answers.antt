@@ -1,5 +1,5 @@
 use Rattle.constriction_models.specs.Floats.{exponent}
-use Rattle.constriction_models.proofs.floats.exponent.Goals as goal
+use Rattle.constriction_models.proofs.floats.read_exponent.Goals as goal
 
 pub returns : goal.returns
 unfolding exponent

@@ -1,6 +1,6 @@
 use Rattle.std.proofs.Common.{arith}
 use Rattle.constriction_models.proofs.Floating.{quick_bits_few, quick_bits_fewer, quick_length}
-use Rattle.constriction_models.proofs.floats.quick_bits.Goals as goal
+use Rattle.constriction_models.proofs.floats.choose_bits.Goals as goal
 
 pub returns-then-total-clause-bits : goal.returns-then-total-clause-bits
 returns-then-total-clause-bits c = quick_bits_few c.args.total (omega arith)

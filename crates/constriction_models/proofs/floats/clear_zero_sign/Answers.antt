@@ -1,7 +1,7 @@
 use Rattle.std.proofs.Common.{arith}
 use Rattle.std.proofs.lemmas.Bool.Decides.{nat_tests}
 use Rattle.constriction_models.specs.Floats.{float_bits}
-use Rattle.constriction_models.proofs.floats.float_bits.Goals as goal
+use Rattle.constriction_models.proofs.floats.clear_zero_sign.Goals as goal
 
 pub returns-then-float-eq-NEGATIVE_ZERO : goal.returns-then-float-eq-NEGATIVE_ZERO
 unfolding float_bits

@@ -1,7 +1,7 @@
 use Rattle.std.proofs.Common.{◌≡◌, ◌*◌, ◌%◌, ◌^◌, arith}
 use Rattle.std.proofs.lemmas.Nat.{one_shl, pow_pos}
 use Rattle.constriction_models.proofs.Floating.{nearest_sum}
-use Rattle.constriction_models.proofs.floats.nearest.Goals as goal
+use Rattle.constriction_models.proofs.floats.shift_to_nearest.Goals as goal
 
 pub returns : goal.returns
 returns c =
