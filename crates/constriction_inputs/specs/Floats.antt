@@ -2,6 +2,7 @@
 use Rattle.std.specs.Prelude.{◌≡◌, ℕ, ◌*◌, ◌/◌, ◌<◌, ◌≤◌, ◌^◌, true, List, Result, OnErr, OnOk, length}
 use Rattle.std.specs.List.{flat_map, list_all, range_with_len}
 use Rattle.constriction_models.specs.Floats.{greatest_units, is_probability, quick_counts, weight_counts}
+use Rattle.constriction_inputs.specs.Counts.{AreCountRows}
 use Rattle.constriction_inputs.specs.Mixtures.{row_at_index}
 use Rattle.constriction_inputs.specs.QuantizedCalls.{WritesWeightsOfCounts}
 use Rattle.constriction_inputs.specs.Refusals.{Asks, Otherwise, OnlyNoMemory, NoRefusal}
@@ -36,6 +37,8 @@ counts_of_rows width number floats = flat_map (λ place. quick_counts (row_at_in
 -- The call writes the counts of all rows. After an error, the buffer is unchanged.
 pub record WritesCountsOfFloats (precision width : ℕ) (floats old new : List ℕ) (answer : Result (Unit {0}) Refusal) : Type 0 where
   pub counts : OnOk answer (new ≡ counts_of_rows width (length floats / width) floats)
+  -- The counts of each row have a table.
+  pub tables : OnOk answer (AreCountRows precision width (length floats / width) new)
   pub asked : Asks WrongLength ((length old ≡ length floats) × (length floats ≡ width * (length floats / width)))
       (Asks WrongWeights (AreFloatRows precision width (length floats / width) floats) (Otherwise NoRefusal)) answer
   pub kept : OnErr answer (new ≡ old)

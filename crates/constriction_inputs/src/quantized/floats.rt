@@ -3,7 +3,7 @@
 //! Each float is given by its bits (IEEE 754 binary64). The calls compute in integers, so every machine writes the same
 //! numbers.
 
-ghost use Rattle.std.specs.Prelude.{◌≡◌, ◌↔◌, ◌*◌, ◌<◌, ◌≤◌, ◌/◌, ◌^◌, length, map, IsTrue};
+ghost use Rattle.std.specs.Prelude.{◌≡◌, ◌↔◌, ◌*◌, ◌<◌, ◌≤◌, ◌/◌, length, map, IsTrue};
 ghost use Rattle.constriction_inputs.specs.Floats.{AreFloatRows, IsFloatRow, WritesCountsOfFloats, WritesWeightsOfFloats};
 ghost use Rattle.constriction_inputs.specs.Floats.{counts_of_rows};
 ghost use Rattle.constriction_models.specs.Floats.{quick_counts};

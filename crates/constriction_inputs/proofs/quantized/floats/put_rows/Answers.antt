@@ -1,9 +1,7 @@
-use Rattle.std.proofs.Common.{◌≡◌, ◌∙◌, ◌+◌, ◌*◌, ◌-◌, ◌<◌, ◌≤◌, ◌++◌, ℕ, List, drop, length, take, ap, arith, rules}
+use Rattle.std.proofs.Common.{◌≡◌, ◌∙◌, ◌+◌, ◌-◌, ◌≤◌, ◌++◌, ℕ, List, drop, length, ap, arith, rules}
 use Rattle.std.proofs.lemmas.List.{length-take-le, length-drop}
 use Rattle.std.proofs.lemmas.Slice.{take-put_mid}
-use Rattle.constriction_models.specs.Floats.{quick_counts}
 use Rattle.constriction_inputs.specs.Floats.{counts_of_rows}
-use Rattle.constriction_inputs.specs.Mixtures.{row_at_index}
 use Rattle.constriction_inputs.proofs.FloatCounts.{rows_more}
 use Rattle.constriction_inputs.proofs.MixtureTables.{row_between, row_ends}
 use Rattle.constriction_inputs.proofs.quantized.floats.put_rows.Goals as goal
