@@ -1,9 +1,12 @@
--- Hints, one at a time.
-use Rattle.std.proofs.Common.{◌≡◌, ℕ, ◌+◌, ◌*◌, ◌<◌, ◌≤◌, List, [], ◌∷◌, ◌++◌, length, get_or, refl, inl, inr, ap, arith, length-append, below_more, add-one}
-use Rattle.std.proofs.lemmas.List.{get_or_push, get_or_append_left}
+-- Hints and rows, one at a time.
+use Rattle.std.proofs.Common.{◌≡◌, ℕ, ◌+◌, ◌*◌, ◌<◌, ◌≤◌, List, [], ◌∷◌, ◌++◌, length, map, get_or, refl, sym, ◌∙◌, subst, inl, inr, ap, arith, length-append, below_more, add-one}
+use Rattle.std.proofs.lemmas.List.{get_or_push, get_or_append_left, get_or-map, length-map, map_push}
 use Rattle.std.proofs.lemmas.Bool.{cases_lt}
+use Rattle.constriction_base.specs.Tables.{IsRising, weights_between}
 use Rattle.constriction_base.specs.laws.Weights.{ends_inside, ends_at}
-use Rattle.constriction_base.specs.Hints.{IsHint, AreHints}
+use Rattle.constriction_base.specs.Hints.{IsHint, AreHints, IsRow, AreRows}
+use Rattle.constriction_base.specs.declared.weights.rows.Row.{Row}
+use Rattle.constriction_base.proofs.Entries.{ends}
 
 -- no hint yet
 pub no_hints : (starts : List ℕ) (high width : ℕ) → AreHints starts high width []
@@ -66,3 +69,63 @@ none_above hints symbol lower k h = below k (omega (arith, length-append hints (
     below = below_more (λ k. get_or (hints ++ symbol ∷ []) k 0 ≤ symbol) (length hints)
         (λ k h. omega (arith, lower k h, get_or_append_left hints (symbol ∷ []) 0 k h))
         (omega (arith, get_or_push hints symbol 0 (length hints) refl))
+
+-- ---- rows
+
+-- the symbols of rows
+abbrev pub symbols_of : {P : Type 0} → List (Row P) → List ℕ
+symbols_of rows = map (λ (row : Row _). row.symbol) rows
+
+-- one more row, whose symbol is the next hint
+pub rows_hint : {P : Type 0} (starts : List ℕ) (high width : ℕ) (rows : List (Row P)) (row : Row P) → AreHints starts high width (symbols_of rows)
+    → ((k : ℕ) → k < length (symbols_of rows) → get_or (symbols_of rows) k 0 ≤ row.symbol) → IsHint starts high (length rows * width) row.symbol
+    → AreHints starts high width (symbols_of (rows ++ row ∷ []))
+rows_hint {P} starts high width rows row before lower hint =
+    rw (map_push (λ (r : Row P). r.symbol) rows row) (hints_push starts high width (symbols_of rows) row.symbol before lower (rw (length-map rows (λ (r : Row P). r.symbol)) hint))
+
+pub rows_none_above : {P : Type 0} (rows : List (Row P)) (row : Row P) → ((k : ℕ) → k < length (symbols_of rows) → get_or (symbols_of rows) k 0 ≤ row.symbol)
+    → (k : ℕ) → k < length (symbols_of (rows ++ row ∷ [])) → get_or (symbols_of (rows ++ row ∷ [])) k 0 ≤ row.symbol
+rows_none_above {P} rows row lower = rw (map_push (λ (r : Row P). r.symbol) rows row) (none_above (symbols_of rows) row.symbol lower)
+
+-- and whose interval is that of its symbol
+pub rows_push : {P : Type 0} (number : P → ℕ) (starts : List ℕ) (high : ℕ) (rows : List (Row P)) (row : Row P) → AreRows number starts high rows → IsRow number starts high row
+    → AreRows number starts high (rows ++ row ∷ [])
+rows_push {P} number starts high rows row before is k other within = elim (cases_lt k (length rows)) [
+  | inl old ↦ subst (λ (r : Row P). IsRow number starts high r) (sym (get_or_append_left rows (row ∷ []) other k old)) (before k other old)
+  | inr new ↦ subst (λ (r : Row P). IsRow number starts high r) (sym (get_or_push rows row other k (omega (arith, length-append rows (row ∷ []))))) is
+]
+
+-- the symbol of a row that was read
+pub row_symbol : {P : Type 0} (rows : List (Row P)) (row : Row P) (k : ℕ) → k < length rows → row ≡ get_or rows k row → row.symbol ≡ get_or (symbols_of rows) k 0
+row_symbol {P} rows row k within is = ap (λ (r : Row P). r.symbol) is ∙ sym (get_or-map (λ (r : Row P). r.symbol) rows k row 0 within)
+
+-- it is the hint of its place
+pub row_hint : {P : Type 0} (starts : List ℕ) (high width : ℕ) (rows : List (Row P)) (row : Row P) (k : ℕ) → AreHints starts high width (symbols_of rows) → k < length rows
+    → row ≡ get_or rows k row → IsHint starts high (k * width) row.symbol
+row_hint {P} starts high width rows row k are within is =
+    rw (row_symbol rows row k within is) (are.each k (omega (arith, within, length-map rows (λ (r : Row P). r.symbol))))
+
+-- its interval
+pub row_interval : {P : Type 0} (number : P → ℕ) (starts : List ℕ) (high : ℕ) (rows : List (Row P)) (row : Row P) (k : ℕ) → AreRows number starts high rows → k < length rows
+    → row ≡ get_or rows k row → IsRow number starts high row
+row_interval {P} number starts high rows row k are within is = subst (λ (r : Row P). IsRow number starts high r) (sym is) (are k row within)
+
+-- and it begins at or below each quantile of its bucket
+pub row_from : {P : Type 0} (number : P → ℕ) (starts : List ℕ) (high width : ℕ) (rows : List (Row P)) (row : Row P) (k q : ℕ) → AreHints starts high width (symbols_of rows)
+    → AreRows number starts high rows → k < length rows → row ≡ get_or rows k row → k * width ≤ q → number row.left ≤ q
+row_from number starts high width rows row k q hinted listed within is above =
+    omega (arith, above, (row_interval number starts high rows row k listed within is).0, (row_hint starts high width rows row k hinted within is).from)
+
+-- a quantile behind the interval of its bucket's row lies at or behind the next symbol's start
+pub after_row : (starts : List ℕ) (high symbol top l w q : ℕ) → IsRising starts high → symbol < top + 1 → top + 1 ≤ length starts
+    → l ≡ get_or starts symbol 0 → w ≡ get_or (weights_between starts high) symbol 0 → l + w ≤ q → q < get_or starts (top + 1) high
+    → (symbol + 1 < top + 1) × (get_or starts (symbol + 1) 0 ≤ q)
+after_row starts high symbol top l w q rising order within left weight past below =
+    let end = ends starts high symbol l w rising (omega arith) left weight in
+    elim (cases_lt symbol top) [
+      | inl less ↦ (omega arith, omega (arith, past, end, ends_inside starts high symbol (symbol + 1) refl (omega arith)))
+      | inr more ↦ (
+          let same : top ≡ symbol = omega arith in
+          let upper : q < get_or starts (symbol + 1) high = rw same at below in
+          absurd (omega (arith, past, end, rw add-one at upper)))
+    ]

@@ -1,6 +1,6 @@
 //! `WeightTable`: a model built from the weights of its symbols.
 //!
-//! A table stores the start of each symbol's interval, hints that speed up decoding, and optionally the reciprocal of
+//! A table stores the start of each symbol's interval, rows that speed up decoding, and optionally the reciprocal of
 //! each weight. Each of these lists takes one allocation. The table cuts off weights of 0 at the end of the list of
 //! weights, so that the start of each remaining symbol fits `Probability`. Contracts describe a table by its list of
 //! entries (`entries` in `specs/WeightTables.antt`).
@@ -12,20 +12,20 @@
 //! for each symbol. With a table from `new`, at a precision of at most 63 bits, the encoder never divides if its state
 //! has at most 64 bits.
 
-mod hints;
+mod rows;
 pub mod starts;
 
 ghost use Rattle.std.specs.Prelude.{◌≡◌, ◌≢◌, ◌+◌, ◌-◌, ◌*◌, ◌^◌, ◌<◌, ◌≤◌, ◌↔◌, [], length, map, sum_by, slice_index};
 ghost use Rattle.std.specs.Prelude.{OnOk, IfOk, IfSome, IfNone, IsErrOf};
 ghost use Rattle.constriction_base.specs.Tables.{Has, Impossible, IsRising, table_of, weights_between};
-ghost use Rattle.constriction_base.specs.Hints.{AreHints};
+ghost use Rattle.constriction_base.specs.Hints.{AreHints, AreRows};
 ghost use Rattle.constriction_base.specs.Reciprocals.{AreReciprocals};
 ghost use Rattle.constriction_words.specs.Reciprocals.{IsReciprocalOf};
 ghost use Rattle.constriction_base.specs.declared.weights.TableError.TheVariants as errors;
 
 use crate::model::{DecoderModel, EncoderModel, EntropyModel};
-use crate::weights::hints::{hints_of, shift_for};
-use crate::weights::starts::{known_symbols, ones, starts_of};
+use crate::weights::rows::{Row, rows_of, shift_for};
+use crate::weights::starts::{known_symbols, starts_of, weight_of};
 use constriction_words::{BitArray, Reciprocal};
 use std::alloc::{AllocError, Global};
 use thiserror::Error;
@@ -65,8 +65,9 @@ impl From<AllocError> for TableError {
 /// weight is 0, or if the list has no weight for it.
 ///
 /// A decoder finds a quantile's symbol in two stages. All quantiles with the same high bits form a bucket. The table
-/// stores the symbol of each bucket's first quantile. A binary search then finds the quantile's symbol between this
-/// symbol and the symbol of the next bucket's first quantile. If the two symbols are equal, there is nothing to search.
+/// stores the symbol of each bucket's first quantile, and the symbol's interval. Most often, this interval holds the
+/// quantile. If it doesn't, a binary search finds the quantile's symbol between the next symbol and the symbol of the
+/// next bucket's first quantile.
 ///
 /// # Examples
 ///
@@ -80,8 +81,8 @@ impl From<AllocError> for TableError {
 pub struct WeightTable<Probability: BitArray, const PRECISION: usize> {
     /// The sum of the weights before each symbol, up to the last symbol with a weight above 0.
     starts: Vec<Probability>,
-    /// The symbol of each bucket's first quantile, followed by the last symbol.
-    hints: Vec<usize>,
+    /// The row of each bucket's first quantile, followed by the row of the last symbol.
+    rows: Vec<Row<Probability>>,
     /// The number of low bits in which the quantiles of a bucket differ.
     shift: u32,
     /// The reciprocal of each symbol's weight, or of 1 if the weight is 0. Empty if the table keeps no reciprocals.
@@ -93,8 +94,10 @@ pub struct WeightTable<Probability: BitArray, const PRECISION: usize> {
     ghost last: { 2 ^ PRECISION - slice_index (map Probability.number starts.items) (length starts.items - 1)
         < 2 ^ Probability.BITS },
     ghost cut: { (shift < PRECISION) × (PRECISION - shift ≤ 63) },
-    ghost buckets: { length hints.items ≡ 2 ^ (PRECISION - shift) + 1 },
-    ghost hinted: { AreHints (map Probability.number starts.items) (2 ^ PRECISION) (2 ^ shift) hints.items },
+    ghost buckets: { length rows.items ≡ 2 ^ (PRECISION - shift) + 1 },
+    ghost hinted: { AreHints (map Probability.number starts.items) (2 ^ PRECISION) (2 ^ shift)
+        (map (λ row. row.symbol) rows.items) },
+    ghost listed: { AreRows Probability.number (map Probability.number starts.items) (2 ^ PRECISION) rows.items },
     ghost inverse: { AreReciprocals
         (weights_between (map Probability.number starts.items) (2 ^ PRECISION)) reciprocals.items },
 }
@@ -111,7 +114,8 @@ impl<Probability: BitArray, const PRECISION: usize> WeightTable<Probability, PRE
     /// symbol with a weight above 0. The table keeps:
     ///
     /// - `n` starts of type `Probability`, one for each of these symbols.
-    /// - At most `4 * n + 1` hints of 8 bytes each, which speed up decoding.
+    /// - At most `4 * n + 1` rows, which speed up decoding. A row takes 16 bytes if `Probability` has at most 32 bits,
+    ///   24 bytes if it has 64 bits, and 48 bytes if it has 128 bits.
     /// - At a precision of at most 63 bits, `n` reciprocals of 24 bytes each. With a reciprocal, an encoder whose state
     ///   has at most 64 bits multiplies instead of dividing by the weight.
     ///
@@ -188,10 +192,10 @@ impl<Probability: BitArray, const PRECISION: usize> WeightTable<Probability, PRE
         };
         let starts = starts_of(alloc, &weights[..known - 1])?;
         let shift = shift_for(known, PRECISION);
-        let hints = hints_of::<Probability, PRECISION>(alloc, &starts, shift)?;
+        let rows = rows_of::<Probability, PRECISION>(alloc, &starts, shift)?;
         Ok(WeightTable {
             starts,
-            hints,
+            rows,
             shift,
             reciprocals: Vec::new(alloc),
         })
@@ -236,7 +240,7 @@ impl<Probability: BitArray, const PRECISION: usize> WeightTable<Probability, PRE
     /// `2 ^ PRECISION`.
     fn bucket(&self, quantile: Probability) -> usize
         requires { Probability.number quantile < 2 ^ PRECISION }
-        ensures within { result + 1 < length self.now.hints.items }
+        ensures within { result + 1 < length self.now.rows.items }
         ensures above { result * 2 ^ self.now.shift ≤ Probability.number quantile }
         ensures below { Probability.number quantile < (result + 1) * 2 ^ self.now.shift }
     {
@@ -261,14 +265,7 @@ impl<Probability: BitArray, const PRECISION: usize> WeightTable<Probability, PRE
         ensures { Probability.number result
             ≡ slice_index (weights_between (map Probability.number self.now.starts.items) (2 ^ PRECISION)) symbol }
     {
-        let start = self.start(symbol);
-        if symbol + 1 < self.starts.len() {
-            self.start(symbol + 1).minus(start)
-        } else {
-            ones::<Probability>(PRECISION)
-                .minus(start)
-                .plus(Probability::unit())
-        }
+        weight_of::<Probability, PRECISION>(&self.starts, symbol)
     }
 
     /// Returns the reciprocal that the table keeps for `symbol`, or `None` if the table keeps none for this symbol.
@@ -351,8 +348,12 @@ impl<Probability: BitArray, const PRECISION: usize> DecoderModel<PRECISION>
         quantile: Probability,
     ) -> (usize, Probability, <Probability as BitArray>::NonZero) {
         let bucket = self.bucket(quantile);
-        let mut low = self.hints[bucket];
-        let mut high = self.hints[bucket + 1] + 1;
+        let row = &self.rows[bucket];
+        if quantile.minus(row.left).is_below(row.weight) {
+            return (row.symbol, row.left, row.weight.to_nonzero().unwrap());
+        }
+        let mut low = row.symbol + 1;
+        let mut high = self.rows[bucket + 1].symbol + 1;
         while high - low > 1 {
             let middle = low + (high - low) / 2;
             if quantile.is_below(self.start(middle)) {

@@ -1,7 +1,8 @@
 //! Computes the starts of intervals from weights, and checks whether the weights add up to `2 ^ PRECISION`.
 
-ghost use Rattle.std.specs.Prelude.{◌≡◌, ◌≢◌, ◌+◌, ◌^◌, ◌<◌, ◌≤◌, length, map, sum_by, IfOk, IfSome, IfNone};
-ghost use Rattle.constriction_base.specs.Tables.{Sums, IsLastSymbol};
+ghost use Rattle.std.specs.Prelude.{◌≡◌, ◌≢◌, ◌+◌, ◌-◌, ◌^◌, ◌<◌, ◌≤◌, length, map, sum_by, slice_index};
+ghost use Rattle.std.specs.Prelude.{IfOk, IfSome, IfNone};
+ghost use Rattle.constriction_base.specs.Tables.{IsLastSymbol, IsRising, Sums, weights_between};
 
 use constriction_words::BitArray;
 use std::alloc::{AllocError, Global};
@@ -71,4 +72,30 @@ pub fn starts_of<Probability: BitArray>(
         starts.push_reserved(left);
     }
     Ok(starts)
+}
+
+/// Returns the weight of `symbol`, which is the length of its interval.
+///
+/// `starts` holds the start of each symbol's interval. The caller proves that `starts` begins with 0, never falls and
+/// stays below `2 ^ PRECISION`, that the last weight fits `Probability`, and that `starts` has a start for `symbol`.
+pub fn weight_of<Probability: BitArray, const PRECISION: usize>(
+    starts: &[Probability],
+    symbol: usize,
+) -> Probability
+    requires sized { (1 ≤ PRECISION) × (PRECISION ≤ Probability.BITS) }
+    requires within { symbol < length starts.now }
+    requires rising { IsRising (map Probability.number starts.now) (2 ^ PRECISION) }
+    requires last { 2 ^ PRECISION - slice_index (map Probability.number starts.now) (length starts.now - 1)
+        < 2 ^ Probability.BITS }
+    ensures { Probability.number result
+        ≡ slice_index (weights_between (map Probability.number starts.now) (2 ^ PRECISION)) symbol }
+{
+    let start = starts[symbol];
+    if symbol + 1 < starts.len() {
+        starts[symbol + 1].minus(start)
+    } else {
+        ones::<Probability>(PRECISION)
+            .minus(start)
+            .plus(Probability::unit())
+    }
 }

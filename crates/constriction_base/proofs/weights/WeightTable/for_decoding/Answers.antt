@@ -46,11 +46,25 @@ returns-clause-ok g c =
     let l = c.in-Some.ensures.ok in
     same_table _ _ _ _ _ (number_sums number _ _ _ _ _ l c.in_ok-starts.ensures) (last_of_numbers number _ _ _ _ l)
 
-pub hints_of-requires-clause-rising : goal.hints_of-requires-clause-rising
-hints_of-requires-clause-rising g c =
+pub rows_of-requires-clause-rising : goal.rows_of-requires-clause-rising
+rows_of-requires-clause-rising g c =
     let number = g.Probability.BitArray.number in
     let l = c.in-Some.ensures.ok in
     rw c.deref.ensures.value (sums_rise _ _ _ _ _ (number_sums number _ _ _ _ _ l c.in_ok-starts.ensures) (last_of_numbers number _ _ _ _ l))
+
+pub rows_of-requires-clause-last : goal.rows_of-requires-clause-last
+rows_of-requires-clause-last g c =
+    let number = g.Probability.BitArray.number in
+    let l = c.in-Some.ensures.ok in
+    let sums = all_sums number _ _ _ _ _ l c.in_ok-starts.ensures in
+    let place : length c.in_ok-starts.starts.items - 1 ≡ c.in-Some.known - 1 = omega (arith, sums.len, length-map c.in_ok-starts.starts.items number) in
+    rw (c.deref.ensures.value, place) (omega (arith, sums.each (c.in-Some.known - 1) (omega (arith, l.some)), l.last))
+
+pub invariant_of-result-clause-hinted : goal.invariant_of-result-clause-hinted
+invariant_of-result-clause-hinted g c = rw c.deref.ensures.value at c.in_ok-rows.ensures.hints
+
+pub invariant_of-result-clause-listed : goal.invariant_of-result-clause-listed
+invariant_of-result-clause-listed g c = rw c.deref.ensures.value at c.in_ok-rows.ensures.rows
 
 -- ---- refusals, and sizes
 
@@ -87,20 +101,20 @@ shift_for-shift-requires-clause-some g c = c.in-Some.ensures.ok.some
 pub shift_for-shift-requires-clause-within : goal.shift_for-shift-requires-clause-within
 shift_for-shift-requires-clause-within g c = (c.requires.0, omega (arith, c.requires.1, g.met.Probability.BitArray.bits_law.1))
 
-pub hints_of-requires-clause-sized : goal.hints_of-requires-clause-sized
-hints_of-requires-clause-sized g c = c.requires
+pub rows_of-requires-clause-sized : goal.rows_of-requires-clause-sized
+rows_of-requires-clause-sized g c = c.requires
 
-pub hints_of-requires-clause-within : goal.hints_of-requires-clause-within
-hints_of-requires-clause-within g c = (c.shift_for-shift.ensures.within, c.shift_for-shift.ensures.fits)
+pub rows_of-requires-clause-within : goal.rows_of-requires-clause-within
+rows_of-requires-clause-within g c = (c.shift_for-shift.ensures.within, c.shift_for-shift.ensures.fits)
 
-pub returns-in_err-hints-clause-ok : goal.returns-in_err-hints-clause-ok
-returns-in_err-hints-clause-ok g c = none_made _ _ c.from_residual-in_err-hints.ensures.0
+pub returns-in_err-rows-clause-ok : goal.returns-in_err-rows-clause-ok
+returns-in_err-rows-clause-ok g c = none_made _ _ c.from_residual-in_err-rows.ensures.0
 
-pub returns-in_err-hints-clause-total : goal.returns-in_err-hints-clause-total
-returns-in_err-hints-clause-total g c = either_way _ c.in-Some.ensures.ok.total_of
+pub returns-in_err-rows-clause-total : goal.returns-in_err-rows-clause-total
+returns-in_err-rows-clause-total g c = either_way _ c.in-Some.ensures.ok.total_of
 
-pub returns-in_err-hints-clause-memory : goal.returns-in_err-hints-clause-memory
-returns-in_err-hints-clause-memory g c = λ _. c.in-Some.ensures.ok.total_of
+pub returns-in_err-rows-clause-memory : goal.returns-in_err-rows-clause-memory
+returns-in_err-rows-clause-memory g c = λ _. c.in-Some.ensures.ok.total_of
 
 pub invariant_of-result-clause-positive : goal.invariant_of-result-clause-positive
 invariant_of-result-clause-positive g c = c.requires.0

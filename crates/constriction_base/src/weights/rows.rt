@@ -1,8 +1,8 @@
-//! Hints: the symbols at which a decoder's search for a quantile's symbol begins and ends.
+//! Rows of buckets, in which a decoder looks up a quantile's symbol.
 //!
-//! All quantiles with the same high bits form a bucket. A bucket's hint is the symbol of its first quantile. The search
-//! begins at the hint of the quantile's bucket. It ends at the hint of the next bucket, or at the last symbol if there
-//! is no next bucket.
+//! All quantiles with the same high bits form a bucket. A bucket's row holds the symbol of its first quantile, and the
+//! symbol's interval. If this interval doesn't hold a quantile of the bucket, a search begins at the next symbol. It
+//! ends at the symbol of the next row. The last row, which comes after those of the buckets, holds the last symbol.
 //!
 //! The number of buckets is a power of two. It is at most `2 ^ PRECISION`, and at most 2^63. Let `n` be the number of
 //! symbols up to and including the last symbol with a weight above 0. There are at most `4 * n` buckets. There are more
@@ -10,10 +10,19 @@
 
 ghost use Rattle.std.specs.Prelude.{◌≡◌, ◌+◌, ◌-◌, ◌*◌, ◌^◌, ◌<◌, ◌≤◌, ◌⊎◌, length, map, slice_index, IfOk};
 ghost use Rattle.constriction_base.specs.Tables.{IsRising};
-ghost use Rattle.constriction_base.specs.Hints.{AreHints};
+ghost use Rattle.constriction_base.specs.Hints.{AreHints, AreRows, IsRow};
 
+use crate::weights::starts::weight_of;
 use constriction_words::BitArray;
 use std::alloc::{AllocError, Global};
+
+/// A symbol, the start of its interval and the interval's length.
+#[derive(Drop, Clone, Copy)]
+pub struct Row<Probability: Copy + Drop> {
+    pub left: Probability,
+    pub weight: Probability,
+    pub symbol: usize,
+}
 
 /// Returns the number of low bits in which the quantiles of a bucket differ, in a table of `symbols` symbols.
 ///
@@ -56,35 +65,62 @@ fn symbol_from<Probability: BitArray>(
     symbol
 }
 
-/// Returns the symbol of each bucket's first quantile, followed by the last symbol.
+/// Returns the row of `symbol`.
+///
+/// `starts` holds the start of each symbol's interval. The caller proves that `starts` begins with 0, never falls and
+/// stays below `2 ^ PRECISION`, that the last weight fits `Probability`, and that `starts` has a start for `symbol`.
+fn row_of<Probability: BitArray, const PRECISION: usize>(
+    starts: &[Probability],
+    symbol: usize,
+) -> Row<Probability>
+    requires sized { (1 ≤ PRECISION) × (PRECISION ≤ Probability.BITS) }
+    requires within { symbol < length starts.now }
+    requires rising { IsRising (map Probability.number starts.now) (2 ^ PRECISION) }
+    requires last { 2 ^ PRECISION - slice_index (map Probability.number starts.now) (length starts.now - 1)
+        < 2 ^ Probability.BITS }
+    ensures symbol { result.symbol ≡ symbol }
+    ensures row { IsRow Probability.number (map Probability.number starts.now) (2 ^ PRECISION) result }
+{
+    Row {
+        left: starts[symbol],
+        weight: weight_of::<Probability, PRECISION>(starts, symbol),
+        symbol,
+    }
+}
+
+/// Returns the row of each bucket's first quantile, followed by the row of the last symbol.
 ///
 /// A bucket consists of `2 ^ shift` quantiles that differ only in their lowest `shift` bits. `starts` holds the start
 /// of each symbol's interval. The caller proves that `starts` begins with 0, never falls and stays below
-/// `2 ^ PRECISION`, and that there are from 2 to `2 ^ 63` buckets. The call returns `Err(AllocError)` if there is no
-/// memory for the result.
-pub fn hints_of<Probability: BitArray, const PRECISION: usize>(
+/// `2 ^ PRECISION`, that the last weight fits `Probability`, and that there are from 2 to `2 ^ 63` buckets. The call
+/// returns `Err(AllocError)` if there is no memory for the result.
+pub fn rows_of<Probability: BitArray, const PRECISION: usize>(
     alloc: Global,
     starts: &[Probability],
     shift: u32,
-) -> Result<Vec<usize>, AllocError>
+) -> Result<Vec<Row<Probability>>, AllocError>
     requires sized { (1 ≤ PRECISION) × (PRECISION ≤ Probability.BITS) }
     requires some { 0 < length starts.now }
     requires rising { IsRising (map Probability.number starts.now) (2 ^ PRECISION) }
+    requires last { 2 ^ PRECISION - slice_index (map Probability.number starts.now) (length starts.now - 1)
+        < 2 ^ Probability.BITS }
     requires within { (shift < PRECISION) × (PRECISION - shift ≤ 63) }
-    ensures count { IfOk result (λ hints. length hints.items ≡ 2 ^ (PRECISION - shift) + 1) }
-    ensures ok { IfOk result (λ hints.
-        AreHints (map Probability.number starts.now) (2 ^ PRECISION) (2 ^ shift) hints.items) }
+    ensures count { IfOk result (λ rows. length rows.items ≡ 2 ^ (PRECISION - shift) + 1) }
+    ensures hints { IfOk result (λ rows. AreHints (map Probability.number starts.now) (2 ^ PRECISION) (2 ^ shift)
+        (map (λ row. row.symbol) rows.items)) }
+    ensures rows { IfOk result (λ rows.
+        AreRows Probability.number (map Probability.number starts.now) (2 ^ PRECISION) rows.items) }
 {
     let count = 1usize << (PRECISION as u32 - shift);
     let width = Probability::unit().shift_left(shift);
     let mut first = Probability::nothing();
     let mut symbol = 0;
-    let mut hints = Vec::with_capacity(alloc, count + 1)?;
+    let mut rows = Vec::with_capacity(alloc, count + 1)?;
     for bucket in 0..count {
         symbol = symbol_from(starts, symbol, first);
-        hints.push_reserved(symbol);
+        rows.push_reserved(row_of::<Probability, PRECISION>(starts, symbol));
         first = first.wrapping_plus(width);
     }
-    hints.push_reserved(starts.len() - 1);
-    Ok(hints)
+    rows.push_reserved(row_of::<Probability, PRECISION>(starts, starts.len() - 1));
+    Ok(rows)
 }

@@ -1,6 +1,6 @@
 use Rattle.std.proofs.Common.{◌≡◌, ℕ, ◌+◌, ◌-◌, ◌*◌, ◌^◌, ◌<◌, ◌≤◌, ◌⊎◌, inl, inr, min, arith, pow-add, pow_mono}
 use Rattle.std.proofs.lemmas.Bool.{cases_lt}
-use Rattle.constriction_base.proofs.weights.hints.shift_for.Goals as goal
+use Rattle.constriction_base.proofs.weights.rows.shift_for.Goals as goal
 
 -- two bits more are four times as many
 four_times : (log : ℕ) → 2 ^ (log + 2) ≡ 4 * 2 ^ log

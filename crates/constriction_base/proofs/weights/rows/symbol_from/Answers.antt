@@ -1,5 +1,5 @@
 use Rattle.std.proofs.Common.{arith}
-use Rattle.constriction_base.proofs.weights.hints.symbol_from.Goals as goal
+use Rattle.constriction_base.proofs.weights.rows.symbol_from.Goals as goal
 
 pub loop-symbol-init : goal.loop-symbol-init
 loop-symbol-init g c = record { order = omega arith; within = c.requires.within; above = c.requires.above }

@@ -4,11 +4,11 @@ use Rattle.std.proofs.Math.Pow.{pow_mono}
 use Rattle.std.proofs.lemmas.List.{length-map}
 use Rattle.constriction_base.specs.laws.Weights.{ends_at}
 use Rattle.constriction_base.specs.Hints.{IsHint}
-use Rattle.constriction_base.proofs.HintLemmas.{hints_push, hint_of, none_above, no_hints}
+use Rattle.constriction_base.proofs.HintLemmas.{hint_of, no_hints, symbols_of, rows_hint, rows_none_above, rows_push}
 use Rattle.constriction_base.proofs.Results.{none_made}
 use Rattle.std.proofs.Common.{sym}
 use Rattle.constriction_base.proofs.Heads.{pow-split}
-use Rattle.constriction_base.proofs.weights.hints.hints_of.Goals as goal
+use Rattle.constriction_base.proofs.weights.rows.rows_of.Goals as goal
 
 -- one, moved up to a place within the bits
 one_below : (one shift bits : ℕ) → one ≡ 1 → shift + 1 ≤ bits → one * 2 ^ shift < 2 ^ bits
@@ -50,42 +50,52 @@ loop-bucket-preserved g c =
     let len = length-map c.args.starts.now number in
     let i = c.loop-bucket.invariant in
     let s = c.symbol_from-symbol.ensures in
-    let hints = c.loop-bucket.hints.items in
+    let rows = c.loop-bucket.rows.items in
     let symbol = c.symbol_from-symbol.result in
+    let row = c.row_of.result in
+    let told = c.row_of.ensures.symbol in
     let place = bucket_below c.loop-bucket.bucket (2 ^ (g.row.PRECISION - c.args.shift)) (2 ^ c.args.shift) (2 ^ g.row.PRECISION) (omega (arith, c.loop-bucket-test.true)) (pow_pos c.args.shift) (pow-split g.row.PRECISION c.args.shift (omega (arith, c.requires.within.0))) in
     let first = at_place _ _ g.row.PRECISION _ place c.requires.sized.1 i.first in
-    let lower : (k : ℕ) → k < length hints → get_or hints k 0 ≤ symbol = λ k h. omega (arith, i.lower k h, s.order) in
+    let lower : (k : ℕ) → k < length (symbols_of rows) → get_or (symbols_of rows) k 0 ≤ row.symbol = λ k h. omega (arith, i.lower k h, s.order, told) in
     let hint : IsHint starts (2 ^ g.row.PRECISION) (c.loop-bucket.bucket * 2 ^ c.args.shift) symbol =
     hint_of starts (2 ^ g.row.PRECISION) (c.loop-bucket.bucket * 2 ^ c.args.shift) symbol (omega (arith, s.within, len)) (omega (arith, s.above, first)) (omega (arith, place)) (λ more. omega (arith, first, s.below (omega (arith, more, len)))) in
     record {
       first = next_place (number c.loop-bucket.first) (number c.shift_left-width.result) (number c.unit.result) c.args.shift c.loop-bucket.bucket (2 ^ g.Probability.BitArray.BITS) _ first c.unit.ensures c.shift_left-width.ensures c.wrapping_plus-first.ensures;
       known = omega (arith, s.within, len);
       from = omega (arith, s.above, first);
-      len = rw c.push_reserved.ensures.items (omega (arith, i.len, length-append hints (symbol ∷ [])));
+      len = rw c.push_reserved.ensures.items (omega (arith, i.len, length-append rows (row ∷ [])));
       counted = omega (arith, c.push_reserved.ensures.len, i.counted);
       capacity = omega (arith, c.push_reserved.ensures.capacity, i.capacity);
-      hinted = rw c.push_reserved.ensures.items (hints_push starts (2 ^ g.row.PRECISION) (2 ^ c.args.shift) hints symbol i.hinted lower (rw i.len hint));
-      lower = rw c.push_reserved.ensures.items (none_above hints symbol lower);
+      hinted = rw c.push_reserved.ensures.items (rows_hint starts (2 ^ g.row.PRECISION) (2 ^ c.args.shift) rows row i.hinted lower (rw (i.len, told) hint));
+      lower = rw (c.push_reserved.ensures.items, sym told) (rows_none_above rows row lower);
+      listed = rw c.push_reserved.ensures.items (rows_push number starts (2 ^ g.row.PRECISION) rows row i.listed c.row_of.ensures.row);
     }
 
-pub returns-clause-ok : goal.returns-clause-ok
-returns-clause-ok g c =
+pub returns-clause-hints : goal.returns-clause-hints
+returns-clause-hints g c =
     let number = g.Probability.BitArray.number in
     let starts = map number c.args.starts.now in
     let high = 2 ^ g.row.PRECISION in
     let len = length-map c.args.starts.now number in
     let i = c.loop-bucket.invariant in
-    let hints = c.loop-bucket.hints.items in
+    let rows = c.loop-bucket.rows.items in
+    let row = c.row_of-2.result in
+    let told = c.row_of-2.ensures.symbol in
     let last = length c.args.starts.now - 1 in
     let end : c.loop-bucket.bucket ≡ 2 ^ (g.row.PRECISION - c.args.shift) = omega (arith, c.loop-bucket-test.false, c.loop-bucket.auto.bucket-end, pow_mono c.requires.within.1) in
-    let place : length hints * 2 ^ c.args.shift ≡ high = rw (i.len, end) (pow-split g.row.PRECISION c.args.shift (omega (arith, c.requires.within.0))) in
+    let place : length rows * 2 ^ c.args.shift ≡ high = rw (i.len, end) (pow-split g.row.PRECISION c.args.shift (omega (arith, c.requires.within.0))) in
     let inside : last < length starts = omega (arith, len, c.requires.some) in
     let hint : IsHint starts high high last = record {
       known = inside;
       from = omega (arith, c.requires.rising.below last inside);
       to = omega (arith, ends_at starts high last (omega (arith, len)));
     } in
-    rw c.push_reserved-2.ensures.items (hints_push starts high (2 ^ c.args.shift) hints last i.hinted (λ k h. omega (arith, i.lower k h, i.known, len)) (rw place hint))
+    rw c.push_reserved-2.ensures.items (rows_hint starts high (2 ^ c.args.shift) rows row i.hinted (λ k h. omega (arith, i.lower k h, i.known, len, told)) (rw (place, told) hint))
+
+pub returns-clause-rows : goal.returns-clause-rows
+returns-clause-rows g c =
+    let number = g.Probability.BitArray.number in
+    rw c.push_reserved-2.ensures.items (rows_push number (map number c.args.starts.now) (2 ^ g.row.PRECISION) c.loop-bucket.rows.items c.row_of-2.result c.loop-bucket.invariant.listed c.row_of-2.ensures.row)
 
 -- ---- sizes
 
@@ -107,11 +117,14 @@ shift_left-width-requires-clause-within g c = omega (arith, c.requires.within.0,
 pub overflow_add-count : goal.overflow_add-count
 overflow_add-count g c = omega (arith, pow_mono c.requires.within.1)
 
-pub returns-in_err-hints-clause-count : goal.returns-in_err-hints-clause-count
-returns-in_err-hints-clause-count g c = none_made _ _ c.from_residual.ensures.0
+pub returns-in_err-rows-clause-count : goal.returns-in_err-rows-clause-count
+returns-in_err-rows-clause-count g c = none_made _ _ c.from_residual.ensures.0
 
-pub returns-in_err-hints-clause-ok : goal.returns-in_err-hints-clause-ok
-returns-in_err-hints-clause-ok g c = none_made _ _ c.from_residual.ensures.0
+pub returns-in_err-rows-clause-hints : goal.returns-in_err-rows-clause-hints
+returns-in_err-rows-clause-hints g c = none_made _ _ c.from_residual.ensures.0
+
+pub returns-in_err-rows-clause-rows : goal.returns-in_err-rows-clause-rows
+returns-in_err-rows-clause-rows g c = none_made _ _ c.from_residual.ensures.0
 
 pub symbol_from-symbol-requires-clause-within : goal.symbol_from-symbol-requires-clause-within
 symbol_from-symbol-requires-clause-within g c = omega (arith, c.loop-bucket.invariant.known, length-map c.args.starts.now g.Probability.BitArray.number)
@@ -127,8 +140,7 @@ push_reserved-requires-2 g c = omega (arith, c.loop-bucket.invariant.counted, c.
 
 pub returns-clause-count : goal.returns-clause-count
 returns-clause-count g c =
-    let last = length c.args.starts.now - 1 in
-    rw c.push_reserved-2.ensures.items (omega (arith, c.loop-bucket.invariant.len, length-append c.loop-bucket.hints.items (last ∷ []), c.loop-bucket-test.false, c.loop-bucket.auto.bucket-end, pow_mono c.requires.within.1))
+    rw c.push_reserved-2.ensures.items (omega (arith, c.loop-bucket.invariant.len, length-append c.loop-bucket.rows.items (c.row_of-2.result ∷ []), c.loop-bucket-test.false, c.loop-bucket.auto.bucket-end, pow_mono c.requires.within.1))
 
 zero_place : (width all : ℕ) → 0 < all → 0 * width % all ≡ 0
 zero_place width all some =
@@ -138,14 +150,15 @@ zero_place width all some =
 pub loop-bucket-init : goal.loop-bucket-init
 loop-bucket-init g c =
     let number = g.Probability.BitArray.number in
-    let items = c.in_ok-hints.ensures.items in
+    let items = c.in_ok-rows.ensures.items in
     record {
       first = c.nothing-first.ensures ∙ sym (zero_place (2 ^ c.args.shift) (2 ^ g.Probability.BitArray.BITS) (pow_pos g.Probability.BitArray.BITS));
       known = omega (arith, length-map c.args.starts.now number, c.requires.some);
       from = omega (arith, c.requires.rising.first);
       len = ap length items;
-      counted = c.in_ok-hints.ensures.len;
-      capacity = c.in_ok-hints.ensures.exact;
+      counted = c.in_ok-rows.ensures.len;
+      capacity = c.in_ok-rows.ensures.exact;
+      listed = λ k other h. absurd (omega (arith, h, ap length items));
       hinted = rw items (no_hints (map number c.args.starts.now) (2 ^ g.row.PRECISION) (2 ^ c.args.shift));
-      lower = λ k h. absurd (omega (arith, h, ap length items));
+      lower = λ k h. absurd (omega (arith, h, ap (λ rows. length (symbols_of rows)) items));
     }

@@ -1,6 +1,6 @@
 use Rattle.std.proofs.Common.{◌<◌, ◌≤◌, ◌-◌, map, length}
 use Rattle.std.specs.Prelude.{slice_index}
-use Rattle.constriction_base.proofs.weights.hints.symbol_from.Given as goal
+use Rattle.constriction_base.proofs.weights.rows.symbol_from.Given as goal
 
 -- the symbol's interval begins at or below the quantile
 abbrev pub invariant-loop-symbol : goal.invariant-loop-symbol
