@@ -2,7 +2,7 @@
 //!
 //! The calls encode a list from the last item to the first, so that decoding returns the symbols in the list's order.
 
-ghost use Rattle.std.specs.Prelude.{◌≡◌, ◌≤◌, length, IfSome};
+ghost use Rattle.std.specs.Prelude.{◌≡◌, ◌≤◌, length, take, IfSome};
 ghost use Rattle.constriction_base.specs.Steps.{IsSizes};
 ghost use Rattle.constriction_calls.specs.AnsCalls.{AnsEncodesListBy, CodesAlone};
 
@@ -10,6 +10,7 @@ use constriction_inputs::buffers::append;
 use constriction_inputs::items::{ItemList, Items};
 use constriction_inputs::refusal::Refusal;
 use constriction_stack::coder::AnsCoder;
+use constriction_stack::lanes::steps::encode_onto;
 use constriction_words::{BitArray, WordOf};
 use std::alloc::Global;
 
@@ -116,8 +117,7 @@ fn encode_single_item<
 
 /// Encodes as [`encode_items`] does, and finds the interval of an item right before its step.
 ///
-/// The function isn't inlined, so that its loop keeps the coder in registers.
-#[inline(never)]
+/// An item writes at most one word. So the call asks for memory for one word for each item, once.
 fn encode_in_order<
     Word: WordOf<State>,
     State: BitArray,
@@ -129,21 +129,56 @@ fn encode_in_order<
     ensures { IfSome result (λ made. CodesAlone Word.number State.number Word.BITS State.BITS
         (L.list_items list.old) head made.0.items made.1) }
 {
-    let mut coder: AnsCoder<Word, State, Vec<Word>> = AnsCoder::from_raw_parts(
-        Vec::new(alloc),
-        head,
-    );
-    let mut rest = list.count();
+    let Ok(mut words) = vec![in alloc; Word::nothing(); list.count()] else {
+        return None;
+    };
+    let room = words.as_mut_slice();
+    let made = encode_into::<Word, State, P, L, PRECISION>(head, room, list)?;
+    let (new_head, len) = made;
+    words.truncate(len);
+    Some((words, new_head))
+}
+
+/// Encodes all items of `list` from the last to the first, onto the head `head` and no words.
+///
+/// The call writes the words from the beginning of `room` on. Returns the new head and the number of these words, or
+/// `None` if a model has no entry for its symbol. The caller proves that `room` has a word for each item.
+///
+/// Each step writes the next word in any case, and then selects whether it counts. So no branch of the loop depends on
+/// the head. The function isn't inlined, so that its loop keeps the coder in registers.
+#[inline(never)]
+fn encode_into<
+    Word: WordOf<State>,
+    State: BitArray,
+    P: WordOf<Word>,
+    L: ItemList<P, PRECISION>,
+    const PRECISION: usize,
+>(head: State, room: &mut [Word], list: &mut L) -> Option<(State, usize)>
+    requires sizes { IsSizes Word.BITS State.BITS }
+    requires room { length room.now ≡ length (L.list_items list.now) }
+    ensures { IfSome result (λ made. CodesAlone Word.number State.number Word.BITS State.BITS
+        (L.list_items list.old) head (take made.1 room.new) made.0) }
+{
+    let (mut top, mut len) = (head, 0);
+    let mut rest = room.len();
     'items: while rest > 0 {
         let found = list.interval(rest - 1)?;
         let (left, p, reciprocal) = found;
-        match coder.encode_interval::<P, PRECISION>(left, p, reciprocal) {
-            Ok(()) => {}
-            Err(_) => return None,
-        }
+        let p = P::from_nonzero(p);
+        let (next, more) = encode_onto::<Word, State>(
+            top,
+            room,
+            len,
+            left.widen().widen(),
+            p.widen().widen(),
+            reciprocal,
+            PRECISION as u32,
+        );
+        top = next;
+        len = more;
         rest -= 1;
     }
-    Some(coder.into_raw_parts())
+    Some((top, len))
 }
 
 /// Encodes as [`encode_items`] does, and finds the interval of an item before the step of the item behind it.

@@ -1,0 +1,50 @@
+use Rattle.std.proofs.Common.{◌≡◌, ◌∙◌, [], arith, drop, inr, length, refl}
+use Rattle.std.proofs.lemmas.List.{drop_all}
+use Rattle.constriction_inputs.proofs.Places.{is_step, models_more}
+use Rattle.constriction_calls.proofs.AnsPlaces.{codes_more}
+use Rattle.constriction_calls.proofs.ans.encoding.encode_into.Goals as goal
+
+pub items-init : goal.items-init
+items-init g c =
+    let items = g.L.ItemList.list_items c.args.list.now in
+    let count = length c.args.room.now in
+    let end : drop count items ≡ [] = drop_all count items (omega (arith, c.requires.room)) in
+    record {
+      same = refl;
+      within = omega arith;
+      free = omega arith;
+      long = refl;
+      valid = record { state = record { fits = g.met.State.BitArray.number_law c.args.head; are_words = tt }; full = inr refl };
+      models = rw end tt;
+      coded = rw end refl;
+    }
+
+pub overflow_cast-encode_onto : goal.overflow_cast-encode_onto
+overflow_cast-encode_onto g c =
+    let items = g.L.ItemList.list_items c.args.list.now in
+    let step = is_step g.Word.BitArray.BITS g.row.PRECISION g.P.BitArray.BITS g.met.P.WordOf.width_law items c.items.rest c.items-test.true _ _ (rw c.items.invariant.same at c.in_ok-found.ensures.found) in
+    omega (arith, step.within_word, g.met.Word.BitArray.bits_law.1)
+
+pub encode_onto-next-requires-clause-step : goal.encode_onto-next-requires-clause-step
+encode_onto-next-requires-clause-step g c =
+    let items = g.L.ItemList.list_items c.args.list.now in
+    let step = is_step g.Word.BitArray.BITS g.row.PRECISION g.P.BitArray.BITS g.met.P.WordOf.width_law items c.items.rest c.items-test.true _ _ (rw c.items.invariant.same at c.in_ok-found.ensures.found) in
+    rw (c.widen-in-items.ensures, c.widen.ensures, c.widen-in-items-3.ensures, c.widen-in-items-2.ensures, c.from_nonzero-p.ensures) step
+
+pub items-preserved : goal.items-preserved
+items-preserved g c =
+    let w = g.Word.BitArray.BITS in
+    let items = g.L.ItemList.list_items c.args.list.now in
+    let kept = c.items.invariant in
+    let call = c.encode_onto-next in
+    let pushed = rw (c.widen-in-items.ensures, c.widen.ensures, c.widen-in-items-3.ensures, c.widen-in-items-2.ensures, c.from_nonzero-p.ensures) at (call.ensures.encoded kept.valid) in
+    let at = rw kept.same at c.in_ok-found.ensures.found in
+    record {
+      same = c.in_ok-found.ensures.items ∙ kept.same;
+      within = omega (arith, kept.within);
+      free = omega (arith, kept.free, call.ensures.more.1, c.items-test.true);
+      long = call.auto.words ∙ kept.long;
+      valid = pushed.valid;
+      models = models_more w g.row.PRECISION g.P.BitArray.BITS g.met.P.WordOf.width_law items c.items.rest c.items-test.true _ _ at kept.models;
+      coded = codes_more w g.State.BitArray.BITS g.row.PRECISION g.P.BitArray.BITS items c.items.rest c.items-test.true _ _ at _ _ _ kept.coded pushed;
+    }
