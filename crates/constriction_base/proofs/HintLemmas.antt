@@ -4,7 +4,7 @@ use Rattle.std.proofs.lemmas.List.{get_or_push, get_or_append_left, get_or-map, 
 use Rattle.std.proofs.lemmas.Bool.{cases_lt}
 use Rattle.constriction_base.specs.Tables.{IsRising, weights_between}
 use Rattle.constriction_base.specs.laws.Weights.{ends_inside, ends_at}
-use Rattle.constriction_base.specs.Hints.{IsHint, AreHints, IsRow, AreRows}
+use Rattle.constriction_base.specs.Hints.{IsHint, AreHints, IsBucketRow, AreBucketRows}
 use Rattle.constriction_base.specs.declared.weights.rows.Row.{Row}
 use Rattle.constriction_base.proofs.Entries.{ends}
 
@@ -88,11 +88,11 @@ pub rows_none_above : {P : Type 0} (rows : List (Row P)) (row : Row P) → ((k :
 rows_none_above {P} rows row lower = rw (map_push (λ (r : Row P). r.symbol) rows row) (none_above (symbols_of rows) row.symbol lower)
 
 -- and whose interval is that of its symbol
-pub rows_push : {P : Type 0} (number : P → ℕ) (starts : List ℕ) (high : ℕ) (rows : List (Row P)) (row : Row P) → AreRows number starts high rows → IsRow number starts high row
-    → AreRows number starts high (rows ++ row ∷ [])
+pub rows_push : {P : Type 0} (number : P → ℕ) (starts : List ℕ) (high : ℕ) (rows : List (Row P)) (row : Row P) → AreBucketRows number starts high rows → IsBucketRow number starts high row
+    → AreBucketRows number starts high (rows ++ row ∷ [])
 rows_push {P} number starts high rows row before is k other within = elim (cases_lt k (length rows)) [
-  | inl old ↦ subst (λ (r : Row P). IsRow number starts high r) (sym (get_or_append_left rows (row ∷ []) other k old)) (before k other old)
-  | inr new ↦ subst (λ (r : Row P). IsRow number starts high r) (sym (get_or_push rows row other k (omega (arith, length-append rows (row ∷ []))))) is
+  | inl old ↦ subst (λ (r : Row P). IsBucketRow number starts high r) (sym (get_or_append_left rows (row ∷ []) other k old)) (before k other old)
+  | inr new ↦ subst (λ (r : Row P). IsBucketRow number starts high r) (sym (get_or_push rows row other k (omega (arith, length-append rows (row ∷ []))))) is
 ]
 
 -- the symbol of a row that was read
@@ -106,13 +106,13 @@ row_hint {P} starts high width rows row k are within is =
     rw (row_symbol rows row k within is) (are.each k (omega (arith, within, length-map rows (λ (r : Row P). r.symbol))))
 
 -- its interval
-pub row_interval : {P : Type 0} (number : P → ℕ) (starts : List ℕ) (high : ℕ) (rows : List (Row P)) (row : Row P) (k : ℕ) → AreRows number starts high rows → k < length rows
-    → row ≡ get_or rows k row → IsRow number starts high row
-row_interval {P} number starts high rows row k are within is = subst (λ (r : Row P). IsRow number starts high r) (sym is) (are k row within)
+pub row_interval : {P : Type 0} (number : P → ℕ) (starts : List ℕ) (high : ℕ) (rows : List (Row P)) (row : Row P) (k : ℕ) → AreBucketRows number starts high rows → k < length rows
+    → row ≡ get_or rows k row → IsBucketRow number starts high row
+row_interval {P} number starts high rows row k are within is = subst (λ (r : Row P). IsBucketRow number starts high r) (sym is) (are k row within)
 
 -- and it begins at or below each quantile of its bucket
 pub row_from : {P : Type 0} (number : P → ℕ) (starts : List ℕ) (high width : ℕ) (rows : List (Row P)) (row : Row P) (k q : ℕ) → AreHints starts high width (symbols_of rows)
-    → AreRows number starts high rows → k < length rows → row ≡ get_or rows k row → k * width ≤ q → number row.left ≤ q
+    → AreBucketRows number starts high rows → k < length rows → row ≡ get_or rows k row → k * width ≤ q → number row.left ≤ q
 row_from number starts high width rows row k q hinted listed within is above =
     omega (arith, above, (row_interval number starts high rows row k listed within is).0, (row_hint starts high width rows row k hinted within is).from)
 

@@ -15,9 +15,9 @@ pub record AreHints (starts : List ℕ) (high width : ℕ) (hints : List ℕ) : 
   pub rising : (k : ℕ) → k + 1 < length hints → slice_index hints k ≤ slice_index hints (k + 1)
 
 -- The row has the start and the length of its symbol's interval.
-abbrev pub IsRow : {P : Type 0} → (P → ℕ) → List ℕ → ℕ → Row P → Type 0
-IsRow number starts high row = (number row.left ≡ slice_index starts row.symbol) × (number row.weight ≡ slice_index (weights_between starts high) row.symbol)
+abbrev pub IsBucketRow : {P : Type 0} → (P → ℕ) → List ℕ → ℕ → Row P → Type 0
+IsBucketRow number starts high row = (number row.left ≡ slice_index starts row.symbol) × (number row.weight ≡ slice_index (weights_between starts high) row.symbol)
 
 -- Each row of the list has the start and the length of its symbol's interval.
-abbrev pub AreRows : {P : Type 0} → (P → ℕ) → List ℕ → ℕ → List (Row P) → Type 0
-AreRows number starts high rows = (k : ℕ) (other : Row _) → k < length rows → IsRow number starts high (slice_index_or rows k other)
+abbrev pub AreBucketRows : {P : Type 0} → (P → ℕ) → List ℕ → ℕ → List (Row P) → Type 0
+AreBucketRows number starts high rows = (k : ℕ) (other : Row _) → k < length rows → IsBucketRow number starts high (slice_index_or rows k other)

@@ -18,13 +18,13 @@ pub mod starts;
 ghost use Rattle.std.specs.Prelude.{◌≡◌, ◌≢◌, ◌+◌, ◌-◌, ◌*◌, ◌^◌, ◌<◌, ◌≤◌, ◌↔◌, [], length, map, sum_by, slice_index};
 ghost use Rattle.std.specs.Prelude.{OnOk, IfOk, IfSome, IfNone, IsErrOf};
 ghost use Rattle.constriction_base.specs.Tables.{Has, Impossible, IsRising, table_of, weights_between};
-ghost use Rattle.constriction_base.specs.Hints.{AreHints, AreRows};
+ghost use Rattle.constriction_base.specs.Hints.{AreHints, AreBucketRows};
 ghost use Rattle.constriction_base.specs.Reciprocals.{AreReciprocals};
 ghost use Rattle.constriction_words.specs.Reciprocals.{IsReciprocalOf};
 ghost use Rattle.constriction_base.specs.declared.weights.TableError.TheVariants as errors;
 
 use crate::model::{DecoderModel, EncoderModel, EntropyModel};
-use crate::weights::rows::{Row, rows_of, shift_for};
+use crate::weights::rows::{Row, make_rows, shift_for};
 use crate::weights::starts::{known_symbols, starts_of, weight_of};
 use constriction_words::{BitArray, Reciprocal};
 use std::alloc::{AllocError, Global};
@@ -97,7 +97,7 @@ pub struct WeightTable<Probability: BitArray, const PRECISION: usize> {
     ghost buckets: { length rows.items ≡ 2 ^ (PRECISION - shift) + 1 },
     ghost hinted: { AreHints (map Probability.number starts.items) (2 ^ PRECISION) (2 ^ shift)
         (map (λ row. row.symbol) rows.items) },
-    ghost listed: { AreRows Probability.number (map Probability.number starts.items) (2 ^ PRECISION) rows.items },
+    ghost listed: { AreBucketRows Probability.number (map Probability.number starts.items) (2 ^ PRECISION) rows.items },
     ghost inverse: { AreReciprocals
         (weights_between (map Probability.number starts.items) (2 ^ PRECISION)) reciprocals.items },
 }
@@ -192,7 +192,7 @@ impl<Probability: BitArray, const PRECISION: usize> WeightTable<Probability, PRE
         };
         let starts = starts_of(alloc, &weights[..known - 1])?;
         let shift = shift_for(known, PRECISION);
-        let rows = rows_of::<Probability, PRECISION>(alloc, &starts, shift)?;
+        let rows = make_rows::<Probability, PRECISION>(alloc, &starts, shift)?;
         Ok(WeightTable {
             starts,
             rows,

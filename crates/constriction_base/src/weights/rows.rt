@@ -10,7 +10,7 @@
 
 ghost use Rattle.std.specs.Prelude.{◌≡◌, ◌+◌, ◌-◌, ◌*◌, ◌^◌, ◌<◌, ◌≤◌, ◌⊎◌, length, map, slice_index, IfOk};
 ghost use Rattle.constriction_base.specs.Tables.{IsRising};
-ghost use Rattle.constriction_base.specs.Hints.{AreHints, AreRows, IsRow};
+ghost use Rattle.constriction_base.specs.Hints.{AreHints, AreBucketRows, IsBucketRow};
 
 use crate::weights::starts::weight_of;
 use constriction_words::BitArray;
@@ -69,7 +69,7 @@ fn symbol_from<Probability: BitArray>(
 ///
 /// `starts` holds the start of each symbol's interval. The caller proves that `starts` begins with 0, never falls and
 /// stays below `2 ^ PRECISION`, that the last weight fits `Probability`, and that `starts` has a start for `symbol`.
-fn row_of<Probability: BitArray, const PRECISION: usize>(
+fn make_row<Probability: BitArray, const PRECISION: usize>(
     starts: &[Probability],
     symbol: usize,
 ) -> Row<Probability>
@@ -79,7 +79,7 @@ fn row_of<Probability: BitArray, const PRECISION: usize>(
     requires last { 2 ^ PRECISION - slice_index (map Probability.number starts.now) (length starts.now - 1)
         < 2 ^ Probability.BITS }
     ensures symbol { result.symbol ≡ symbol }
-    ensures row { IsRow Probability.number (map Probability.number starts.now) (2 ^ PRECISION) result }
+    ensures row { IsBucketRow Probability.number (map Probability.number starts.now) (2 ^ PRECISION) result }
 {
     Row {
         left: starts[symbol],
@@ -94,7 +94,7 @@ fn row_of<Probability: BitArray, const PRECISION: usize>(
 /// of each symbol's interval. The caller proves that `starts` begins with 0, never falls and stays below
 /// `2 ^ PRECISION`, that the last weight fits `Probability`, and that there are from 2 to `2 ^ 63` buckets. The call
 /// returns `Err(AllocError)` if there is no memory for the result.
-pub fn rows_of<Probability: BitArray, const PRECISION: usize>(
+pub fn make_rows<Probability: BitArray, const PRECISION: usize>(
     alloc: Global,
     starts: &[Probability],
     shift: u32,
@@ -109,7 +109,7 @@ pub fn rows_of<Probability: BitArray, const PRECISION: usize>(
     ensures hints { IfOk result (λ rows. AreHints (map Probability.number starts.now) (2 ^ PRECISION) (2 ^ shift)
         (map (λ row. row.symbol) rows.items)) }
     ensures rows { IfOk result (λ rows.
-        AreRows Probability.number (map Probability.number starts.now) (2 ^ PRECISION) rows.items) }
+        AreBucketRows Probability.number (map Probability.number starts.now) (2 ^ PRECISION) rows.items) }
 {
     let count = 1usize << (PRECISION as u32 - shift);
     let width = Probability::unit().shift_left(shift);
@@ -118,9 +118,9 @@ pub fn rows_of<Probability: BitArray, const PRECISION: usize>(
     let mut rows = Vec::with_capacity(alloc, count + 1)?;
     for bucket in 0..count {
         symbol = symbol_from(starts, symbol, first);
-        rows.push_reserved(row_of::<Probability, PRECISION>(starts, symbol));
+        rows.push_reserved(make_row::<Probability, PRECISION>(starts, symbol));
         first = first.wrapping_plus(width);
     }
-    rows.push_reserved(row_of::<Probability, PRECISION>(starts, starts.len() - 1));
+    rows.push_reserved(make_row::<Probability, PRECISION>(starts, starts.len() - 1));
     Ok(rows)
 }

@@ -46,14 +46,14 @@ returns-clause-ok g c =
     let l = c.in-Some.ensures.ok in
     same_table _ _ _ _ _ (number_sums number _ _ _ _ _ l c.in_ok-starts.ensures) (last_of_numbers number _ _ _ _ l)
 
-pub rows_of-requires-clause-rising : goal.rows_of-requires-clause-rising
-rows_of-requires-clause-rising g c =
+pub make_rows-requires-clause-rising : goal.make_rows-requires-clause-rising
+make_rows-requires-clause-rising g c =
     let number = g.Probability.BitArray.number in
     let l = c.in-Some.ensures.ok in
     rw c.deref.ensures.value (sums_rise _ _ _ _ _ (number_sums number _ _ _ _ _ l c.in_ok-starts.ensures) (last_of_numbers number _ _ _ _ l))
 
-pub rows_of-requires-clause-last : goal.rows_of-requires-clause-last
-rows_of-requires-clause-last g c =
+pub make_rows-requires-clause-last : goal.make_rows-requires-clause-last
+make_rows-requires-clause-last g c =
     let number = g.Probability.BitArray.number in
     let l = c.in-Some.ensures.ok in
     let sums = all_sums number _ _ _ _ _ l c.in_ok-starts.ensures in
@@ -101,11 +101,11 @@ shift_for-shift-requires-clause-some g c = c.in-Some.ensures.ok.some
 pub shift_for-shift-requires-clause-within : goal.shift_for-shift-requires-clause-within
 shift_for-shift-requires-clause-within g c = (c.requires.0, omega (arith, c.requires.1, g.met.Probability.BitArray.bits_law.1))
 
-pub rows_of-requires-clause-sized : goal.rows_of-requires-clause-sized
-rows_of-requires-clause-sized g c = c.requires
+pub make_rows-requires-clause-sized : goal.make_rows-requires-clause-sized
+make_rows-requires-clause-sized g c = c.requires
 
-pub rows_of-requires-clause-within : goal.rows_of-requires-clause-within
-rows_of-requires-clause-within g c = (c.shift_for-shift.ensures.within, c.shift_for-shift.ensures.fits)
+pub make_rows-requires-clause-within : goal.make_rows-requires-clause-within
+make_rows-requires-clause-within g c = (c.shift_for-shift.ensures.within, c.shift_for-shift.ensures.fits)
 
 pub returns-in_err-rows-clause-ok : goal.returns-in_err-rows-clause-ok
 returns-in_err-rows-clause-ok g c = none_made _ _ c.from_residual-in_err-rows.ensures.0

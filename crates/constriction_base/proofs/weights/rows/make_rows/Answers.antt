@@ -8,7 +8,7 @@ use Rattle.constriction_base.proofs.HintLemmas.{hint_of, no_hints, symbols_of, r
 use Rattle.constriction_base.proofs.Results.{none_made}
 use Rattle.std.proofs.Common.{sym}
 use Rattle.constriction_base.proofs.Heads.{pow-split}
-use Rattle.constriction_base.proofs.weights.rows.rows_of.Goals as goal
+use Rattle.constriction_base.proofs.weights.rows.make_rows.Goals as goal
 
 -- one, moved up to a place within the bits
 one_below : (one shift bits : ℕ) → one ≡ 1 → shift + 1 ≤ bits → one * 2 ^ shift < 2 ^ bits
@@ -52,8 +52,8 @@ loop-bucket-preserved g c =
     let s = c.symbol_from-symbol.ensures in
     let rows = c.loop-bucket.rows.items in
     let symbol = c.symbol_from-symbol.result in
-    let row = c.row_of.result in
-    let told = c.row_of.ensures.symbol in
+    let row = c.make_row.result in
+    let told = c.make_row.ensures.symbol in
     let place = bucket_below c.loop-bucket.bucket (2 ^ (g.row.PRECISION - c.args.shift)) (2 ^ c.args.shift) (2 ^ g.row.PRECISION) (omega (arith, c.loop-bucket-test.true)) (pow_pos c.args.shift) (pow-split g.row.PRECISION c.args.shift (omega (arith, c.requires.within.0))) in
     let first = at_place _ _ g.row.PRECISION _ place c.requires.sized.1 i.first in
     let lower : (k : ℕ) → k < length (symbols_of rows) → get_or (symbols_of rows) k 0 ≤ row.symbol = λ k h. omega (arith, i.lower k h, s.order, told) in
@@ -68,7 +68,7 @@ loop-bucket-preserved g c =
       capacity = omega (arith, c.push_reserved.ensures.capacity, i.capacity);
       hinted = rw c.push_reserved.ensures.items (rows_hint starts (2 ^ g.row.PRECISION) (2 ^ c.args.shift) rows row i.hinted lower (rw (i.len, told) hint));
       lower = rw (c.push_reserved.ensures.items, sym told) (rows_none_above rows row lower);
-      listed = rw c.push_reserved.ensures.items (rows_push number starts (2 ^ g.row.PRECISION) rows row i.listed c.row_of.ensures.row);
+      listed = rw c.push_reserved.ensures.items (rows_push number starts (2 ^ g.row.PRECISION) rows row i.listed c.make_row.ensures.row);
     }
 
 pub returns-clause-hints : goal.returns-clause-hints
@@ -79,8 +79,8 @@ returns-clause-hints g c =
     let len = length-map c.args.starts.now number in
     let i = c.loop-bucket.invariant in
     let rows = c.loop-bucket.rows.items in
-    let row = c.row_of-2.result in
-    let told = c.row_of-2.ensures.symbol in
+    let row = c.make_row-2.result in
+    let told = c.make_row-2.ensures.symbol in
     let last = length c.args.starts.now - 1 in
     let end : c.loop-bucket.bucket ≡ 2 ^ (g.row.PRECISION - c.args.shift) = omega (arith, c.loop-bucket-test.false, c.loop-bucket.auto.bucket-end, pow_mono c.requires.within.1) in
     let place : length rows * 2 ^ c.args.shift ≡ high = rw (i.len, end) (pow-split g.row.PRECISION c.args.shift (omega (arith, c.requires.within.0))) in
@@ -95,7 +95,7 @@ returns-clause-hints g c =
 pub returns-clause-rows : goal.returns-clause-rows
 returns-clause-rows g c =
     let number = g.Probability.BitArray.number in
-    rw c.push_reserved-2.ensures.items (rows_push number (map number c.args.starts.now) (2 ^ g.row.PRECISION) c.loop-bucket.rows.items c.row_of-2.result c.loop-bucket.invariant.listed c.row_of-2.ensures.row)
+    rw c.push_reserved-2.ensures.items (rows_push number (map number c.args.starts.now) (2 ^ g.row.PRECISION) c.loop-bucket.rows.items c.make_row-2.result c.loop-bucket.invariant.listed c.make_row-2.ensures.row)
 
 -- ---- sizes
 
@@ -140,7 +140,7 @@ push_reserved-requires-2 g c = omega (arith, c.loop-bucket.invariant.counted, c.
 
 pub returns-clause-count : goal.returns-clause-count
 returns-clause-count g c =
-    rw c.push_reserved-2.ensures.items (omega (arith, c.loop-bucket.invariant.len, length-append c.loop-bucket.rows.items (c.row_of-2.result ∷ []), c.loop-bucket-test.false, c.loop-bucket.auto.bucket-end, pow_mono c.requires.within.1))
+    rw c.push_reserved-2.ensures.items (omega (arith, c.loop-bucket.invariant.len, length-append c.loop-bucket.rows.items (c.make_row-2.result ∷ []), c.loop-bucket-test.false, c.loop-bucket.auto.bucket-end, pow_mono c.requires.within.1))
 
 zero_place : (width all : ℕ) → 0 < all → 0 * width % all ≡ 0
 zero_place width all some =

@@ -1,7 +1,7 @@
 use Rattle.std.proofs.Common.{◌≡◌, ℕ, ◌*◌, ◌%◌, ◌^◌, ◌<◌, ◌≤◌, ◌+◌, length, map, vec_len, vec_capacity}
 use Rattle.std.specs.Prelude.{slice_index}
-use Rattle.constriction_base.specs.Hints.{AreHints, AreRows}
-use Rattle.constriction_base.proofs.weights.rows.rows_of.Given as goal
+use Rattle.constriction_base.specs.Hints.{AreHints, AreBucketRows}
+use Rattle.constriction_base.proofs.weights.rows.make_rows.Given as goal
 
 -- the buckets so far have their rows, none with a symbol above the symbol, which begins at or below the next bucket
 abbrev pub invariant-loop-bucket : goal.invariant-loop-bucket
@@ -17,5 +17,5 @@ invariant-loop-bucket g l =
       capacity : vec_capacity l.rows ≡ l.count + 1;
       hinted : AreHints starts (2 ^ g.row.PRECISION) (2 ^ l.shift) (map (λ row. row.symbol) l.rows.items);
       lower : (k : ℕ) → k < length (map (λ row. row.symbol) l.rows.items) → slice_index (map (λ row. row.symbol) l.rows.items) k ≤ l.symbol;
-      listed : AreRows number starts (2 ^ g.row.PRECISION) l.rows.items;
+      listed : AreBucketRows number starts (2 ^ g.row.PRECISION) l.rows.items;
     }
