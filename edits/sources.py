@@ -12,7 +12,7 @@ from layout import said_by_definitions, without_comments
 from renaming import FIELD_OF_RECORD, declared_by_trait, declared_by_type, stand_ins
 
 # The first line of a definition, or of one of its cases.
-DEFINED = re.compile(r"(?:(?:pub|abbrev|record|data|lemma|instance) )*([\w'-]+)")
+DEFINED = re.compile(r"(?:(?:pub|abbrev|unfoldable|record|data|lemma|instance) )*([\w'-]+)")
 LABEL = re.compile(r"\b(requires|ensures\*?) [\w']+ \{")
 TYPES = ("struct", "enum", "union", "type", "const", "static")
 USE = re.compile(r"^ *(?:pub(?:\([^)]*\))? |ghost )*use ([^;{\n]*)(\{[^}]*)?", re.MULTILINE)
