@@ -51,7 +51,7 @@ bits: int = QueueDecoder([1]).decode(tree, 3)[0]
 row: int = coder.decode(Categorical(), [0.5, 0.5])
 mixed: int = coder.decode(QuantizedMixture(family), [0.5, 0.5], (1.0, 2.0), array("d", [2.0, 1.0]))
 rows: list[int] = coder.decode(WeightTable(), [[1, 2], [3, 4]]).tolist()
-tables, shares = WeightTable([[1, 2], (3, 4)]), Categorical([[0.5, 0.5], [1, 2]])
+tables, shares = WeightTable([[1, 2], (3, 4)]), Categorical([[0.5, 0.5], [1.0, 2.0]])
 coder.encode_reverse([0, 1], tables, [1, 0])
 coder.encode_reverse(1, shares, 0)
 indexed: list[int] = coder.decode(tables, [1, 0], out=None).tolist()
