@@ -36,6 +36,7 @@ pub enum Refusal {
     ///
     /// - A number of words in use, or a position in words or bits, is past the end of its buffer.
     /// - The lengths of two lists don't match.
+    /// - The index of a table of [`Indexed`](crate::models::Indexed) is past the tables.
     /// - There are more weights than the type of the decoded symbols has values.
     /// - The words of a bit coder have `2^64` bits or more, or a store would have more than 1048576 symbols.
     #[error("wrong length")]
