@@ -26,8 +26,8 @@ use std::alloc::Global;
 /// Each table has the weights of the symbols `0`, `1`, .., which have to add up to `2 ^ PRECISION`. Symbol `i` of the
 /// list to encode or decode has the table `indexes[i]`.
 ///
-/// A list with more symbols than tables makes each table once. A list with fewer symbols makes no table: a look-up adds
-/// up the weights before the symbol.
+/// A long list makes each table once. A list of at most 32 symbols for each table makes none: a look-up adds up the
+/// weights before the symbol. If a table would keep reciprocals, this holds for up to 256 symbols for each table.
 ///
 /// # Examples
 ///
@@ -79,7 +79,8 @@ impl<'a, P: BitArray, const PRECISION: usize> Models<P, PRECISION> for Indexed<'
         divides: bool,
     ) -> Option<IndexedList<'a, TableOrRow<'a, P, PRECISION>>> {
         let tables = rows_of(self.weights, self.width);
-        let searches = count <= tables;
+        let few = if divides { 256 } else { 32 }; // a table pays from so many symbols on
+        let searches = count / few <= tables;
         match models_by(alloc, self.weights, tables, self.width, searches, divides) {
             Some(models) => Some(IndexedList {
                 models,
