@@ -9,6 +9,7 @@
 
 mod counts;
 mod families;
+mod guided;
 mod indexed;
 mod lone;
 mod mixtures;

@@ -10,7 +10,7 @@ ghost use Rattle.constriction_inputs.specs.Weights.{IsTotal};
 
 use crate::known::is_known;
 use crate::models::families::are_below;
-use crate::models::weights::{TableOrRow, table_by};
+use crate::models::guided::{Guided, guided_by};
 use crate::models::weights_model::WeightsModel;
 use crate::models::{DecoderModelList, DecoderModels, ModelList, Models, entry_of};
 use crate::refusal::Refusal;
@@ -20,6 +20,12 @@ use crate::symbol::Symbol;
 use constriction_base::model::{DecoderModel, EncoderModel, EntropyModel};
 use constriction_words::{BitArray, Reciprocal};
 use std::alloc::Global;
+
+/// The model of a list of weights: a table with guesses, or a [`Row`] whose look-up adds up weights.
+pub type GuidedOrRow<'a, P, const PRECISION: usize> = WeightsModel<
+    Guided<P, PRECISION>,
+    Row<'a, P, PRECISION>,
+>;
 
 /// Tables of `width` weights, one after another in `weights`, and for each symbol the index of its table.
 ///
@@ -43,7 +49,7 @@ pub struct Indexed<'a, P> {
 }
 
 impl<'a, P: BitArray, const PRECISION: usize> Models<P, PRECISION> for Indexed<'a, P> {
-    type List = IndexedList<'a, TableOrRow<'a, P, PRECISION>>;
+    type List = IndexedList<'a, GuidedOrRow<'a, P, PRECISION>>;
 
     ghost coded = { λ given. by_indexes given.width (map P.number given.weights.now) given.indexes.now };
 
@@ -77,11 +83,19 @@ impl<'a, P: BitArray, const PRECISION: usize> Models<P, PRECISION> for Indexed<'
         alloc: Global,
         count: usize,
         divides: bool,
-    ) -> Option<IndexedList<'a, TableOrRow<'a, P, PRECISION>>> {
+    ) -> Option<IndexedList<'a, GuidedOrRow<'a, P, PRECISION>>> {
         let tables = rows_of(self.weights, self.width);
-        let few = if divides { 256 } else { 32 }; // a table pays from so many symbols on
+        let few = if divides { 256 } else { 128 }; // a table pays from so many symbols on
         let searches = count / few <= tables;
-        match models_by(alloc, self.weights, tables, self.width, searches, divides) {
+        match models_by(
+            alloc,
+            self.weights,
+            tables,
+            self.width,
+            searches,
+            divides,
+            false,
+        ) {
             Some(models) => Some(IndexedList {
                 models,
                 indexes: self.indexes,
@@ -93,14 +107,31 @@ impl<'a, P: BitArray, const PRECISION: usize> Models<P, PRECISION> for Indexed<'
 }
 
 impl<'a, P: BitArray, const PRECISION: usize> DecoderModels<P, PRECISION> for Indexed<'a, P> {
-    type DecoderList = IndexedList<'a, TableOrRow<'a, P, PRECISION>>;
+    type DecoderList = IndexedList<'a, GuidedOrRow<'a, P, PRECISION>>;
 
     fn decoder_list(
         &self,
         alloc: Global,
         count: usize,
-    ) -> Option<IndexedList<'a, TableOrRow<'a, P, PRECISION>>> {
-        Models::<P, PRECISION>::list(self, alloc, count, false)
+    ) -> Option<IndexedList<'a, GuidedOrRow<'a, P, PRECISION>>> {
+        let tables = rows_of(self.weights, self.width);
+        let searches = count / 64 <= tables;
+        match models_by(
+            alloc,
+            self.weights,
+            tables,
+            self.width,
+            searches,
+            false,
+            true,
+        ) {
+            Some(models) => Some(IndexedList {
+                models,
+                indexes: self.indexes,
+                place: 0,
+            }),
+            None => None,
+        }
     }
 }
 
@@ -190,19 +221,21 @@ fn models_by<'a, P: BitArray, const PRECISION: usize>(
     width: usize,
     searches: bool,
     divides: bool,
-) -> Option<Vec<TableOrRow<'a, P, PRECISION>>>
+    decodes: bool,
+) -> Option<Vec<GuidedOrRow<'a, P, PRECISION>>>
     requires sizes { (1 ≤ PRECISION) × (PRECISION ≤ P.BITS) }
     requires counted { length weights.now ≡ width * tables }
     requires totals { AreTotals PRECISION width tables (map P.number weights.now) }
     ensures { IfSome result (λ models.
-        map ⟦<TableOrRow<'a, P, PRECISION> as EntropyModel<PRECISION>>⟧.table models.items
+        map ⟦<GuidedOrRow<'a, P, PRECISION> as EntropyModel<PRECISION>>⟧.table models.items
         ≡ map (λ index. table_of (row_at_index width index (map P.number weights.now))) (range_with_len 0 tables)) }
 {
     let Ok(mut models) = Vec::with_capacity(alloc, tables) else {
         return None;
     };
     for index in 0..tables {
-        let Some(model) = model_by(alloc, weights, width, index, searches, divides) else {
+        let row = weights_at(weights, width, index);
+        let Some(model) = model_by(alloc, row, searches, divides, decodes) else {
             return None;
         };
         models.push_reserved(model);
@@ -210,30 +243,27 @@ fn models_by<'a, P: BitArray, const PRECISION: usize>(
     Some(models)
 }
 
-/// Returns the model of row `index` of `weights`, which has rows of `width` weights, one after another.
+/// Returns the model of a row of weights.
 ///
-/// If `searches` is true, the model is the row. Otherwise it is a table, which keeps reciprocals if `divides` is true.
-/// The caller proves that there is such a row, and that it adds up to `2 ^ PRECISION`. The call returns `None` if there
-/// is no memory.
+/// If `searches` is true, the model is the row. Otherwise it is a table, which keeps reciprocals if `divides` is true,
+/// and guesses if `decodes` is true. The caller proves that the weights add up to `2 ^ PRECISION`. The call returns
+/// `None` if there is no memory.
 fn model_by<'a, P: BitArray, const PRECISION: usize>(
     alloc: Global,
-    weights: &'a [P],
-    width: usize,
-    index: usize,
+    row: &'a [P],
     searches: bool,
     divides: bool,
-) -> Option<TableOrRow<'a, P, PRECISION>>
+    decodes: bool,
+) -> Option<GuidedOrRow<'a, P, PRECISION>>
     requires sizes { (1 ≤ PRECISION) × (PRECISION ≤ P.BITS) }
-    requires within { width * index + width ≤ length weights.now }
-    requires total { IsTotal PRECISION (row_at_index width index (map P.number weights.now)) }
-    ensures { IfSome result (λ model. ⟦<TableOrRow<'a, P, PRECISION> as EntropyModel<PRECISION>>⟧.table model
-        ≡ table_of (row_at_index width index (map P.number weights.now))) }
+    requires total { IsTotal PRECISION (map P.number row.now) }
+    ensures { IfSome result (λ model. ⟦<GuidedOrRow<'a, P, PRECISION> as EntropyModel<PRECISION>>⟧.table model
+        ≡ table_of (map P.number row.now)) }
 {
-    let row = weights_at(weights, width, index);
     if searches {
         return Some(WeightsModel::Rows(Row::of_total(row)));
     }
-    match table_by(alloc, row, divides) {
+    match guided_by(alloc, row, divides, decodes) {
         Some(table) => Some(WeightsModel::Table(table)),
         None => None,
     }

@@ -1,4 +1,4 @@
-use Rattle.std.proofs.Common.{◌∙◌, ◌<◌, ◌≤◌, ◌+◌, ◌*◌, arith, length, map, refl, rules, sym}
+use Rattle.std.proofs.Common.{◌∙◌, ◌<◌, arith, map, refl, rules, sym}
 use Rattle.std.proofs.lemmas.List.{map_push}
 use Rattle.std.proofs.lemmas.List.FromFn.{map-range_with_len_more}
 use Rattle.constriction_base.specs.Tables.{table_of}
@@ -10,14 +10,17 @@ use Rattle.constriction_inputs.proofs.MixtureTables.{row_ends}
 use Rattle.constriction_inputs.proofs.RowTables.{each_total}
 use Rattle.constriction_inputs.proofs.models.indexed.models_by.Goals as goal
 
+pub weights_at-row-requires : goal.weights_at-row-requires
+weights_at-row-requires g c =
+    let at : c.loop-index.index < c.args.tables = c.loop-index-test.true in
+    omega (arith, c.requires.counted, row_ends c.args.width c.loop-index.index c.args.tables at)
+
 pub model_by-requires : goal.model_by-requires
 model_by-requires g c =
     let given = c.args in
     let number = g.P.BitArray.number in
-    let at : c.loop-index.index < given.tables = c.loop-index-test.true in
-    let ends : given.width * c.loop-index.index + given.width ≤ length given.weights.now = omega (arith, c.requires.counted, row_ends given.width c.loop-index.index given.tables at) in
-    let total : IsTotal g.row.PRECISION (row_at_index given.width c.loop-index.index (map number given.weights.now)) =
-    each_total g.row.PRECISION given.width (map number given.weights.now) given.tables c.requires.totals c.loop-index.index at in
+    let total : IsTotal g.row.PRECISION (map number c.weights_at-row.result.now) =
+    rw c.weights_at-row.ensures (each_total g.row.PRECISION given.width (map number given.weights.now) given.tables c.requires.totals c.loop-index.index c.loop-index-test.true) in
     search rules
 
 pub loop-index-preserved : goal.loop-index-preserved
@@ -27,7 +30,9 @@ loop-index-preserved g c =
     let number = g.P.BitArray.number in
     let more = map-range_with_len_more (λ index. table_of (row_at_index given.width index (map number given.weights.now))) 0 l.index l.index (omega arith) in
     record {
-      tables = rw c.push_reserved.ensures.items (map_push (of_either entries (λ row. table_of (map number row.weights.now))) l.models.items c.in-Some.model ∙ (rw (l.invariant.tables, c.in-Some.ensures) refl ∙ sym more));
+      tables = rw c.push_reserved.ensures.items
+      (map_push (of_either (λ guided. entries guided.table) (λ row. table_of (map number row.weights.now))) l.models.items c.in-Some.model
+      ∙ (rw (l.invariant.tables, c.in-Some.ensures, c.weights_at-row.ensures) refl ∙ sym more));
       counted = omega (arith, c.push_reserved.ensures.len, l.invariant.counted);
       capacity = omega (arith, c.push_reserved.ensures.capacity, l.invariant.capacity);
     }
