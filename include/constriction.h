@@ -60,11 +60,12 @@
    range coder. A call with one symbol builds no table: a decode of it takes 1 to 3 nanoseconds for each weight. The
    functions .._each take 4 nanoseconds for each weight of each row.
 
-   The functions .._indexed check all tables in each call, in 1 nanosecond for each weight. A list of more than 32
-   symbols for each table (256 for an encode with a stack or a chain coder) then makes each table once. Making a table
-   takes 8 nanoseconds for each weight (17 for such an encode). With 64 tables of 256 weights, each symbol then takes 10
-   nanoseconds to encode and 17 to decode with a stack coder. A shorter list makes no tables, and each symbol takes 14
-   nanoseconds to encode and 55 to decode. For a few symbols, pass the rows with .._each, which checks only these.
+   The functions .._indexed check all tables in each call, in 1 nanosecond for each weight. A list of more than 64
+   symbols for each table (to encode 128, or 256 with a stack or a chain coder) then makes each table once. This takes
+   10 nanoseconds for each weight, or 17 for an encode with a stack or a chain coder. With 64 tables of 256 weights,
+   each symbol then takes 9 nanoseconds to encode and 13 to decode with a stack coder. A shorter list makes no tables,
+   and each symbol takes 15 nanoseconds to encode and 60 to decode. For a few symbols, pass the rows with .._each,
+   which checks only these.
 
    ONE SYMBOL AT A TIME. To encode one symbol, pass its interval. This takes 22 nanoseconds with a stack coder, 17
    with a range coder and 24 with a chain coder. You can decode one symbol without a call over all weights, if you can

@@ -5,7 +5,7 @@
 
 enum { WIDEST = 12, MOST = 50, LONG = 4096 };
 
-/* The arguments of the calls. A list of more symbols than tables makes tables, and one of fewer searches their weights. */
+/* The arguments of the calls. These lists are so short that a call makes no tables, and searches the weights. */
 static struct {
     size_t count, width, tables, weight_count, index_count, row_count;
     word weights[MOST * WIDEST], rows[COUNT * WIDEST];
@@ -186,31 +186,88 @@ static void chain(size_t count) {
     refuses_symbols("chain: an impossible symbol", chain_encode, &back);
 }
 
-/* Many more symbols than tables, and one table for all, as the call with one list of weights codes them. */
-static void long_lists(void) {
-    enum { TABLES = 5, WIDTH = 9, SPACE = LONG + 8 };
-    static word weights[TABLES * WIDTH], rows[LONG * WIDTH], words[SPACE], wanted[SPACE];
-    static size_t indexes[LONG], symbols[LONG], found[LONG];
-    for (int one = 0; one < 2; one++) {
-        state head = 0, other = 0;
-        size_t len = 0, other_len = 0, needed = 0, tables = one ? 1 : TABLES;
-        counted(0, tables, WIDTH);
-        for (size_t i = 0; i < tables; i++) draw_row(weights + i * WIDTH);
-        for (size_t i = 0; i < LONG; i++) {
-            const word *row = weights + WIDTH * (indexes[i] = random_below(tables));
-            do symbols[i] = random_below(WIDTH); while (!row[symbols[i]]);
-            memcpy(rows + i * WIDTH, row, WIDTH * sizeof(word));
-        }
-        CHECK("long: encode", !C(ans_encode_indexed_reverse)(&head, words, SPACE, &len, weights, tables * WIDTH, WIDTH, indexes, LONG,
-                                                             symbols, LONG, &needed));
-        const word *given = one ? weights : rows;
-        uint32_t result = one ? C(ans_encode_reverse)(&other, wanted, SPACE, &other_len, given, WIDTH, symbols, LONG, &needed)
-                              : C(ans_encode_each_reverse)(&other, wanted, SPACE, &other_len, given, LONG * WIDTH, WIDTH,
-                                                           symbols, LONG, &needed);
-        CHECK("long: the same words", !result && head == other && len == other_len && !memcmp(words, wanted, len * sizeof(word)));
-        CHECK("long: decode", !C(ans_decode_indexed)(&head, words, SPACE, &len, weights, tables * WIDTH, WIDTH, indexes, LONG, found, LONG));
-        CHECK("long: there and back", !memcmp(found, symbols, sizeof symbols) && !head && !len);
+/* ==== Long lists, for which a call makes tables ==== */
+
+enum { TABLES = 5, WIDTH = 9, SPACE = LONG + 8 };
+static word tables[TABLES * WIDTH], rows[LONG * WIDTH], words[SPACE], wanted[SPACE], rest[SPACE], other_rest[SPACE];
+static size_t indexes[LONG], symbols[LONG], found[LONG], other_found[LONG], needed;
+#define INDEXED tables, TABLES * WIDTH, WIDTH, indexes, LONG
+#define GATHERED rows, LONG * WIDTH, WIDTH
+
+/* Refuses each request for memory once: the call returns NO_MEMORY, and leaves the words in use and their number unchanged. */
+#define REFUSES(about, call, len, old)                                                            \
+    for (unsigned long n = 1;; n++) {                                                             \
+        requests = 0, refused_request = n;                                                        \
+        uint32_t result = (call);                                                                 \
+        refused_request = 0;                                                                      \
+        CHECK(about, result == (requests < n ? CONSTRICTION_DONE : CONSTRICTION_NO_MEMORY));      \
+        if (requests < n) break;                                                                  \
+        CHECK(about, n < 1000 && (len) == (old));                                                 \
     }
+
+static void draw_long(void) {
+    counted(0, TABLES, WIDTH);
+    for (size_t i = 0; i < TABLES; i++) draw_row(tables + i * WIDTH);
+    for (size_t i = 0; i < LONG; i++) {
+        const word *row = tables + WIDTH * (indexes[i] = random_below(TABLES));
+        do symbols[i] = random_below(WIDTH); while (!row[symbols[i]]);
+        memcpy(rows + i * WIDTH, row, WIDTH * sizeof(word));
+    }
+}
+
+static void long_ans(void) {
+    state head = 0, other = 0;
+    size_t len = 0, other_len = 0;
+    REFUSES("long ANS: encode", C(ans_encode_indexed_reverse)(&head, words, SPACE, &len, INDEXED, symbols, LONG, &needed), len, 0);
+    CHECK("long ANS: rows", !C(ans_encode_each_reverse)(&other, wanted, SPACE, &other_len, GATHERED, symbols, LONG, &needed));
+    CHECK("long ANS: the same words", head == other && len == other_len && !memcmp(words, wanted, len * sizeof(word)));
+    REFUSES("long ANS: decode", C(ans_decode_indexed)(&head, words, SPACE, &len, INDEXED, found, LONG), len, other_len);
+    CHECK("long ANS: there and back", !memcmp(found, symbols, sizeof symbols) && !head && !len);
+    for (size_t i = 0; i < LONG; i++) indexes[i] = 0, symbols[i] %= WIDTH - 1;
+    for (size_t i = 0; i < LONG; i++) while (!tables[symbols[i]]) symbols[i] = (symbols[i] + 1) % WIDTH;
+    head = other = 0, len = other_len = 0;
+    CHECK("one table: encode", !C(ans_encode_indexed_reverse)(&head, words, SPACE, &len, INDEXED, symbols, LONG, &needed));
+    CHECK("one table: alone", !C(ans_encode_reverse)(&other, wanted, SPACE, &other_len, tables, WIDTH, symbols, LONG, &needed));
+    CHECK("one table: the same words", head == other && len == other_len && !memcmp(words, wanted, len * sizeof(word)));
+    CHECK("one table: decode", !C(ans_decode_indexed)(&head, words, SPACE, &len, INDEXED, found, LONG));
+    CHECK("one table: there and back", !memcmp(found, symbols, sizeof symbols) && !head && !len);
+}
+
+static void long_range(void) {
+    struct C(range_encoder_state) encoder, other;
+    struct C(range_decoder_state) decoder, other_decoder;
+    size_t len = 0, other_len = 0;
+    C(range_encoder)(&encoder), C(range_encoder)(&other);
+    REFUSES("long range: encode", C(range_encode_indexed)(&encoder, words, SPACE, &len, INDEXED, symbols, LONG, &needed), len, 0);
+    CHECK("long range: rows", !C(range_encode_each)(&other, wanted, SPACE, &other_len, GATHERED, symbols, LONG, &needed));
+    CHECK("long range: the same words", len == other_len && !memcmp(words, wanted, len * sizeof(word)));
+    CHECK("long range: the same encoder", encoder.lower == other.lower && encoder.range == other.range && encoder.held == other.held);
+    CHECK("long range: export", !C(range_into_compressed)(&encoder, words, SPACE, &len, &needed));
+    CHECK("long range: import", !C(range_from_compressed)(words, len, &decoder));
+    other_decoder = decoder;
+    REFUSES("long range: decode", C(range_decode_indexed)(&decoder, words, len, INDEXED, found, LONG), decoder.pos, other_decoder.pos);
+    CHECK("long range: there and back", !memcmp(found, symbols, sizeof symbols));
+    CHECK("long range: rows back", !C(range_decode_each)(&other_decoder, words, len, GATHERED, other_found, LONG));
+    CHECK("long range: the same decoder", decoder.pos == other_decoder.pos && decoder.point == other_decoder.point);
+}
+
+static void long_chain(void) {
+    struct C(chain_heads) heads, other, start;
+    size_t len = SPACE, other_len, rest_len = 0, other_rest_len = 0;
+    for (size_t i = 0; i < SPACE; i++) words[i] = (word)(random_below((uint64_t)1 << BITS) | 1);
+    CHECK("long chain: import", !C(chain_from_compressed)(words, SPACE, &len, &start));
+    heads = other = start, other_len = len;
+    const size_t begin = len;
+    REFUSES("long chain: decode", C(chain_decode_indexed)(&heads, words, SPACE, &len, rest, SPACE, &rest_len, INDEXED, found, LONG, &needed),
+            len, begin);
+    CHECK("long chain: rows", !C(chain_decode_each)(&other, words, SPACE, &other_len, other_rest, SPACE, &other_rest_len, GATHERED,
+                                                   other_found, LONG, &needed));
+    CHECK("long chain: the same", len == other_len && rest_len == other_rest_len && !memcmp(rest, other_rest, rest_len * sizeof(word))
+          && heads.remainders == other.remainders && heads.compressed == other.compressed && !memcmp(found, other_found, sizeof found));
+    const size_t end = len;
+    REFUSES("long chain: encode", C(chain_encode_indexed_reverse)(&heads, words, SPACE, &len, rest, SPACE, &rest_len, INDEXED, found, LONG, &needed),
+            len, end);
+    CHECK("long chain: there and back", len == begin && !rest_len && heads.remainders == start.remainders && heads.compressed == start.compressed);
 }
 
 /* Without symbols there need be no tables, but those that there are have to add up. */
@@ -227,7 +284,8 @@ static void no_symbols(void) {
 }
 
 int main(void) {
-    long_lists(), no_symbols();
+    no_symbols();
+    for (int round = 0; round < 3; round++) draw_long(), long_range(), long_chain(), long_ans();
     for (int round = 0; round < 60; round++) {
         size_t count = round < 3 ? (size_t)round : 1 + random_below(COUNT);
         ans(count), range(count), chain(count);

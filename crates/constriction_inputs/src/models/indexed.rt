@@ -32,8 +32,9 @@ pub type GuidedOrRow<'a, P, const PRECISION: usize> = WeightsModel<
 /// Each table has the weights of the symbols `0`, `1`, .., which have to add up to `2 ^ PRECISION`. Symbol `i` of the
 /// list to encode or decode has the table `indexes[i]`.
 ///
-/// A long list makes each table once. A list of at most 32 symbols for each table makes none: a look-up adds up the
-/// weights before the symbol. If a table would keep reciprocals, this holds for up to 256 symbols for each table.
+/// A long list makes each table once. A list of at most 64 symbols for each table makes none to decode: a look-up adds up
+/// the weights before the symbol. To encode, this holds for up to 128 symbols for each table, or 256 if a table would
+/// keep reciprocals.
 ///
 /// # Examples
 ///
