@@ -78,8 +78,8 @@ pub extern "C" fn constriction_weights_of_floats_u32(
 
 /// Writes a count for each float into `counts`. `floats` has rows of `width` floats, one after another.
 ///
-/// Each float is given by its bits (IEEE 754 binary64), so C passes its `double`s as they are. The counts of each row are
-/// in proportion to its floats, apart from rounding.
+/// Each float is given by its bits (IEEE 754 binary64), so C passes its `double`s as they are. The counts of each row
+/// are in proportion to its floats, apart from rounding.
 ///
 /// Calls [`put_counts_of_floats`] and returns the code of its result ([`code_of`](crate::codes::code_of)).
 #[unsafe(no_mangle)]

@@ -1,11 +1,11 @@
 //! Writes weights or counts in proportion to probabilities that are floats into a caller's buffer.
 //!
-//! Each float is given by its bits (IEEE 754 binary64). The calls compute in integers, so every machine writes the same
-//! numbers.
+//! Each float is given by its bits (IEEE 754 binary64). The calls compute in integers, so every machine writes the
+//! same numbers.
 
 ghost use Rattle.std.specs.Prelude.{◌≡◌, ◌↔◌, ◌*◌, ◌<◌, ◌≤◌, ◌/◌, length, map, IsTrue};
-ghost use Rattle.constriction_inputs.specs.Floats.{AreFloatRows, IsFloatRow, WritesCountsOfFloats, WritesWeightsOfFloats};
-ghost use Rattle.constriction_inputs.specs.Floats.{counts_of_rows};
+ghost use Rattle.constriction_inputs.specs.Floats.{AreFloatRows, IsFloatRow, counts_of_rows};
+ghost use Rattle.constriction_inputs.specs.Floats.{WritesCountsOfFloats, WritesWeightsOfFloats};
 ghost use Rattle.constriction_models.specs.Floats.{quick_counts};
 
 use crate::quantized::counts::put_weights_of_counts;
@@ -18,8 +18,8 @@ use std::alloc::Global;
 
 /// Writes a weight for each float into `weights`. The weights add up to `2 ^ PRECISION`.
 ///
-/// The weights are in proportion to the floats, apart from rounding, and each weight is at least 1. They are the weights
-/// of the counts that [`counts_of_floats`] returns.
+/// The weights are in proportion to the floats, apart from rounding, and each weight is at least 1. They are the
+/// weights of the counts that [`counts_of_floats`] returns.
 ///
 /// # Errors
 ///
@@ -62,8 +62,8 @@ pub fn put_weights_of_floats<P: WordOf<u32>, const PRECISION: usize>(
 /// The call checks for errors in this order. After an error, `counts` is unchanged.
 ///
 /// - `WrongLength`: `floats` and `counts` differ in length, or the number of floats isn't a multiple of `width`.
-/// - `WrongWeights`: a row has a float that is negative, infinite or NaN, or no float above 0, or `2 ^ PRECISION` or more
-///   floats.
+/// - `WrongWeights`: a row has a float that is negative, infinite or NaN, or no float above 0, or `2 ^ PRECISION` or
+///   more floats.
 pub fn put_counts_of_floats<const PRECISION: usize>(
     floats: &[u64],
     width: usize,
