@@ -8,6 +8,14 @@ import re
 import textwrap
 
 
+# The change from an encode with one table of weights to an encode of items.
+ENCODED = {
+    r"\b(encode\w*)_by_weights\b": r"\1",
+    r"(let answer = encode[^;]*?)\bweights, symbols(?=[,)])": r"\1&items",
+}
+BEFORE_ENCODE = r"((?:    let mut \w+ = \w+\.parts\(\);\n)?    let answer = encode)"
+
+
 def of_models(name, says, parameters, models, lets):
     """Returns the change from a call with one table of weights to a call with another kind of models."""
     return {
@@ -15,8 +23,9 @@ def of_models(name, says, parameters, models, lets):
         r"(,?) with one table of weights for all symbols": says,
         r"    weights: &\[u32\],\n": "".join(f"    {it},\n" for it in parameters.split(", ")),
         r"by_weights \(map \(lowest 32\) weights\.now\)": models,
-        r"    let models = .*\n": "",
         r"\n\{\n": "\n{\n" + "".join(f"    {it};\n" for it in lets.split("; ")),
+        **ENCODED,
+        BEFORE_ENCODE: r"    let items = Symbols { models, symbols };\n\1",
         r"_by_weights(.*) 24>": r"\1 _, 24>",
         r"_by_weights": "",
         r"\bweights, symbols(?=[,)])": "&models, symbols",
@@ -81,8 +90,8 @@ INTERVALS = {
     r"by_weights \(map \(lowest 32\) weights\.now\)": "intervals_from_u32 lefts.now",
     r"length symbols\.now": "length ps.now",
     r"symbols\.now": "(map (lowest 32) ps.now)",
-    r"    let models = .*\n": "",
-    r"Symbols \{ models, symbols \}": "Intervals { lefts, ps }",
+    **ENCODED,
+    BEFORE_ENCODE: r"    let items = Intervals { lefts, ps };\n\1",
 }
 ANS_BINARY = {
     r"Exports .*": "Exports the binary form: writes the bits of the head below its leading 1 after the first `len` words of `words`.",
@@ -157,15 +166,19 @@ ghost use Rattle.constriction_inputs.specs.Quantized.{in_family};
 ghost use Rattle.constriction_inputs.specs.Rows.{by_rows};
 ghost use Rattle.std.specs.Prelude.{◌≡◌, map};
 use constriction_calls::ans::decoding::{decode, decode_narrow};
+use constriction_calls::ans::encoding::encode_reverse;
 use constriction_calls::ans::words::into_binary;
-use constriction_calls::chain::{ChainHeads, decode, decode_narrow};
+use constriction_calls::chain::{ChainHeads, decode, decode_narrow, encode_reverse};
 use constriction_calls::range::decoding::{decode, decode_narrow};
+use constriction_calls::range::encoding::encode;
 use constriction_calls::range::parts::{DecoderParts, EncoderParts};
 use constriction_calls::range::words::into_self_delimited;
 use constriction_calls::symbol::{Tree, decode_stack, encode_stack};
 use constriction_lanes::decoding::decode;
+use constriction_lanes::encoding::encode_reverse;
 use constriction_inputs::intervals::Intervals;
 use constriction_inputs::models::{Counts, Families, Indexed, Mixtures, Rows};
+use constriction_inputs::symbols::Symbols;
 """
 
 # For each struct: the type of constriction_calls with the same fields, and the definition of the conversion to it.
@@ -210,6 +223,7 @@ def changed(function, change):
     lines = textwrap.fill(
         f"    ensures {clause}", 120, subsequent_indent=" " * 8, break_long_words=False, break_on_hyphens=False
     )
+    body = re.sub(r"^(    let answer = [^(\n]*\()\n +(.*),\n    \);$", r"\1\2);", body, flags=re.M)
     body = re.sub(r"^    (let answer = [^(]*\()(.*)\);$", wrapped, body, flags=re.M)
     return "\n".join([head, lines.replace("\0", " "), body])
 

@@ -4,6 +4,7 @@
 //! compressed words in use, and `rest` is the number of words of remainders in use. The module
 //! [`constriction_calls::chain`] has the calls, and explains their arguments and errors.
 
+mod by_weights;
 pub mod u16;
 mod u16_kinds;
 mod u16_parts;

@@ -2,6 +2,7 @@
 //!
 //! The crate [`constriction_lanes`] has the calls, and explains their arguments and errors.
 
+mod by_weights;
 mod u16;
 mod u16_kinds;
 mod u32;

@@ -20,3 +20,4 @@ pub mod range;
 pub mod store;
 pub mod symbol;
 pub mod version;
+mod weights;

@@ -4,6 +4,7 @@
 //! buffer are in use. All words of a decoder's buffer are in use. The module [`constriction_calls::range`] has the
 //! calls, and explains their arguments and errors.
 
+mod by_weights;
 pub mod u16;
 mod u16_kinds;
 mod u16_parts;

@@ -10,17 +10,15 @@ ghost use Rattle.constriction_inputs.specs.Weights.{by_weights};
 ghost use Rattle.constriction_stack.specs.Ans.{filled};
 ghost use Rattle.constriction_stack.specs.Binary.{binary_state};
 
+use crate::ans::by_weights::encode_reverse_by_weights;
 use crate::codes::{code_of, code_without_space};
 use constriction_calls::ans::decoding::decode_by_weights;
-use constriction_calls::ans::encoding::encode_reverse;
 use constriction_calls::ans::words::{from_binary, from_compressed, into_compressed};
-use constriction_inputs::models::Weights;
-use constriction_inputs::symbols::Symbols;
 use std::alloc::Global;
 
 /// Encodes symbols from the last to the first, with one table of weights for all symbols.
 ///
-/// Calls [`encode_reverse`] and returns the code of its result ([`code_of`]).
+/// Calls [`encode_reverse_by_weights`] and returns the code of its result ([`code_of`]).
 #[unsafe(no_mangle)]
 pub extern "C" fn constriction_ans_encode_reverse_u16(
     alloc: Global,
@@ -34,9 +32,9 @@ pub extern "C" fn constriction_ans_encode_reverse_u16(
     ensures { AnsEncodesU16 result needed.old needed.new (by_weights (map (lowest 16) weights.now) symbols.now) head.old
         words.old len.old head.new words.new len.new }
 {
-    let models = Weights { weights };
-    let items = Symbols { models, symbols };
-    let answer = encode_reverse::<_, _, u16, _, 12>(alloc, head, words, len, &items);
+    let answer = encode_reverse_by_weights::<_, _, u16, _, 12>(
+        alloc, head, words, len, weights, symbols,
+    );
     code_of(answer, needed)
 }
 

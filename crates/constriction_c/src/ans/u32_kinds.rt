@@ -12,12 +12,13 @@ ghost use Rattle.constriction_inputs.specs.Rows.{by_rows};
 ghost use Rattle.constriction_inputs.specs.Weights.{by_weights};
 ghost use Rattle.std.specs.Prelude.{map};
 
+use crate::ans::by_weights::encode_reverse_by_weights;
 use crate::codes::{code_of, code_without_space};
 use constriction_calls::ans::decoding::{decode, decode_narrow};
 use constriction_calls::ans::encoding::encode_reverse;
 use constriction_calls::ans::words::into_binary;
 use constriction_inputs::intervals::Intervals;
-use constriction_inputs::models::{Counts, Families, Indexed, Mixtures, Rows, Weights};
+use constriction_inputs::models::{Counts, Families, Indexed, Mixtures, Rows};
 use constriction_inputs::symbols::Symbols;
 use std::alloc::Global;
 
@@ -294,7 +295,7 @@ pub extern "C" fn constriction_ans_decode_indexed_u32(
 
 /// Encodes symbols of type `u8` from the last to the first, with one table of weights for all symbols.
 ///
-/// Calls [`encode_reverse`] and returns the code of its result ([`code_of`]).
+/// Calls [`encode_reverse_by_weights`] and returns the code of its result ([`code_of`]).
 #[unsafe(no_mangle)]
 pub extern "C" fn constriction_ans_encode_bytes_reverse_u32(
     alloc: Global,
@@ -308,9 +309,9 @@ pub extern "C" fn constriction_ans_encode_bytes_reverse_u32(
     ensures { AnsEncodesU32 result needed.old needed.new (by_weights (map (lowest 32) weights.now) symbols.now) head.old
         words.old len.old head.new words.new len.new }
 {
-    let models = Weights { weights };
-    let items = Symbols { models, symbols };
-    let answer = encode_reverse::<_, _, u32, _, 24>(alloc, head, words, len, &items);
+    let answer = encode_reverse_by_weights::<_, _, u32, _, 24>(
+        alloc, head, words, len, weights, symbols,
+    );
     code_of(answer, needed)
 }
 
@@ -335,7 +336,7 @@ pub extern "C" fn constriction_ans_decode_bytes_u32(
 
 /// Encodes symbols of type `u16` from the last to the first, with one table of weights for all symbols.
 ///
-/// Calls [`encode_reverse`] and returns the code of its result ([`code_of`]).
+/// Calls [`encode_reverse_by_weights`] and returns the code of its result ([`code_of`]).
 #[unsafe(no_mangle)]
 pub extern "C" fn constriction_ans_encode_shorts_reverse_u32(
     alloc: Global,
@@ -349,9 +350,9 @@ pub extern "C" fn constriction_ans_encode_shorts_reverse_u32(
     ensures { AnsEncodesU32 result needed.old needed.new (by_weights (map (lowest 32) weights.now) symbols.now) head.old
         words.old len.old head.new words.new len.new }
 {
-    let models = Weights { weights };
-    let items = Symbols { models, symbols };
-    let answer = encode_reverse::<_, _, u32, _, 24>(alloc, head, words, len, &items);
+    let answer = encode_reverse_by_weights::<_, _, u32, _, 24>(
+        alloc, head, words, len, weights, symbols,
+    );
     code_of(answer, needed)
 }
 

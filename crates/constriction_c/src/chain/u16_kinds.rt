@@ -12,13 +12,14 @@ ghost use Rattle.constriction_inputs.specs.Rows.{by_rows};
 ghost use Rattle.constriction_inputs.specs.Weights.{by_weights};
 ghost use Rattle.std.specs.Prelude.{map};
 
+use crate::chain::by_weights::encode_reverse_by_weights;
 use crate::chain::u16::ChainHeadsU16;
 use crate::codes::{code_of, code_without_space};
 use constriction_calls::chain::{
     Form, decode, decode_narrow, encode_reverse, from_words, into_words,
 };
 use constriction_inputs::intervals::Intervals;
-use constriction_inputs::models::{Counts, Families, Indexed, Mixtures, Rows, Weights};
+use constriction_inputs::models::{Counts, Families, Indexed, Mixtures, Rows};
 use constriction_inputs::symbols::Symbols;
 use std::alloc::Global;
 
@@ -407,7 +408,7 @@ pub extern "C" fn constriction_chain_decode_bytes_u16(
 
 /// Encodes symbols of type `u8` from the last to the first, with one table of weights for all symbols.
 ///
-/// Calls [`encode_reverse`] and returns the code of its result ([`code_of`]).
+/// Calls [`encode_reverse_by_weights`] and returns the code of its result ([`code_of`]).
 #[unsafe(no_mangle)]
 pub extern "C" fn constriction_chain_encode_bytes_reverse_u16(
     alloc: Global,
@@ -424,11 +425,9 @@ pub extern "C" fn constriction_chain_encode_bytes_reverse_u16(
         (chain_u16 heads.old compressed.old count.old remainders.now rest.old)
         (chain_u16 heads.new compressed.new count.new remainders.now rest.new) }
 {
-    let models = Weights { weights };
-    let items = Symbols { models, symbols };
     let mut both = heads.parts();
-    let answer = encode_reverse::<_, _, u16, _, 12>(
-        alloc, &mut both, compressed, count, remainders, rest, &items,
+    let answer = encode_reverse_by_weights::<_, _, u16, _, 12>(
+        alloc, &mut both, compressed, count, remainders, rest, weights, symbols,
     );
     *heads = ChainHeadsU16::of(both);
     code_of(answer, needed)
@@ -464,7 +463,7 @@ pub extern "C" fn constriction_chain_decode_shorts_u16(
 
 /// Encodes symbols of type `u16` from the last to the first, with one table of weights for all symbols.
 ///
-/// Calls [`encode_reverse`] and returns the code of its result ([`code_of`]).
+/// Calls [`encode_reverse_by_weights`] and returns the code of its result ([`code_of`]).
 #[unsafe(no_mangle)]
 pub extern "C" fn constriction_chain_encode_shorts_reverse_u16(
     alloc: Global,
@@ -481,11 +480,9 @@ pub extern "C" fn constriction_chain_encode_shorts_reverse_u16(
         (chain_u16 heads.old compressed.old count.old remainders.now rest.old)
         (chain_u16 heads.new compressed.new count.new remainders.now rest.new) }
 {
-    let models = Weights { weights };
-    let items = Symbols { models, symbols };
     let mut both = heads.parts();
-    let answer = encode_reverse::<_, _, u16, _, 12>(
-        alloc, &mut both, compressed, count, remainders, rest, &items,
+    let answer = encode_reverse_by_weights::<_, _, u16, _, 12>(
+        alloc, &mut both, compressed, count, remainders, rest, weights, symbols,
     );
     *heads = ChainHeadsU16::of(both);
     code_of(answer, needed)

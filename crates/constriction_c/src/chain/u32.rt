@@ -6,10 +6,9 @@ ghost use Rattle.constriction_c.specs.Words.{lowest};
 ghost use Rattle.constriction_calls.specs.declared.chain.Form.TheVariants.{InCompressed};
 ghost use Rattle.constriction_inputs.specs.Weights.{by_weights};
 
+use crate::chain::by_weights::encode_reverse_by_weights;
 use crate::codes::{code_of, code_without_space};
-use constriction_calls::chain::{Form, decode_by_weights, encode_reverse, from_words, into_words};
-use constriction_inputs::models::Weights;
-use constriction_inputs::symbols::Symbols;
+use constriction_calls::chain::{Form, decode_by_weights, from_words, into_words};
 use std::alloc::Global;
 
 /// The two heads of a chain coder with 32-bit words, with the fields of [`ChainHeads`].
@@ -49,7 +48,7 @@ pub extern "C" fn constriction_chain_decode_u32(
 
 /// Encodes symbols from the last to the first, with one table of weights for all symbols.
 ///
-/// Calls [`encode_reverse`] and returns the code of its result ([`code_of`]).
+/// Calls [`encode_reverse_by_weights`] and returns the code of its result ([`code_of`]).
 #[unsafe(no_mangle)]
 pub extern "C" fn constriction_chain_encode_reverse_u32(
     alloc: Global,
@@ -66,11 +65,9 @@ pub extern "C" fn constriction_chain_encode_reverse_u32(
         (chain_u32 heads.old compressed.old count.old remainders.now rest.old)
         (chain_u32 heads.new compressed.new count.new remainders.now rest.new) }
 {
-    let models = Weights { weights };
-    let items = Symbols { models, symbols };
     let mut both = heads.parts();
-    let answer = encode_reverse::<_, _, u32, _, 24>(
-        alloc, &mut both, compressed, count, remainders, rest, &items,
+    let answer = encode_reverse_by_weights::<_, _, u32, _, 24>(
+        alloc, &mut both, compressed, count, remainders, rest, weights, symbols,
     );
     *heads = ChainHeadsU32::of(both);
     code_of(answer, needed)

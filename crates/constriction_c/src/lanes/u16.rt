@@ -7,15 +7,13 @@ ghost use Rattle.constriction_c.specs.Words.{lowest};
 ghost use Rattle.constriction_inputs.specs.Weights.{by_weights};
 
 use crate::codes::{code_of, code_without_space};
-use constriction_inputs::models::Weights;
-use constriction_inputs::symbols::Symbols;
+use crate::lanes::by_weights::encode_reverse_by_weights;
 use constriction_lanes::decoding::decode_by_weights;
-use constriction_lanes::encoding::encode_reverse;
 use std::alloc::Global;
 
 /// Encodes symbols from the last to the first, with one table of weights for all symbols.
 ///
-/// Calls [`encode_reverse`] and returns the code of its result ([`code_of`]).
+/// Calls [`encode_reverse_by_weights`] and returns the code of its result ([`code_of`]).
 #[unsafe(no_mangle)]
 pub extern "C" fn constriction_ans_lanes_encode_reverse_u16(
     alloc: Global,
@@ -29,9 +27,9 @@ pub extern "C" fn constriction_ans_lanes_encode_reverse_u16(
     ensures { LanesEncodeU16 result needed.old needed.new (length symbols.now)
         (by_weights (map (lowest 16) weights.now) symbols.now) heads.old words.old lens.old heads.new words.new lens.new }
 {
-    let models = Weights { weights };
-    let items = Symbols { models, symbols };
-    let answer = encode_reverse::<_, _, u16, _, 12>(alloc, heads, words, lens, &items);
+    let answer = encode_reverse_by_weights::<_, _, u16, _, 12>(
+        alloc, heads, words, lens, weights, symbols,
+    );
     code_of(answer, needed)
 }
 

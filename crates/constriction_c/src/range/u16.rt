@@ -9,12 +9,10 @@ ghost use Rattle.constriction_calls.specs.RangeCalls.{IsNew, IsSealed, RangeBegi
 ghost use Rattle.constriction_inputs.specs.Weights.{by_weights};
 
 use crate::codes::{code_of, code_without_space};
+use crate::range::by_weights::encode_by_weights;
 use constriction_calls::range::decoding::decode_by_weights;
-use constriction_calls::range::encoding::encode;
 use constriction_calls::range::positions::{from_compressed, maybe_exhausted, seek};
 use constriction_calls::range::words::into_compressed;
-use constriction_inputs::models::Weights;
-use constriction_inputs::symbols::Symbols;
 use std::alloc::Global;
 
 /// A range encoder between two calls, with the fields of [`EncoderParts`].
@@ -56,7 +54,7 @@ pub extern "C" fn constriction_range_encoder_u16(encoder: &mut RangeEncoderU16) 
 
 /// Encodes symbols in order, with one table of weights for all symbols.
 ///
-/// Calls [`encode`] and returns the code of its result ([`code_of`]).
+/// Calls [`encode_by_weights`] and returns the code of its result ([`code_of`]).
 #[unsafe(no_mangle)]
 pub extern "C" fn constriction_range_encode_u16(
     alloc: Global,
@@ -70,10 +68,10 @@ pub extern "C" fn constriction_range_encode_u16(
     ensures { RangeEncodesU16 result needed.old needed.new (by_weights (map (lowest 16) weights.now) symbols.now)
         (length symbols.now) encoder.old words.old len.old encoder.new words.new len.new }
 {
-    let models = Weights { weights };
-    let items = Symbols { models, symbols };
     let mut parts = encoder.parts();
-    let answer = encode::<_, _, u16, _, 12>(alloc, &mut parts, words, len, &items);
+    let answer = encode_by_weights::<_, _, u16, _, 12>(
+        alloc, &mut parts, words, len, weights, symbols,
+    );
     *encoder = RangeEncoderU16::of(parts);
     code_of(answer, needed)
 }

@@ -13,12 +13,13 @@ ghost use Rattle.constriction_inputs.specs.Weights.{by_weights};
 ghost use Rattle.std.specs.Prelude.{length, map};
 
 use crate::codes::{code_of, code_without_space};
+use crate::range::by_weights::encode_by_weights;
 use crate::range::u16::{RangeDecoderU16, RangeEncoderU16};
 use constriction_calls::range::decoding::{decode, decode_narrow};
 use constriction_calls::range::encoding::encode;
 use constriction_calls::range::words::into_self_delimited;
 use constriction_inputs::intervals::Intervals;
-use constriction_inputs::models::{Counts, Families, Indexed, Mixtures, Rows, Weights};
+use constriction_inputs::models::{Counts, Families, Indexed, Mixtures, Rows};
 use constriction_inputs::symbols::Symbols;
 use std::alloc::Global;
 
@@ -313,7 +314,7 @@ pub extern "C" fn constriction_range_decode_indexed_u16(
 
 /// Encodes symbols of type `u8` in order, with one table of weights for all symbols.
 ///
-/// Calls [`encode`] and returns the code of its result ([`code_of`]).
+/// Calls [`encode_by_weights`] and returns the code of its result ([`code_of`]).
 #[unsafe(no_mangle)]
 pub extern "C" fn constriction_range_encode_bytes_u16(
     alloc: Global,
@@ -327,10 +328,10 @@ pub extern "C" fn constriction_range_encode_bytes_u16(
     ensures { RangeEncodesU16 result needed.old needed.new (by_weights (map (lowest 16) weights.now) symbols.now)
         (length symbols.now) encoder.old words.old len.old encoder.new words.new len.new }
 {
-    let models = Weights { weights };
-    let items = Symbols { models, symbols };
     let mut parts = encoder.parts();
-    let answer = encode::<_, _, u16, _, 12>(alloc, &mut parts, words, len, &items);
+    let answer = encode_by_weights::<_, _, u16, _, 12>(
+        alloc, &mut parts, words, len, weights, symbols,
+    );
     *encoder = RangeEncoderU16::of(parts);
     code_of(answer, needed)
 }
@@ -357,7 +358,7 @@ pub extern "C" fn constriction_range_decode_bytes_u16(
 
 /// Encodes symbols of type `u16` in order, with one table of weights for all symbols.
 ///
-/// Calls [`encode`] and returns the code of its result ([`code_of`]).
+/// Calls [`encode_by_weights`] and returns the code of its result ([`code_of`]).
 #[unsafe(no_mangle)]
 pub extern "C" fn constriction_range_encode_shorts_u16(
     alloc: Global,
@@ -371,10 +372,10 @@ pub extern "C" fn constriction_range_encode_shorts_u16(
     ensures { RangeEncodesU16 result needed.old needed.new (by_weights (map (lowest 16) weights.now) symbols.now)
         (length symbols.now) encoder.old words.old len.old encoder.new words.new len.new }
 {
-    let models = Weights { weights };
-    let items = Symbols { models, symbols };
     let mut parts = encoder.parts();
-    let answer = encode::<_, _, u16, _, 12>(alloc, &mut parts, words, len, &items);
+    let answer = encode_by_weights::<_, _, u16, _, 12>(
+        alloc, &mut parts, words, len, weights, symbols,
+    );
     *encoder = RangeEncoderU16::of(parts);
     code_of(answer, needed)
 }

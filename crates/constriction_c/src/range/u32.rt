@@ -8,12 +8,10 @@ ghost use Rattle.constriction_calls.specs.RangeCalls.{IsNew, IsSealed, RangeBegi
 ghost use Rattle.constriction_inputs.specs.Weights.{by_weights};
 
 use crate::codes::{code_of, code_without_space};
+use crate::range::by_weights::encode_by_weights;
 use constriction_calls::range::decoding::decode_by_weights;
-use constriction_calls::range::encoding::encode;
 use constriction_calls::range::positions::{from_compressed, maybe_exhausted, seek};
 use constriction_calls::range::words::into_compressed;
-use constriction_inputs::models::Weights;
-use constriction_inputs::symbols::Symbols;
 use std::alloc::Global;
 
 /// A range encoder between two calls, with the fields of [`EncoderParts`].
@@ -55,7 +53,7 @@ pub extern "C" fn constriction_range_encoder_u32(encoder: &mut RangeEncoderU32) 
 
 /// Encodes symbols in order, with one table of weights for all symbols.
 ///
-/// Calls [`encode`] and returns the code of its result ([`code_of`]).
+/// Calls [`encode_by_weights`] and returns the code of its result ([`code_of`]).
 #[unsafe(no_mangle)]
 pub extern "C" fn constriction_range_encode_u32(
     alloc: Global,
@@ -69,10 +67,10 @@ pub extern "C" fn constriction_range_encode_u32(
     ensures { RangeEncodesU32 result needed.old needed.new (by_weights (map (lowest 32) weights.now) symbols.now)
         (length symbols.now) encoder.old words.old len.old encoder.new words.new len.new }
 {
-    let models = Weights { weights };
-    let items = Symbols { models, symbols };
     let mut parts = encoder.parts();
-    let answer = encode::<_, _, u32, _, 24>(alloc, &mut parts, words, len, &items);
+    let answer = encode_by_weights::<_, _, u32, _, 24>(
+        alloc, &mut parts, words, len, weights, symbols,
+    );
     *encoder = RangeEncoderU32::of(parts);
     code_of(answer, needed)
 }

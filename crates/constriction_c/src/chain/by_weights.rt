@@ -1,0 +1,65 @@
+//! Encoding with one table of weights for all symbols, for all sizes and types of symbols.
+
+ghost use Rattle.constriction_calls.specs.ChainCalls.{ChainEncodesListBy, chain_buffers};
+ghost use Rattle.constriction_chain.specs.Chain.{IsSized};
+ghost use Rattle.constriction_chain.specs.Fits.{CoderFits};
+ghost use Rattle.constriction_inputs.specs.Weights.{by_weights};
+ghost use Rattle.std.specs.Prelude.{◌≤◌, map};
+
+use crate::weights::CallerWeights;
+use constriction_calls::chain::{ChainHeads, encode_reverse};
+use constriction_inputs::refusal::Refusal;
+use constriction_inputs::symbol::Symbol;
+use constriction_inputs::symbols::Symbols;
+use constriction_words::{BitArray, WordOf};
+use std::alloc::Global;
+
+/// Encodes symbols from the last to the first, with one table of weights for all symbols.
+///
+/// Calls [`encode_reverse`] with the symbols and [`CallerWeights`], and returns its result.
+///
+/// # Errors
+///
+/// The call returns the errors of [`encode_reverse`] except `WrongInterval`.
+///
+/// # Examples
+///
+/// ```
+/// let mut heads = ChainHeads { remainders: 1u64 << 39, compressed: 1u32 };
+/// let (mut words, mut count, mut rest) = ([0u32; 4], 0, 2);
+/// let (weights, symbols) = ([8388608u32, 8388608], [1usize, 0]);
+/// encode_reverse_by_weights::<_, _, u32, _, 24>(
+///     alloc, &mut heads, &mut words, &mut count, &[7, 9], &mut rest, &weights, &symbols,
+/// ) // Ok(())
+/// ```
+#[inline]
+pub fn encode_reverse_by_weights<
+    Word: WordOf<State>,
+    State: BitArray,
+    P: WordOf<Word>,
+    S: Symbol,
+    const PRECISION: usize,
+>(
+    alloc: Global,
+    heads: &mut ChainHeads<Word, State>,
+    compressed: &mut [Word],
+    count: &mut usize,
+    remainders: &[Word],
+    rest: &mut usize,
+    weights: &[P],
+    symbols: &[S],
+) -> Result<(), Refusal>
+    requires sized { IsSized Word.BITS State.BITS PRECISION }
+    requires within { PRECISION ≤ P.BITS }
+    requires fits { CoderFits Word.row State.row }
+    ensures call { ChainEncodesListBy Word.BitArray State.BitArray PRECISION
+        (by_weights (map P.number weights.now) (S.numbers symbols.now))
+        (chain_buffers heads.old compressed.old count.old remainders.now rest.old)
+        (chain_buffers heads.new compressed.new count.new remainders.now rest.new) result }
+{
+    let models = CallerWeights { weights };
+    let items = Symbols { models, symbols };
+    encode_reverse::<_, _, P, _, PRECISION>(
+        alloc, heads, compressed, count, remainders, rest, &items,
+    )
+}
