@@ -12,7 +12,9 @@ from typing import Any
 from classes_of_families import KINDS
 from constriction import errors
 
-from constriction.stream.model import Bernoulli, Categorical, Model, QuantizedGaussian, Uniform, WeightTable
+from constriction.stream.model import (
+    Bernoulli, Categorical, CustomModel, Model, QuantizedGaussian, Uniform, WeightTable,
+)  # fmt: skip
 from constriction.stream.stack import AnsCoder, AnsCoders, SmallAnsCoder, SmallAnsCoders
 
 HEIGHTS = QuantizedGaussian(-20, 20, 1.5, 4.0)
@@ -98,6 +100,9 @@ class Lanes(unittest.TestCase):
         model, means = QuantizedGaussian(-9, 9), [0.5, 1.5, -3.0, 8.0, 2.0]
         batch.encode_reverse([0, 1, -3, 7, 2], model, means, 2.5)
         self.assertEqual(batch.decode(model, means, [2.5] * 5).tolist(), [0, 1, -3, 7, 2])
+        spread: Any = CustomModel(lambda x, k: min(max((x - k) / 40 + 0.5, 0), 1), None, -9, 9)
+        batch.encode_reverse([0, 1, -3, 7, 2], spread, means)
+        self.assertEqual(batch.decode(spread, means).tolist(), [0, 1, -3, 7, 2])
 
     def test_as_values(self) -> None:
         """Items, equality, copies, pickles, and words from other coders."""

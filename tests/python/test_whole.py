@@ -94,9 +94,9 @@ def whole(coder: Any) -> tuple[Any, ...]:
     ):
         if hasattr(coder, name):
             found = getattr(coder, name)()
-            told.append(
-                [it.tolist() if hasattr(it, "tolist") else it for it in found] if type(found) is tuple else found
-            )
+            if type(found) in (tuple, list):
+                found = [it.tolist() if hasattr(it, "tolist") else it for it in found]
+            told.append(found)
     return tuple(it.tolist() if hasattr(it, "tolist") else it for it in told)
 
 

@@ -33,6 +33,8 @@ class Lanes(test_whole.Case):
     """Batches of stack coders."""
 
     make: Any = AnsCoders
+    forms: tuple[Callable[[Any], Any], ...] = (list, list, tuple, iter)
+    forms_of_parameters = forms
 
     def made(self) -> Any:
         """Returns a batch of 2 to 7 coders with words, from which some symbols are decoded."""
@@ -66,19 +68,21 @@ class Lanes(test_whole.Case):
         def shaped(numbers: Any) -> Any:
             return rows_of(numbers, length) if by_rows else numbers
 
-        forms: list[Callable[[Any], Any]] = [list, tuple, iter]
+        form, form_of_parameters = dice.choice(self.forms), dice.choice(self.forms_of_parameters)
         if dice.random() < 0.4:
             model, known = self.fixed()
             if not encodes:
                 return lambda it: it.decode(model, amt=length) if by_rows else it.decode(model)
-            symbols, form = [dice.choice(known) for _ in range(count)], dice.choice(forms)
+            symbols = [dice.choice(known) for _ in range(count)]
             if not by_rows and dice.random() < 0.3:
                 return lambda it: it.encode_reverse(array("q", symbols), model)
             return lambda it: it.encode_reverse(form(shaped(symbols)), model)
         model, given, symbols = self.each(count)
-        if encodes:
-            return lambda it: it.encode_reverse(shaped(symbols), model, *map(shaped, given))
-        return lambda it: it.decode(model, *map(shaped, given))
+        if not encodes:
+            return lambda it: it.decode(model, *(form_of_parameters(shaped(numbers)) for numbers in given))
+        return lambda it: it.encode_reverse(
+            form(shaped(symbols)), model, *(form_of_parameters(shaped(numbers)) for numbers in given)
+        )
 
     def refused(self) -> Change:
         """Returns a call that raises an exception, often only because of the last coder."""

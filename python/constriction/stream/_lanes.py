@@ -9,7 +9,7 @@ from typing import Any, NamedTuple, SupportsIndex, TypeVar
 
 from .. import errors
 from .._answers import AS_USUAL, shifted
-from .._buffers import ANSWER, OWN, SYMBOL, Answer, List, Numbers, Parameter, copied_part, lent, listed, room
+from .._buffers import ANSWER, OWN, SYMBOL, Answer, List, Numbers, Parameter, lent, listed, numpy_module, room
 from .._coder import Coder
 from .._coding import _explained as explained
 from .._coding import model_wanted
@@ -75,6 +75,12 @@ def _rows(numbers: Any, count: int, core: int = 0) -> tuple[Any, Shape]:
             raise WrongLengthError(f"expected rows of one length, got the lengths {sorted(lengths)}")
         shape, numbers = (len(rows), lengths.pop()), [it for row in rows for it in row]
     return numbers, shape
+
+
+def _array(numbers: Any, shape: Shape) -> Any:
+    """Returns a flat list of numbers, or of rows, as a numpy array of this shape, or of rows of it."""
+    table = numpy_module().asarray(numbers)
+    return table.reshape(*shape, *table.shape[1:])
 
 
 class AnsCoders(Coder):
@@ -178,24 +184,22 @@ class AnsCoders(Coder):
 
     def _aligned(self, model: Model, given: tuple[Any, ...], shape: Shape | None) -> tuple[Any, Shape]:
         """Returns parameters as flat lists, and the shape that they have in common with the symbols."""
-        core = model.core
-        listed_given = []
+        core, found = model.core, []  # type: tuple[int, list[tuple[Any, bool]]]
         for it in given:
-            numbers = it if is_one(it) else _rows(it, 0, core)
-            if is_one(it):
-                listed_given.append(it)
-                continue
-            numbers, own = numbers
-            if len(own) == 2 and as_numpy(numbers) is None:
+            numbers, own = (it, ()) if is_one(it) else _rows(it, 0, core)
+            is_nested = len(own) == 2 and as_numpy(numbers) is None
+            if is_nested:
                 if shape is not None and shape != own:
                     raise WrongLengthError(f"expected parameters of shape {shape}, got {own}")
                 shape = own
-            listed_given.append(numbers)
-        flat = shape is not None and all(is_one(it) or as_numpy(it) is None for it in listed_given)
-        if shape is not None and flat and len(shape) == 2:
-            return aligned(core, listed_given, (shape[0] * shape[1],))[0], shape
-        found, common = aligned(core, listed_given, shape)
-        return found, common if shape is None else shape
+            found.append((numbers, is_nested))
+        lists = [numbers for numbers, _ in found]
+        if shape is not None and len(shape) == 2:
+            if all(is_one(it) or as_numpy(it) is None for it in lists):
+                return aligned(core, lists, (shape[0] * shape[1],))[0], shape
+            lists = [_array(numbers, shape) if is_nested else numbers for numbers, is_nested in found]
+        flat, common = aligned(core, lists, shape)
+        return flat, common if shape is None else shape
 
     def _packed(self, model: Model, given: tuple[Any, ...], count: int) -> tuple[Any, ...]:
         """Returns the rows of weights or counts of all symbols as arguments of a C function."""
@@ -236,7 +240,9 @@ class AnsCoders(Coder):
         rows.
         """
         if len(parameters) == 1 and amt is None and isinstance(model, Model) and not model.missing:
-            (amt,), parameters = parameters, ()
+            # A model of a function may have parameters or none. A single whole number is then a number of symbols.
+            if model.complete or is_one(parameters[0]) and hasattr(parameters[0], "__index__"):
+                (amt,), parameters = parameters, ()
         if amt is not None and parameters:
             raise TypeError("expected parameters or a number of symbols, got both")
         return self._changed(lambda state: self._decoded(state, model, parameters, amt))  # type: ignore[no-any-return]

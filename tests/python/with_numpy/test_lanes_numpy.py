@@ -6,7 +6,7 @@ import unittest
 from typing import Any
 
 from constriction import errors
-from constriction.stream.model import Categorical, QuantizedCauchy, QuantizedGaussian
+from constriction.stream.model import Categorical, QuantizedCauchy, QuantizedGaussian, QuantizedMixture
 from constriction.stream.stack import AnsCoder, AnsCoders
 
 numpy: Any
@@ -49,6 +49,26 @@ class Lanes(unittest.TestCase):
             self.assertEqual(coders.decode(model, rows[:, 1]).tolist(), symbols[:, 1].tolist())
             self.assertEqual(coders.decode(model, rows).tolist(), symbols.tolist())
             self.assertTrue(coders.is_empty())
+
+    def test_arrays_beside_lists(self) -> None:
+        """Some parameters are arrays, and others are lists of rows."""
+        dice, family = numpy.random.default_rng(5), QuantizedGaussian(-50, 50)
+        means, stds = dice.normal(0, 9, (4, 3)), dice.uniform(0.5, 9, (4, 3))
+        symbols = numpy.rint(means).astype("int64")
+        wanted, coders = AnsCoders(4), AnsCoders(4)
+        wanted.encode_reverse(symbols, family, means, stds)
+        for given in ((means, stds.tolist()), (means.tolist(), stds), (means.tolist(), stds.tolist())):
+            for numbers in (symbols, symbols.tolist()):
+                coders.encode_reverse(numbers, family, *given)
+                self.assertEqual(coders, wanted)
+                self.assertEqual(coders.decode(family, *given).tolist(), symbols.tolist())
+        coders.encode_reverse(symbols.tolist(), family, means.tolist(), stds[:, :1])
+        self.assertEqual(coders.decode(family, means.tolist(), stds[:, :1]).tolist(), symbols.tolist())
+        mixture, weights = QuantizedMixture(family), numpy.full((4, 3, 2), 0.5)
+        rows = numpy.stack([means, -means], axis=2)
+        coders.encode_reverse(symbols, mixture, weights.tolist(), rows, numpy.full((4, 3, 2), 2.5))
+        self.assertEqual(coders.decode(mixture, weights, rows.tolist(), numpy.full(2, 2.5)).tolist(), symbols.tolist())
+        self.assertTrue(coders.is_empty())
 
     def test_refusals(self) -> None:
         """Arrays of a wrong shape, and an impossible symbol, change no coder."""

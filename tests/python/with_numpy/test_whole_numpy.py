@@ -17,6 +17,7 @@ except ImportError:
 sys.path.insert(0, str(Path(__file__).resolve().parents[1]))
 
 import test_whole as of
+import test_whole_lanes as of_lanes
 
 
 def table(numbers: Any) -> Any:
@@ -28,12 +29,23 @@ def table(numbers: Any) -> Any:
 class WithNumpy(unittest.TestCase):
     """The random calls, with numpy."""
 
-    def test_random_calls(self) -> None:
-        """Random calls with arrays."""
-        whole = of.Whole("test_random_calls")
+    def ready(self, whole: of.Whole, calls: int) -> of.Whole:
+        """Returns a test of random calls after its setup."""
         whole.setUp()
         self.addCleanup(whole.doCleanups)
-        whole.calls = 6000
+        whole.calls = calls
+        return whole
+
+    def test_random_calls_of_batches(self) -> None:
+        """Random calls with arrays of shape (n,) and (n, T)."""
+        whole = self.ready(of_lanes.WholeLanes("test_random_calls"), 2000)
+        forms = (list, np.array, lambda it: np.array(it, dtype=">i4"), lambda it: np.array(it).astype("int16"))
+        with mock.patch.multiple(of_lanes.Lanes, forms=forms, forms_of_parameters=(list, np.array, np.array)):
+            whole.test_random_calls()
+
+    def test_random_calls(self) -> None:
+        """Random calls with arrays."""
+        whole = self.ready(of.Whole("test_random_calls"), 6000)
         forms = (
             *of.Case.forms, np.array, lambda it: np.array(it, dtype=">i4"), lambda it: np.array(it, dtype="int64").reshape(1, -1),
             lambda it: np.array(of.narrow(it)),
