@@ -15,7 +15,7 @@ from constriction import _library
 TOP = Path(__file__).resolve().parents[2]
 FOLDER = TOP / "examples/python"
 SCRIPTS = (
-    "adaptive_text", "ngram", "image", "mixture_image", "hyperprior", "lockstep", "bits_back", "records", "bit_stream", "sampled_latent",
+    "adaptive_text", "ngram", "image", "mixture_image", "hyperprior", "lockstep", "batch_images", "bits_back", "records", "bit_stream", "sampled_latent",
 )  # fmt: skip
 ENVIRONMENT = {
     **os.environ,
