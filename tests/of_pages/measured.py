@@ -72,6 +72,26 @@ def calls_from_python(rows):
             yield f"python_one_{coder}_{call}_{case} {1000 * float(cell.split()[0])}"
 
 
+def lanes(rows):
+    """Yields the lines of bench/lanes from C."""
+    cases = [f"lanes_{call}_{size}" for size in ("u32u64p24", "u16u32p12") for call in ("encode", "decode")]
+    names = "list_1", "list_3", "list_6", "list_64", "table_64", "table_1024", "gaussian_64", "gaussian_1024"
+    for (_, *cells), name in zip(rows, names):
+        for case, cell in zip(cases, cells):
+            time, *ratio = map(float, cell.strip(")").split(" ("))
+            yield f"{case}_{name} {time}"
+            if not name.startswith("list"):
+                yield f"{case}_{name}_alone {time / ratio[0]}"
+
+
+def lanes_from_python(rows):
+    """Yields the lines of bench/lanes from Python."""
+    for (_, *cells), count in zip(rows, (64, 1024)):
+        for call, cell in zip(("encode", "decode"), cells):
+            time, ratio = map(float, cell.strip(")").split(" ("))
+            yield f"python_lanes_{call}_{count} {time / ratio} {time}"
+
+
 def program(rows):
     """Yields the lines of two runs of bench/program, with the least and the greatest number of each cell."""
     for command, *cells in rows:
@@ -119,6 +139,8 @@ def test():
         "Gaussians from Python": gaussians_from_python,
         "lists from Python": lists_from_python,
         "calls from Python": calls_from_python,
+        "lanes": lanes,
+        "lanes from Python": lanes_from_python,
         "program": program,
         "gate": gate,
     }
