@@ -12,6 +12,7 @@ from itertools import islice
 from operator import index
 from typing import Any
 
+from . import _buffers
 from ._buffers import BYTE, NUMBER, SHORT, SYMBOL, WORD, List, numpy_module, room
 from .errors import InvalidDataError, Refusal, WrongLengthError, shown
 
@@ -90,6 +91,8 @@ def unmasked(numbers: Any) -> None:
 
 def as_numpy(numbers: Any) -> Any:
     """Returns a numpy array if ``numbers`` is one or can be converted to one. Otherwise returns None."""
+    if type(numbers) is _buffers.array_class:
+        return numbers
     numpy = numpy_module()
     if numpy is None or isinstance(numbers, (list, tuple, range, array)):
         return None

@@ -8,14 +8,14 @@ from math import inf, isfinite, isnan, nan
 from typing import Any
 
 from . import _buffers
-from ._buffers import NUMBER, SYMBOL, WORD, numpy_module, room
+from ._buffers import NUMBER, SYMBOL, WORD, numpy_module, room, seen_numpy
 from ._numbers import real
 from ._sizes import Size
 from .errors import WrongWeightsError, shown
 
 __all__ = [
     "FARTHEST", "MOST_WEIGHT", "NARROWEST", "SHARES", "UNITS_OF_ONE", "WIDEST", "component_weights_of", "counts_of_wholes", "halved", "locations_of",
-    "moved", "parts_of", "scales_of", "unit_of", "units_of", "wrong_probabilities", "wrong_row",
+    "moved", "parts_of", "quick_units_of", "scales_of", "unit_of", "units_of", "wrong_probabilities", "wrong_row",
 ]  # fmt: skip
 
 #: The number of units in a location or a scale of 1.
@@ -137,6 +137,20 @@ def _only(numbers: Any) -> float | None:
         if hasattr(number, "__len__"):
             return None
     return real(number) if type(number) is int or hasattr(number, "__float__") else None
+
+
+def quick_units_of(floats: Any, least: float, greatest: float, kind: str) -> Any:
+    """Returns the floats of a numpy array in units of 2^-16, rounded, as a numpy array of whole numbers.
+
+    Returns None for other lists, and if a float isn't between the least and the greatest one.
+    """
+    if type(floats) is not _buffers.array_class or floats.ndim != 1 or floats.dtype.char not in "df" or not len(floats):
+        return None
+    if not (least <= floats.item(floats.argmin()) and floats.item(floats.argmax()) <= greatest):  # False for NaN.
+        return None
+    numpy = seen_numpy()
+    table = numpy.multiply(floats, UNITS_OF_ONE, dtype="float64")
+    return numpy.rint(table, table).astype(kind)
 
 
 def units_of(floats: Any, unit: float, origin: float = 0.0) -> list[int] | None:

@@ -7,7 +7,7 @@ from collections.abc import Iterable, Iterator
 from ctypes import byref, c_size_t, sizeof
 from typing import Any, NamedTuple, SupportsIndex, TypeVar
 
-from .. import errors
+from .. import _buffers, errors
 from .._answers import AS_USUAL, shifted
 from .._buffers import ANSWER, OWN, SYMBOL, Answer, List, Numbers, Parameter, lent, listed, numpy_module, room
 from .._coder import Coder
@@ -66,6 +66,8 @@ def _rows(numbers: Any, count: int, core: int = 0) -> tuple[Any, Shape]:
     The shape is ``(count,)`` or ``(count, T)``. The numbers are an array, or a list whose items may be lists. ``core``
     is 1 if a row of weights is in the place of each number.
     """
+    if type(numbers) is _buffers.array_class:
+        return numbers, numbers.shape
     numbers = numbers if as_numpy(numbers) is not None else sequence_of(numbers)
     shape = shape_of(numbers)
     if as_numpy(numbers) is None and len(numbers) and _is_nested(next(iter(numbers)), core):
@@ -185,6 +187,9 @@ class AnsCoders(Coder):
     def _aligned(self, model: Model, given: tuple[Any, ...], shape: Shape | None) -> tuple[Any, Shape]:
         """Returns parameters as flat lists, and the shape that they have in common with the symbols."""
         core, found = model.core, []  # type: tuple[int, list[tuple[Any, bool]]]
+        own: Any = shape or getattr(given[0], "shape", ())
+        if not core and len(own) == 1 and all(type(it) is _buffers.array_class and it.shape == own for it in given):
+            return given, own
         for it in given:
             numbers, own = (it, ()) if is_one(it) else _rows(it, 0, core)
             is_nested = len(own) == 2 and as_numpy(numbers) is None

@@ -55,8 +55,8 @@ class Located(NamedTuple):
     family: int
     least: int
     greatest: int
-    locations: array[int]
-    scales: array[int]
+    locations: Any
+    scales: Any
 
     @property
     def form(self) -> str:

@@ -11,7 +11,7 @@ from typing import Any, SupportsIndex
 
 from ..._buffers import NUMBER, SYMBOL, WORD, Real, listed, room
 from ..._numbers import floats_of, real
-from ..._units import FARTHEST, NARROWEST, UNITS_OF_ONE, WIDEST, locations_of, moved, scales_of, unit_of
+from ..._units import FARTHEST, NARROWEST, UNITS_OF_ONE, WIDEST, locations_of, moved, quick_units_of, scales_of, unit_of
 from ._base import UNITS, Bound, Located, Model, equally_long, ranged, shown_range
 
 __all__ = ["QuantizedGaussian", "QuantizedLaplace", "QuantizedLogistic"]
@@ -73,6 +73,9 @@ class _Quantized(Model):
     def _located(self, given: Sequence[Any]) -> Located:
         """Returns locations and scales, from the given parameters and the model's own parameters."""
         self._known(given)
+        found = self._quickly_located(given) if len(given) == 2 and not self._origin else None
+        if found is not None:
+            return found
         lists = equally_long([floats_of(it) for it in given])
         count, (name, other) = len(lists[0]) if lists else 1, self._names
         if self._own_location is None:
@@ -80,6 +83,14 @@ class _Quantized(Model):
         else:
             locations = array(SYMBOL, (self._own_location,)) * count
         scales = scales_of(other, lists.pop(0)) if self._own_scale is None else array(WORD, (self._own_scale,)) * count
+        return Located(self._family, self._least, self._least + self._count - 1, locations, scales)
+
+    def _quickly_located(self, given: Sequence[Any]) -> Located | None:
+        """Does the same as ``_located`` in fewer steps, for two numpy arrays of floats that are within the bounds."""
+        locations = quick_units_of(given[0], -FARTHEST, FARTHEST, "int64")
+        scales = None if locations is None else quick_units_of(given[1], NARROWEST, WIDEST, "uint32")
+        if scales is None or len(locations) != len(scales):
+            return None
         return Located(self._family, self._least, self._least + self._count - 1, locations, scales)
 
     def _seldom(self) -> tuple[int, Any, Any] | None:
