@@ -141,7 +141,7 @@ static void range(size_t count) {
     struct world start = fresh(), w;
     draw(count);
     every_length("range: encode", range_encode, &start, 1);
-    refused_memory("range: encode, memory", range_encode, &start);
+    (count == 1 ? asks_again : refused_memory)("range: encode, memory", range_encode, &start);
     same("range: encode as under rows", range_encode, range_encode_rows, &start);
     w = start;
     done("range: encode", range_encode, &w);
