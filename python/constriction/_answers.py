@@ -4,6 +4,7 @@ from __future__ import annotations
 
 from typing import Any, NamedTuple
 
+from . import _buffers
 from ._buffers import BYTE, SHORT, SYMBOL, Numbers, answered, numpy_for_answers, numpy_module
 from ._numbers import count_of
 from ._shapes import Shape
@@ -25,6 +26,9 @@ def shape_counted(amt: Any) -> Shape:
 def shifted(places: Any, first: int) -> Any:
     """Converts indexes of a table to symbols: adds ``first`` to each index."""
     if not first or not len(places):
+        return places
+    if type(places) is _buffers.array_class:
+        places += first
         return places
     numpy = numpy_module()
     if numpy is not None:

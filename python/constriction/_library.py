@@ -255,6 +255,7 @@ def short_function(name: str) -> Any:
     return plain_function(name, _HELD)
 
 
+@cache
 def bound(name: str) -> Callable[..., None]:
     """Returns a function that does the same as ``call`` with this name, in fewer steps."""
     if name not in _FUNCTIONS:

@@ -39,6 +39,10 @@ class Size:
         """Calls the C function ``name`` of this size, and raises the exception of its result."""
         call(name + self.end, *arguments, texts=texts)
 
+    def function(self, name: str) -> Any:
+        """Returns a function that does the same as ``call`` with this name, in fewer steps."""
+        return bound(name + self.end)
+
     def short_function(self, name: str) -> Any:
         """Returns the C function ``name`` of this size for short calls, whose arguments are of the function's types."""
         return short_function(name + self.end)

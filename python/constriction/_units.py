@@ -148,9 +148,8 @@ def quick_units_of(floats: Any, least: float, greatest: float, kind: str) -> Any
         return None
     if not (least <= floats.item(floats.argmin()) and floats.item(floats.argmax()) <= greatest):  # False for NaN.
         return None
-    numpy = seen_numpy()
-    table = numpy.multiply(floats, UNITS_OF_ONE, dtype="float64")
-    return numpy.rint(table, table).astype(kind)
+    table = (floats if floats.dtype.char == "d" else floats.astype("float64")) * UNITS_OF_ONE
+    return seen_numpy().rint(table, table).astype(kind)
 
 
 def units_of(floats: Any, unit: float, origin: float = 0.0) -> list[int] | None:

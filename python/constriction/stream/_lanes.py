@@ -169,6 +169,9 @@ class AnsCoders(Coder):
                 kind, models = located.form, located.lent(slice(0, count))
             else:
                 models = listed(model.table())
+            if type(symbols) is _buffers.array_class and symbols.dtype == numpy_module().int64:
+                own = symbols - model.first  # A copy: other code may change the array during the call.
+                return self._encode(kind, state, count, (*models, lent(own), count))
             places = places_of(symbols, model.first)
             try:
                 return self._encode(kind, state, count, (*models, places.lent(slice(0, count)), count))
@@ -229,13 +232,13 @@ class AnsCoders(Coder):
         coders = len(state.heads)
         while True:
             heads, lens, needed = state.heads[:], state.lens[:], c_size_t(0)
-            lead = *listed(heads), lent(state.words), coders * state.width, *listed(lens)
+            lead = *heads.buffer_info(), lent(state.words), coders * state.width, *lens.buffer_info()
             try:
-                self._size.call(f"ans_lanes_encode{kind}_reverse", *lead, *arguments, byref(needed))
+                self._size.function(f"ans_lanes_encode{kind}_reverse")(*lead, *arguments, byref(needed))
             except NoSpaceError:
                 state = _widened(state, max(needed.value, 2 * state.width, 4), self._size)
                 continue
-            return state._replace(heads=heads, lens=lens)
+            return _State(heads, state.words, state.width, lens)
 
     def decode(self, model: Model, *parameters: Any, amt: SupportsIndex | None = None) -> Answer:
         """Decodes a symbol from each coder, ``amt`` symbols from each, or one for each set of parameters.
@@ -270,7 +273,10 @@ class AnsCoders(Coder):
                 state, symbols = self._decoded_by(state, model, given, shape)
         except Refusal as refused:
             raise explained(refused, (), model, given) from None
-        return state, AS_USUAL.given(shifted(symbols, model.first), shape if numpy_shaped(symbols) else shape[:1])
+        symbols = shifted(symbols, model.first)
+        if type(symbols) is _buffers.array_class:
+            return state, symbols if len(shape) == 1 else symbols.reshape(shape)
+        return state, AS_USUAL.given(symbols, shape if numpy_shaped(symbols) else shape[:1])
 
     def _decoded_by(self, state: _State, model: Model, given: Any, shape: Shape) -> tuple[_State, Any]:
         """Returns the state after a decode of a symbol for each set of parameters, and the symbols."""
@@ -304,9 +310,9 @@ class AnsCoders(Coder):
 
     def _decode(self, kind: str, state: _State, arguments: tuple[Any, ...]) -> _State:
         heads, lens = state.heads[:], state.lens[:]
-        lead = *listed(heads), lent(state.words), len(heads) * state.width, *listed(lens)
-        self._size.call(f"ans_lanes_decode{kind}", *lead, *arguments)
-        return state._replace(heads=heads, lens=lens)
+        lead = *heads.buffer_info(), lent(state.words), len(heads) * state.width, *lens.buffer_info()
+        self._size.function(f"ans_lanes_decode{kind}")(*lead, *arguments)
+        return _State(heads, state.words, state.width, lens)
 
     def __len__(self) -> int:
         """Returns the number of coders."""
