@@ -2,7 +2,7 @@
 
 They are `function` if the crate has only one function of that name, and otherwise `module::function`, `Type::method`,
 `TypeTraitArguments::method`, or `Type+ARGUMENTS::method` for a method of a type with certain arguments, or of a type's
-alias.
+alias. If several modules have a type of that name, the module stands before it.
 """
 
 import functools
@@ -59,9 +59,11 @@ def name_of(crate_folder, path, function):
     named = [(file, it) for file, it in functions(crate_folder) if it.name == function]
     if len(named) == 1 and function not in DERIVED and function not in modules(crate_folder):
         return [function]
-    module = [] if path in ("lib", "main") else path.split("/")
-    here = [it for file, it in named if file == f"{crate_folder}/src/{path}.rt"]
-    return sorted({"::".join([*(owner(it.head, aliases(crate_folder)) or module), function]) for it in here})
+    module, own = [] if path in ("lib", "main") else path.split("/"), f"{crate_folder}/src/{path}.rt"
+    owners = [(file, owner(it.head, aliases(crate_folder))) for file, it in named]
+    elsewhere = [of for file, of in owners if file != own]
+    here = [[*module, *of] if of in elsewhere else of or module for file, of in owners if file == own]
+    return sorted({"::".join([*it, function]) for it in here})
 
 
 def owner(head, named=frozenset()):
