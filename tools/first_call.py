@@ -26,20 +26,20 @@ from unproved_answer import UnprovedAnswer
 # The processor time of each proof from nothing with one job, as a multiple of the proof of constriction_words.
 WEIGHTS = {
     "constriction_words": 1.0,
-    "constriction_base": 4.0,
-    "constriction_stream": 1.9,
-    "constriction_models": 4.3,
+    "constriction_base": 3.6,
+    "constriction_stream": 1.2,
+    "constriction_models": 3.6,
     "constriction_stack": 4.0,
-    "constriction_queue": 6.1,
-    "constriction_chain": 5.5,
-    "constriction_symbol": 7.0,
-    "constriction_store": 3.2,
-    "constriction_commands": 4.7,
-    "constriction_cli": 0.8,
-    "constriction_inputs": 3.9,
-    "constriction_calls": 16.1,
-    "constriction_lanes": 2.0,
-    "constriction_c": 13.5,
+    "constriction_queue": 4.4,
+    "constriction_chain": 4.0,
+    "constriction_symbol": 4.8,
+    "constriction_store": 2.3,
+    "constriction_commands": 3.2,
+    "constriction_cli": 0.6,
+    "constriction_inputs": 4.7,
+    "constriction_calls": 12.8,
+    "constriction_lanes": 2.4,
+    "constriction_c": 10.5,
 }
 # That of a proof over what the proof for x86-64 has checked.
 WEIGHT_AGAIN = 1.0
