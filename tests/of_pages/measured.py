@@ -118,6 +118,16 @@ def gate(rows):
     yield f"| `rt ci` | {(proofs + others) / 60} |"
 
 
+def first_calls(rows):
+    """Yields the lines of bench/first_call."""
+    text = " ".join(tables()["first call"][0].split())
+    yield f"constriction_words: {re.search(r'which took ([0-9]+) ', text)[1]}"
+    if answered := re.search(r"unproved answer after (\d+) s", text):
+        yield f"unproved answer: {answered[1]}"
+    for name, (_, *cells) in zip(("first call", "library"), rows):
+        yield f"{name}: {' '.join(cell.split()[0] for cell in cells)}"
+
+
 def sentences(found):
     """Judges what other pages say of tables."""
     names = {"__name__": "table", "__file__": f"{TOP}/bench/table"}
@@ -143,6 +153,7 @@ def test():
         "lanes from Python": lanes_from_python,
         "program": program,
         "gate": gate,
+        "first call": first_calls,
     }
     found = tables()
     judge(found.keys() == lines.keys(), f"{PAGE} has the tables {', '.join(found)}")
