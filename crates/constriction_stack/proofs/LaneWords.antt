@@ -1,5 +1,5 @@
 -- The words in use of a buffer as a stack: none, or a top word above the others.
-use Rattle.std.proofs.Common.{◌≡◌, ◌∙◌, ℕ, ◌+◌, ◌-◌, ◌*◌, ◌%◌, ◌^◌, ◌<◌, ◌≤◌, List, [], ◌∷◌, ◌++◌, length, map, take, reverse, get_or, set, refl, sym, ap, arith}
+use Rattle.std.proofs.Common.{◌≡◌, ◌∙◌, ℕ, zero, suc, drop, ◌+◌, ◌-◌, ◌*◌, ◌%◌, ◌^◌, ◌<◌, ◌≤◌, List, [], ◌∷◌, ◌++◌, length, map, take, reverse, get_or, set, refl, sym, ap, arith}
 use Rattle.std.proofs.lemmas.List.{length-take, take-set-le, take-take, take_more, take_more_set}
 use Rattle.std.proofs.lemmas.Nat.{pow_pos, mul-add-lt, mod_below}
 use Rattle.constriction_base.proofs.Ends.{reverse_push}
@@ -36,6 +36,21 @@ pub more_in : {W : Type 0} (number : W → ℕ) (buffer : List W) (len : ℕ) (w
     → stack_in number (set buffer len word) (len + 1) ≡ number word ∷ stack_in number buffer len
 more_in {W} number buffer len word within =
     ap (λ (ws : List W). map number (reverse ws)) (take_more_set buffer len word within) ∙ ap (map number) (reverse_push (take len buffer) word)
+
+-- the words behind those in use, as far as they count: none, or the one that is written
+pub none_behind : {W : Type 0} (number : W → ℕ) (buffer : List W) (len : ℕ) (word : W) → stack_in number (drop len (set buffer len word)) (len - len) ≡ []
+none_behind number buffer len word = none_in number (drop len (set buffer len word)) (len - len) (omega arith)
+
+one_taken : {W : Type 0} (buffer : List W) (len : ℕ) (word : W) → len < length buffer → take 1 (drop len (set buffer len word)) ≡ word ∷ []
+one_taken [] len word within = absurd (omega (arith, within))
+one_taken (x ∷ xs) zero word within = refl
+one_taken (x ∷ xs) (suc len) word within = one_taken xs len word (omega (arith, within))
+
+pub one_behind : {W : Type 0} (number : W → ℕ) (buffer : List W) (len : ℕ) (word : W) → len < length buffer
+    → stack_in number (drop len (set buffer len word)) (len + 1 - len) ≡ number word ∷ []
+one_behind {W} number buffer len word within =
+    let one : len + 1 - len ≡ 1 = omega arith in
+    ap (λ n. stack_in number (drop len (set buffer len word)) n) one ∙ ap (λ (ws : List W). map number (reverse ws)) (one_taken buffer len word within)
 
 -- the state of a coder that reads the first words of a buffer
 pub lent_state : {W : Type 0} (number : W → ℕ) (head pos left len : ℕ) (lent words : List W) → lent ≡ take len words → pos ≤ length lent → left ≡ pos

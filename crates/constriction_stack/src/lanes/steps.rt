@@ -1,6 +1,6 @@
 //! The two steps of a coder whose words are the first words of a slice, without a branch on the head.
 
-ghost use Rattle.std.specs.Prelude.{◌≡◌, ◌+◌, ◌-◌, ◌^◌, ◌<◌, ◌≤◌, drop, length, map, reverse, take, IfSome};
+ghost use Rattle.std.specs.Prelude.{◌≡◌, ◌+◌, ◌-◌, ◌^◌, ◌<◌, ◌≤◌, [], drop, length, map, reverse, take, IfSome};
 ghost use Rattle.constriction_base.specs.Steps.{IsSizes, IsStep};
 ghost use Rattle.constriction_words.specs.Reciprocals.{IsReciprocalOf};
 ghost use Rattle.constriction_stack.specs.Ans.{IsPush, IsNormalized, refilled};
@@ -81,6 +81,8 @@ fn refill_from<Word: WordOf<State>, State: BitArray>(
 /// Encodes the symbol of the interval `[left, left + p)` onto the coder with the head `head` and the words
 /// `words[..len]`. Returns the new head, and the new number of words, which is `len` or `len + 1`.
 ///
+/// The new head and the word that moves out of the head depend on the head alone, even if the state isn't normalized.
+///
 /// The caller proves that `words` has room for one word behind the first `len`, that the interval is a step at
 /// `precision` bits, and that `reciprocal`, if there is one, is the reciprocal of `p`. The call writes `words[len]`
 /// even if no word moves out of the head, and no other word.
@@ -102,6 +104,10 @@ pub fn encode_onto<Word: WordOf<State>, State: BitArray>(
         → IsPush Word.BITS State.BITS record { precision = precision; left = State.number left; p = State.number p }
         (lane Word.number State.number head words.old len)
         (lane Word.number State.number result.0 words.new result.1) }
+    ensures alone { IsPush Word.BITS State.BITS
+        record { precision = precision; left = State.number left; p = State.number p }
+        (lane Word.number State.number head [] 0)
+        (lane Word.number State.number result.0 (drop len words.new) (result.1 - len)) }
     ensures more { (len ≤ result.1) × (result.1 ≤ len + 1) }
     ensures kept { (take len words.new ≡ take len words.old) × (drop (len + 1) words.new ≡ drop (len + 1) words.old) }
 {

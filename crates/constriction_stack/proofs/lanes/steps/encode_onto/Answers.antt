@@ -1,11 +1,12 @@
-use Rattle.std.proofs.Common.{arith, drop-set-lt, inl, inr, ◌+◌, ◌-◌}
+use Rattle.std.proofs.Common.{arith, drop-set-lt, inl, inr, refl, ◌+◌, []}
 use Rattle.std.proofs.lemmas.List.{take-set-le}
 use Rattle.constriction_base.specs.Steps.{Step}
 use Rattle.constriction_base.proofs.Heads.{no_room_of_high, room_after_word, room_of_low}
 use Rattle.constriction_base.proofs.Sizes.{above_table}
 use Rattle.constriction_stack.proofs.Pushing.{push_kept, push_written}
+use Rattle.constriction_stack.specs.Ans.{AnsState, IsNormalized}
 use Rattle.constriction_stack.specs.Lanes.{lane}
-use Rattle.constriction_stack.proofs.LaneWords.{more_in, same_in}
+use Rattle.constriction_stack.proofs.LaneWords.{more_in, none_behind, one_behind, same_in}
 use Rattle.constriction_stack.proofs.lanes.steps.encode_onto.Goals as goal
 
 pub push_head-requires-clause-room : goal.push_head-requires-clause-room
@@ -32,3 +33,17 @@ returns-clause-kept g c =
     let words = c.args.words.now in
     let len = c.args.len in
     (take-set-le len words len c.narrow.result (omega arith), drop-set-lt (len + 1) words len c.narrow.result (omega arith))
+
+pub returns-clause-alone : goal.returns-clause-alone
+returns-clause-alone g c =
+    let w = g.Word.BitArray.BITS in
+    let s = g.State.BitArray.BITS in
+    let e : Step = record { precision = c.args.precision; left = g.State.BitArray.number c.args.left; p = g.State.BitArray.number c.args.p } in
+    let old : AnsState = record { head = g.State.BitArray.number c.args.head; words = [] } in
+    let valid : IsNormalized w s old = record { state = record { fits = g.met.State.BitArray.number_law _; are_words = tt }; full = inr refl } in
+    elim c.make_room-base.ensures [
+      | inl fits ↦ rw (c.push_head.ensures, fits.1, fits.2, none_behind g.Word.BitArray.number c.args.words.now c.args.len c.narrow.result)
+          (push_kept w s e c.requires.sizes c.requires.step old valid (rw (← above_table w s e c.requires.sizes c.requires.step) (room_of_low _ _ _ fits.0)))
+      | inr above ↦ rw (c.push_head.ensures, above.1, above.2, one_behind g.Word.BitArray.number c.args.words.now c.args.len c.narrow.result c.requires.room, c.narrow.ensures)
+          (push_written w s e c.requires.sizes c.requires.step old valid (rw (← above_table w s e c.requires.sizes c.requires.step) (no_room_of_high _ _ _ (λ less. omega (arith, above.0, less)))))
+    ]

@@ -1,4 +1,4 @@
-use Rattle.std.proofs.Common.{refl, inl, inr, ◌-◌}
+use Rattle.std.proofs.Common.{refl, inl, inr}
 use Rattle.constriction_stack.proofs.Coders.{not_less}
 use Rattle.constriction_stack.proofs.lanes.steps.make_room.Goals as goal
 
