@@ -178,6 +178,7 @@ impl<Probability: BitArray, const PRECISION: usize> WeightTable<Probability, PRE
     pub fn for_decoding(alloc: Global, weights: &[Probability]) -> Result<Self, TableError>
         requires { (1 ≤ PRECISION) × (PRECISION ≤ Probability.BITS) }
         ensures ok { IfOk result (λ t. entries t ≡ table_of (map Probability.number weights.now)) }
+        ensures reciprocals { IfOk result (λ t. HasReciprocals t → ⊥) }
         ensures total { OnOk result (sum_by Probability.number weights.now ≡ 2 ^ PRECISION) }
         ensures empty { IsErrOf result TableError.Empty ↔ (weights.now ≡ []) }
         ensures wrong_total { IsErrOf result TableError.WrongTotal ↔ ((weights.now ≢ [])
