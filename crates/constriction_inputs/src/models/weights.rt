@@ -1,8 +1,8 @@
 //! `Weights`: one table of weights for all symbols.
 
-ghost use Rattle.std.specs.Prelude.{◌≡◌, ◌≤◌, map, IfSome};
+ghost use Rattle.std.specs.Prelude.{◌≡◌, ◌≤◌, map, IfSome, IsTrue};
 ghost use Rattle.constriction_base.specs.Tables.{table_of};
-ghost use Rattle.constriction_base.specs.WeightTables.{entries};
+ghost use Rattle.constriction_base.specs.WeightTables.{entries, HasReciprocals};
 ghost use Rattle.constriction_inputs.specs.Weights.{by_weights};
 
 use crate::known::is_known;
@@ -154,7 +154,8 @@ pub fn table_by<P: BitArray, const PRECISION: usize>(
     divides: bool,
 ) -> Option<WeightTable<P, PRECISION>>
     requires { (1 ≤ PRECISION) × (PRECISION ≤ P.BITS) }
-    ensures { IfSome result (λ table. entries table ≡ table_of (map P.number weights.now)) }
+    ensures table { IfSome result (λ table. entries table ≡ table_of (map P.number weights.now)) }
+    ensures reciprocals { IfSome result (λ table. IsTrue divides → PRECISION ≤ 63 → HasReciprocals table) }
 {
     let made = if divides {
         WeightTable::new(alloc, weights)
