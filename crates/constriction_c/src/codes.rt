@@ -7,7 +7,7 @@
 //! `include/constriction.h` itself defines `constriction_result_text`, which returns the text of a code. An exported
 //! function of this crate can't return a pointer.
 
-ghost use Rattle.std.specs.Prelude.{◌≡◌, ℕ, Err};
+ghost use Rattle.std.specs.Prelude.{◌≡◌, ◌≤◌, ℕ, Err};
 ghost use Rattle.constriction_inputs.specs.declared.refusal.Refusal.TheVariants.{NoSpace};
 ghost use Rattle.constriction_c.specs.Codes.{answer_by_code, needed_by};
 
@@ -22,6 +22,7 @@ use constriction_inputs::refusal::Refusal;
 pub fn code_of(answer: Result<(), Refusal>, needed: &mut usize) -> u32
     ensures code { answer_by_code result needed.new ≡ answer }
     ensures needed { needed.new ≡ needed_by answer needed.old }
+    ensures within { result ≤ 8 }
 {
     match answer {
         Ok(()) => 0,
