@@ -16,7 +16,7 @@ pub mod positions;
 pub mod symbols;
 pub mod through_guard;
 
-ghost use Rattle.std.specs.Prelude.{◌≡◌, ◌↔◌, [], map, IsTrue};
+ghost use Rattle.std.specs.Prelude.{◌≡◌, ◌↔◌, [], map, IsTrue, vec_capacity};
 ghost use Rattle.constriction_base.specs.Steps.{IsSizes};
 ghost use Rattle.constriction_queue.specs.Range.{initial};
 ghost use Rattle.constriction_queue.specs.States.{lower_of, range_of};
@@ -93,6 +93,7 @@ impl<Word: WordOf<State>, State: BitArray> RangeEncoder<Word, State, Vec<Word>> 
         requires { IsSizes Word.BITS State.BITS }
         ensures run { run_by Word.BITS State.BITS result ≡ initial State.BITS }
         ensures held { result.held ≡ [] }
+        ensures room { vec_capacity result.bulk ≡ 0 }
         ensures coder { IsEncoder Word.number ⟦<Vec<Word> as Holds<Word, Stack>>⟧ Word.BITS State.BITS result }
     {
         RangeEncoder::with_write_backend(Vec::new(alloc))
@@ -109,6 +110,7 @@ impl<Word: WordOf<State>, State: BitArray, A: Allocator> RangeEncoder<Word, Stat
         ensures run { run_by Word.BITS State.BITS self.new ≡ initial State.BITS }
         ensures held { self.new.held ≡ [] }
         ensures coder { IsEncoder Word.number ⟦<Vec<Word, A> as Holds<Word, Stack>>⟧ Word.BITS State.BITS self.new }
+        ensures room { vec_capacity self.new.bulk ≡ vec_capacity self.old.bulk }
     {
         self.bulk.clear();
         self.state = RangeCoderState::start();

@@ -14,7 +14,7 @@ pub mod words;
 
 ghost use Rattle.constriction_base.specs.Steps.{IsSizes};
 ghost use Rattle.constriction_stack.specs.Ans.{AnsValue, IsCoder, empty, state_of, value_of};
-ghost use Rattle.std.specs.Prelude.{IsTrue, [], ◌↔◌, ◌≡◌, ◌%◌, ◌^◌};
+ghost use Rattle.std.specs.Prelude.{IsTrue, [], vec_capacity, ◌↔◌, ◌≡◌, ◌%◌, ◌^◌};
 
 use constriction_base::backends::{Holds, Stack, WriteWords};
 use constriction_words::{BitArray, WordOf};
@@ -77,6 +77,7 @@ impl<Word: WordOf<State>, State: BitArray> AnsCoder<Word, State, Vec<Word>> {
     pub fn new(alloc: Global) -> Self
         requires { IsSizes Word.BITS State.BITS }
         ensures state { result.state ≡ empty }
+        ensures room { vec_capacity result.backend ≡ 0 }
         ensures coder { IsCoder Word.number ⟦<Vec<Word> as Holds<Word, Stack>>⟧ Word.BITS State.BITS result }
     {
         AnsCoder {
@@ -92,6 +93,7 @@ impl<Word: WordOf<State>, State: BitArray, A: Allocator> AnsCoder<Word, State, V
     pub fn clear(&mut self)
         ensures state { self.new.state ≡ empty }
         ensures coder { IsCoder Word.number ⟦<Vec<Word, A> as Holds<Word, Stack>>⟧ Word.BITS State.BITS self.new }
+        ensures room { vec_capacity self.new.backend ≡ vec_capacity self.old.backend }
     {
         self.bulk.clear();
         self.state = State::nothing();
