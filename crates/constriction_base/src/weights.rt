@@ -24,7 +24,7 @@ ghost use Rattle.constriction_words.specs.Reciprocals.{IsReciprocalOf};
 ghost use Rattle.constriction_base.specs.declared.weights.TableError.TheVariants as errors;
 
 use crate::model::{DecoderModel, EncoderModel, EntropyModel};
-use crate::weights::rows::{Row, make_rows, shift_for};
+use crate::weights::rows::{Row, buckets_for, make_rows, shift_for};
 use crate::weights::starts::{known_symbols, starts_of, weight_of};
 use constriction_words::{BitArray, Reciprocal};
 use std::alloc::{AllocError, Global};
@@ -114,8 +114,9 @@ impl<Probability: BitArray, const PRECISION: usize> WeightTable<Probability, PRE
     /// symbol with a weight above 0. The table keeps:
     ///
     /// - `n` starts of type `Probability`, one for each of these symbols.
-    /// - At most `4 * n + 1` rows, which speed up decoding. A row takes 16 bytes if `Probability` has at most 32 bits,
-    ///   24 bytes if it has 64 bits, and 48 bytes if it has 128 bits.
+    /// - Rows, which speed up decoding. If `Probability` has at most 32 bits, these are at most `4 * n + 1` rows of 16
+    ///   bytes. If it has 64 bits, these are at most `2 * n + 1` rows of 24 bytes. If it has 128 bits, these are at most
+    ///   `n + 1` rows of 48 bytes, but at least 3.
     /// - At a precision of at most 63 bits, `n` reciprocals of 24 bytes each. With a reciprocal, an encoder whose state
     ///   has at most 64 bits multiplies instead of dividing by the weight.
     ///
@@ -192,7 +193,7 @@ impl<Probability: BitArray, const PRECISION: usize> WeightTable<Probability, PRE
             return Err(TableError::WrongTotal);
         };
         let starts = starts_of(alloc, &weights[..known - 1])?;
-        let shift = shift_for(known, PRECISION);
+        let shift = shift_for(known, PRECISION, buckets_for(Probability::BITS));
         let rows = make_rows::<Probability, PRECISION>(alloc, &starts, shift)?;
         Ok(WeightTable {
             starts,

@@ -4,9 +4,11 @@
 //! symbol's interval. If this interval doesn't hold a quantile of the bucket, a search begins at the next symbol. It
 //! ends at the symbol of the next row. The last row, which comes after those of the buckets, holds the last symbol.
 //!
-//! The number of buckets is a power of two. It is at most `2 ^ PRECISION`, and at most 2^63. Let `n` be the number of
-//! symbols up to and including the last symbol with a weight above 0. There are at most `4 * n` buckets. There are more
-//! than `2 * n` buckets, unless the number of buckets is `2 ^ PRECISION` or 2^63.
+//! The number of buckets is a power of two. It is at least 2, at most `2 ^ PRECISION`, and at most 2^63. Let `n` be the
+//! number of symbols up to and including the last symbol with a weight above 0. If there are more than 2 buckets, there
+//! are at most `4 * n` of them if `Probability` has at most 32 bits, at most `2 * n` if it has 64 bits, and at most `n`
+//! if it has 128 bits. So the rows of buckets take at most `64 * n` bytes. There are more than half as many buckets,
+//! unless their number is `2 ^ PRECISION` or 2^63.
 
 ghost use Rattle.std.specs.Prelude.{◌≡◌, ◌+◌, ◌-◌, ◌*◌, ◌^◌, ◌<◌, ◌≤◌, ◌⊎◌, length, map, slice_index, IfOk};
 ghost use Rattle.constriction_base.specs.Tables.{IsRising};
@@ -24,21 +26,44 @@ pub struct Row<Probability: Copy + Drop> {
     pub symbol: usize,
 }
 
+/// Returns the binary logarithm of the greatest number of buckets for each symbol, if `Probability` has `bits` bits.
+///
+/// A row takes 16 bytes if `Probability` has at most 32 bits, 24 bytes if it has 64 bits, and 48 bytes if it has 128
+/// bits. With 4, 2 and 1 buckets for each symbol, the rows take at most 64 bytes for each symbol.
+pub fn buckets_for(bits: u32) -> u32
+    ensures value { (bits ≤ 32 → result ≡ 2) × (32 < bits → bits ≤ 64 → result ≡ 1) × (64 < bits → result ≡ 0) }
+    ensures few { result ≤ 2 }
+{
+    if bits <= 32 {
+        2
+    } else if bits <= 64 {
+        1
+    } else {
+        0
+    }
+}
+
 /// Returns the number of low bits in which the quantiles of a bucket differ, in a table of `symbols` symbols.
 ///
-/// All quantiles with the same higher bits form a bucket. `precision` is the table's precision in bits. The table has
-/// at most `4 * symbols` buckets. It has more than `2 * symbols` buckets unless each bucket is a single quantile, or
-/// there are 2^63 buckets.
-pub fn shift_for(symbols: usize, precision: usize) -> u32
+/// All quantiles with the same higher bits form a bucket. `precision` is the table's precision in bits. `buckets` is
+/// the binary logarithm of the greatest number of buckets for each symbol, from [`buckets_for`]. The caller proves that
+/// it is at most 2.
+///
+/// The table has at least 2 buckets. It has more than half of the greatest number of buckets unless each bucket is a
+/// single quantile, or there are 2^63 buckets.
+pub fn shift_for(symbols: usize, precision: usize, buckets: u32) -> u32
     requires some { 0 < symbols }
     requires within { (1 ≤ precision) × (precision ≤ 128) }
+    requires few { buckets ≤ 2 }
     ensures within { result < precision }
     ensures fits { precision - result ≤ 63 }
     ensures most { 2 ^ (precision - result) ≤ 4 * symbols }
-    ensures least { (2 * symbols < 2 ^ (precision - result)) ⊎ (result ≡ 0) ⊎ (precision - result ≡ 63) }
+    ensures few { (2 ^ (precision - result) ≤ 2 ^ buckets * symbols) ⊎ (precision - result ≡ 1) }
+    ensures least { (2 ^ buckets * symbols < 2 * 2 ^ (precision - result)) ⊎ (result ≡ 0) ⊎ (precision - result ≡ 63) }
 {
     let precision = precision as u32;
-    precision - precision.min(symbols.ilog2() + 2).min(63)
+    let index_bits = (symbols.ilog2() + buckets).max(1);
+    precision - precision.min(index_bits).min(63)
 }
 
 /// Returns the last symbol at or after `from` whose interval starts at or below `quantile`.
