@@ -1,13 +1,11 @@
--- Reciprocals of weights, made one after another and looked up.
-use Rattle.std.proofs.Common.{◌≡◌, ℕ, ◌+◌, ◌-◌, ◌<◌, ◌≤◌, List, [], ◌∷◌, ◌++◌, length, get_or, refl, sym, ◌∙◌, subst, inl, inr, arith, length-append}
-use Rattle.std.specs.Prelude.{Option, None, Some, IfSome, IfNone}
+-- Rows of symbols, made one after another and looked up.
+use Rattle.std.proofs.Common.{◌≡◌, ℕ, ◌+◌, ◌<◌, ◌≤◌, List, [], ◌∷◌, ◌++◌, length, get_or, refl, sym, subst, inl, inr, arith, length-append}
 use Rattle.std.proofs.lemmas.Bool.{cases_lt}
-use Rattle.std.proofs.lemmas.List.{get_or_append_left, get_or_push}
-use Rattle.constriction_words.specs.declared.reciprocal.Reciprocal.{Reciprocal}
-use Rattle.constriction_words.specs.Reciprocals.{IsReciprocalOf}
-use Rattle.constriction_base.specs.Reciprocals.{AreReciprocals}
-use Rattle.constriction_base.specs.Tables.{Has, IsRising, table_of, weights_between}
-use Rattle.constriction_base.specs.laws.Weights.{weight_at, ends_inside, ends_at, has_only}
+use Rattle.std.proofs.lemmas.List.{get_or_append_left, get_or_push, get_or_past}
+use Rattle.constriction_base.specs.Reciprocals.{AreSymbolRows, IsSymbolRow}
+use Rattle.constriction_base.specs.Tables.{IsRising, weights_between}
+use Rattle.constriction_base.specs.declared.weights.rows.SymbolRow.{SymbolRow}
+use Rattle.constriction_base.specs.laws.Weights.{weight_at, ends_inside, ends_at, length-weights_between}
 
 -- no weight is more than all of them
 pub weight_within : (starts : List ℕ) (high k : ℕ) → IsRising starts high → k < length starts → get_or (weights_between starts high) k 0 ≤ high
@@ -16,27 +14,20 @@ weight_within starts high k rising inside = elim (cases_lt (k + 1) (length start
   | inr end ↦ omega (arith, weight_at starts high k inside, ends_at starts high k end)
 ]
 
--- one reciprocal more
-pub one_more : (weights : List ℕ) (made : List Reciprocal) (next : Reciprocal) (i : ℕ) → length made ≡ i → AreReciprocals weights made → (0 < get_or weights i 0 → IsReciprocalOf next (get_or weights i 0)) → AreReciprocals weights (made ++ next ∷ [])
-one_more weights made next i count are is k r within at some = elim (cases_lt k (length made)) [
-  | inl old ↦ are k r old (sym (get_or_append_left made (next ∷ []) r k old) ∙ at) some
+-- one row more
+pub symbol_rows_push : {P : Type 0} (number : P → ℕ) (starts : List ℕ) (high : ℕ) (rows : List (SymbolRow P)) (row : SymbolRow P) (i : ℕ) → length rows ≡ i
+    → AreSymbolRows number starts high rows → IsSymbolRow number starts high i row → AreSymbolRows number starts high (rows ++ row ∷ [])
+symbol_rows_push {P} number starts high rows row i count are is k other within = elim (cases_lt k (length rows)) [
+  | inl old ↦ subst (λ (r : SymbolRow P). IsSymbolRow number starts high k r) (sym (get_or_append_left rows (row ∷ []) other k old)) (are k other old)
   | inr new ↦
-      let place : k ≡ i = omega (arith, length-append made (next ∷ [])) in
-      let same : next ≡ r = sym (get_or_push made next r k (omega arith)) ∙ at in
-      subst (λ (y : Reciprocal). IsReciprocalOf y (get_or weights k 0)) same (subst (λ (j : ℕ). IsReciprocalOf next (get_or weights j 0)) (sym place) (is (subst (λ (j : ℕ). 0 < get_or weights j 0) place some)))
+      let place : k ≡ i = omega (arith, length-append rows (row ∷ [])) in
+      subst (λ (r : SymbolRow P). IsSymbolRow number starts high k r) (sym (get_or_push rows row other k (omega (arith, place, count))))
+      (subst (λ (j : ℕ). IsSymbolRow number starts high j row) (sym place) is)
 ]
 
--- a weight's reciprocal is that of the length of its symbol's interval
-pub of_entry : (ws : List ℕ) (x l p : ℕ) (found : Option Reciprocal) → Has (table_of ws) x l p
-    → IfSome found (λ r. 0 < get_or ws x 0 → IsReciprocalOf r (get_or ws x 0)) → IfSome found (λ r. IsReciprocalOf r p)
-of_entry ws x l p None entry of = tt
-of_entry ws x l p (Some r) entry of =
-    let only = has_only 0 0 ws x l p entry in
-    let same : x - 0 ≡ x = omega arith in
-    let is : p ≡ get_or ws x 0 = rw same at only.3 in
-    rw is (of (omega (arith, is, only.2)))
-
--- where there is one for each symbol, one is found
-pub none_unless_kept : {A : Type 0} (found : Option A) (count symbols x : ℕ) → x < symbols → IfNone found (count ≤ x) → IfNone found (count ≡ symbols → ⊥)
-none_unless_kept None count symbols x within past = λ all. absurd (omega arith)
-none_unless_kept (Some a) count symbols x within past = tt
+-- a weight above 0 is that of one of the symbols
+pub weight_known : (starts : List ℕ) (high k w : ℕ) → w ≡ get_or (weights_between starts high) k 0 → 0 < w → k < length starts
+weight_known starts high k w is some = elim (cases_lt k (length starts)) [
+  | inl known ↦ known
+  | inr past ↦ absurd (omega (arith, is, some, get_or_past (weights_between starts high) k 0 (omega (arith, past, length-weights_between starts high))))
+]

@@ -11,7 +11,7 @@ entries {precision = precision} {word = word} t = table_of (weights_between (map
 
 -- The table keeps a reciprocal of each weight, so that no encoder divides.
 abbrev pub HasReciprocals : {Probability NonZero : Type 0} {precision : ℕ} {word : _} → WeightTable Probability precision NonZero word → Type 0
-HasReciprocals t = length t.reciprocals.items ≡ length t.starts.items
+HasReciprocals t = length t.symbol_rows.items ≡ length t.starts.items
 
 -- The weight table as a model.
 abbrev pub model_of : {Probability NonZero : Type 0} {precision : ℕ} {word : _} → WeightTable Probability precision NonZero word → Model ℕ

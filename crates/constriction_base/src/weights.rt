@@ -1,9 +1,10 @@
 //! `WeightTable`: a model built from the weights of its symbols.
 //!
-//! A table stores the start of each symbol's interval, rows that speed up decoding, and optionally the reciprocal of
-//! each weight. Each of these lists takes one allocation. The table cuts off weights of 0 at the end of the list of
-//! weights, so that the start of each remaining symbol fits `Probability`. Contracts describe a table by its list of
-//! entries (`entries` in `specs/WeightTables.antt`).
+//! A table stores the start of each symbol's interval, rows of buckets that speed up decoding, and optionally a row for
+//! each symbol that speeds up encoding. A symbol's row has its interval and the reciprocal of its weight. Each of these
+//! lists takes one allocation. The table cuts off weights of 0 at the end of the list of weights, so that the start of
+//! each remaining symbol fits `Probability`. Contracts describe a table by its list of entries (`entries` in
+//! `specs/WeightTables.antt`).
 //!
 //! `new` spends more than half of its time on the reciprocals. The reciprocal of a weight below 2^32 takes two quotients
 //! of 64-bit numbers. The reciprocal of a larger weight divides a 128-bit number.
@@ -19,12 +20,12 @@ ghost use Rattle.std.specs.Prelude.{◌≡◌, ◌≢◌, ◌+◌, ◌-◌, ◌*
 ghost use Rattle.std.specs.Prelude.{OnOk, IfOk, IfSome, IfNone, IsErrOf};
 ghost use Rattle.constriction_base.specs.Tables.{Has, Impossible, IsRising, table_of, weights_between};
 ghost use Rattle.constriction_base.specs.Hints.{AreHints, AreBucketRows};
-ghost use Rattle.constriction_base.specs.Reciprocals.{AreReciprocals};
+ghost use Rattle.constriction_base.specs.Reciprocals.{AreSymbolRows, IsSymbolRow};
 ghost use Rattle.constriction_words.specs.Reciprocals.{IsReciprocalOf};
 ghost use Rattle.constriction_base.specs.declared.weights.TableError.TheVariants as errors;
 
 use crate::model::{DecoderModel, EncoderModel, EntropyModel};
-use crate::weights::rows::{Row, buckets_for, make_rows, shift_for};
+use crate::weights::rows::{Row, SymbolRow, buckets_for, make_rows, shift_for};
 use crate::weights::starts::{known_symbols, starts_of, weight_of};
 use constriction_words::{BitArray, Reciprocal};
 use std::alloc::{AllocError, Global};
@@ -85,8 +86,8 @@ pub struct WeightTable<Probability: BitArray, const PRECISION: usize> {
     rows: Vec<Row<Probability>>,
     /// The number of low bits in which the quantiles of a bucket differ.
     shift: u32,
-    /// The reciprocal of each symbol's weight, or of 1 if the weight is 0. Empty if the table keeps no reciprocals.
-    reciprocals: Vec<Reciprocal>,
+    /// The row of each symbol. Empty if the table keeps no reciprocals.
+    symbol_rows: Vec<SymbolRow<Probability>>,
     pub ghost positive: { 1 ≤ PRECISION },
     pub ghost fits: { PRECISION ≤ Probability.BITS },
     ghost has_symbols: { 0 < length starts.items },
@@ -98,8 +99,8 @@ pub struct WeightTable<Probability: BitArray, const PRECISION: usize> {
     ghost hinted: { AreHints (map Probability.number starts.items) (2 ^ PRECISION) (2 ^ shift)
         (map (λ row. row.symbol) rows.items) },
     ghost listed: { AreBucketRows Probability.number (map Probability.number starts.items) (2 ^ PRECISION) rows.items },
-    ghost inverse: { AreReciprocals
-        (weights_between (map Probability.number starts.items) (2 ^ PRECISION)) reciprocals.items },
+    ghost inverse: { AreSymbolRows Probability.number (map Probability.number starts.items) (2 ^ PRECISION)
+        symbol_rows.items },
 }
 
 impl<Probability: BitArray, const PRECISION: usize> WeightTable<Probability, PRECISION> {
@@ -117,8 +118,10 @@ impl<Probability: BitArray, const PRECISION: usize> WeightTable<Probability, PRE
     /// - Rows, which speed up decoding. If `Probability` has at most 32 bits, these are at most `4 * n + 1` rows of 16
     ///   bytes. If it has 64 bits, these are at most `2 * n + 1` rows of 24 bytes. If it has 128 bits, these are at most
     ///   `n + 1` rows of 48 bytes, but at least 3.
-    /// - At a precision of at most 63 bits, `n` reciprocals of 24 bytes each. With a reciprocal, an encoder whose state
-    ///   has at most 64 bits multiplies instead of dividing by the weight.
+    /// - At a precision of at most 63 bits, `n` rows, which speed up encoding. Such a row has a symbol's interval and the
+    ///   reciprocal of its weight. It takes 32 bytes if `Probability` has at most 32 bits, 40 bytes if it has 64 bits,
+    ///   and 64 bytes if it has 128 bits. With a reciprocal, an encoder whose state has at most 64 bits multiplies
+    ///   instead of dividing by the weight.
     ///
     /// [`for_decoding`](WeightTable::for_decoding) creates a table without reciprocals in less time.
     ///
@@ -199,7 +202,7 @@ impl<Probability: BitArray, const PRECISION: usize> WeightTable<Probability, PRE
             starts,
             rows,
             shift,
-            reciprocals: Vec::new(alloc),
+            symbol_rows: Vec::new(alloc),
         })
     }
 
@@ -213,25 +216,28 @@ impl<Probability: BitArray, const PRECISION: usize> WeightTable<Probability, PRE
         if PRECISION > 63 {
             return Ok(self);
         }
-        self.reciprocals = self.make_reciprocals(alloc)?;
+        self.symbol_rows = self.make_symbol_rows(alloc)?;
         Ok(self)
     }
 
-    /// Computes one reciprocal for each symbol: the reciprocal of its weight, or of 1 if the weight is 0.
+    /// Makes the row of each symbol. If the symbol's weight is 0, the row has the reciprocal of 1.
     ///
     /// The caller proves that the precision is at most 63 bits. The call returns `Err(AllocError)` if there is no
-    /// memory for the reciprocals.
-    fn make_reciprocals(&self, alloc: Global) -> Result<Vec<Reciprocal>, AllocError>
+    /// memory for the rows.
+    fn make_symbol_rows(&self, alloc: Global) -> Result<Vec<SymbolRow<Probability>>, AllocError>
         requires { PRECISION ≤ 63 }
         ensures count { IfOk result (λ made. length made.items ≡ length self.now.starts.items) }
-        ensures reciprocals { IfOk result (λ made.
-            AreReciprocals (weights_between (map Probability.number self.now.starts.items) (2 ^ PRECISION))
-            made.items) }
+        ensures rows { IfOk result (λ made.
+            AreSymbolRows Probability.number (map Probability.number self.now.starts.items) (2 ^ PRECISION) made.items) }
     {
         let mut made = Vec::with_capacity(alloc, self.starts.len())?;
         for symbol in 0..self.starts.len() {
-            let weight = self.weight(symbol).to_index() as u64;
-            made.push_reserved(Reciprocal::new(weight.max(1)));
+            let weight = self.weight(symbol);
+            made.push_reserved(SymbolRow {
+                left: self.start(symbol),
+                weight,
+                reciprocal: Reciprocal::new((weight.to_index() as u64).max(1)),
+            });
         }
         Ok(made)
     }
@@ -270,18 +276,16 @@ impl<Probability: BitArray, const PRECISION: usize> WeightTable<Probability, PRE
         weight_of::<Probability, PRECISION>(&self.starts, symbol)
     }
 
-    /// Returns the reciprocal that the table keeps for `symbol`, or `None` if the table keeps none for this symbol.
-    fn reciprocal(&self, symbol: usize) -> Option<Reciprocal>
-        ensures ok { IfSome result (λ r.
-            0 < slice_index (weights_between (map Probability.number self.now.starts.items) (2 ^ PRECISION)) symbol
-            → IsReciprocalOf r
-            (slice_index (weights_between (map Probability.number self.now.starts.items) (2 ^ PRECISION)) symbol)) }
-        ensures none { IfNone result (length self.now.reciprocals.items ≤ symbol) }
+    /// Returns the row that the table keeps for `symbol`, or `None` if the table keeps none for this symbol.
+    fn symbol_row(&self, symbol: usize) -> Option<SymbolRow<Probability>>
+        ensures ok { IfSome result (λ row.
+            IsSymbolRow Probability.number (map Probability.number self.now.starts.items) (2 ^ PRECISION) symbol row) }
+        ensures none { IfNone result (length self.now.symbol_rows.items ≤ symbol) }
     {
-        if symbol >= self.reciprocals.len() {
+        if symbol >= self.symbol_rows.len() {
             return None;
         }
-        Some(self.reciprocals[symbol])
+        Some(self.symbol_rows[symbol])
     }
 }
 
@@ -336,10 +340,16 @@ impl<Probability: BitArray, const PRECISION: usize> EncoderModel<PRECISION>
         ensures kept { IfSome result (λ found. IfNone found.2 (HasReciprocals self.now → ⊥)) }
         ensures impossible { IfNone result (Impossible (entries self.now) symbol.now) }
     {
-        let Some((left, p)) = self.left_cumulative_and_probability(symbol) else {
-            return None;
+        let Some(row) = self.symbol_row(*symbol) else {
+            return match self.left_cumulative_and_probability(symbol) {
+                None => None,
+                Some((left, p)) => Some((left, p, None)),
+            };
         };
-        Some((left, p, self.reciprocal(*symbol)))
+        match row.weight.to_nonzero() {
+            None => None,
+            Some(p) => Some((row.left, p, Some(row.reciprocal))),
+        }
     }
 }
 

@@ -1,4 +1,4 @@
-//! Rows of buckets, in which a decoder looks up a quantile's symbol.
+//! Rows of buckets, in which a decoder looks up a quantile's symbol, and the rows of symbols for encoders.
 //!
 //! All quantiles with the same high bits form a bucket. A bucket's row holds the symbol of its first quantile, and the
 //! symbol's interval. If this interval doesn't hold a quantile of the bucket, a search begins at the next symbol. It
@@ -15,7 +15,7 @@ ghost use Rattle.constriction_base.specs.Tables.{IsRising};
 ghost use Rattle.constriction_base.specs.Hints.{AreHints, AreBucketRows, IsBucketRow};
 
 use crate::weights::starts::weight_of;
-use constriction_words::BitArray;
+use constriction_words::{BitArray, Reciprocal};
 use std::alloc::{AllocError, Global};
 
 /// A symbol, the start of its interval and the interval's length.
@@ -24,6 +24,16 @@ pub struct Row<Probability: Copy + Drop> {
     pub left: Probability,
     pub weight: Probability,
     pub symbol: usize,
+}
+
+/// The start of a symbol's interval, the interval's length, and the reciprocal of this length.
+///
+/// If the length is 0, the reciprocal is that of 1.
+#[derive(Drop, Clone, Copy)]
+pub struct SymbolRow<Probability: Copy + Drop> {
+    pub left: Probability,
+    pub weight: Probability,
+    pub reciprocal: Reciprocal,
 }
 
 /// Returns the binary logarithm of the greatest number of buckets for each symbol, if `Probability` has `bits` bits.
