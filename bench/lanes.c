@@ -147,9 +147,9 @@ static void measure(const char *name, enum model model, size_t n, int alone, con
 }
 
 int main(void) {
-    const size_t lists[] = {1, 3, 6, 64}, batches[] = {64, MOST};
+    const size_t lists[] = {1, 3, 4, 6, 64}, batches[] = {64, MOST};
     draw();
-    for (int k = 0; k < 4; k++) measure("list", TABLE, lists[k], lists[k] == 1, drawn, COUNT - COUNT % lists[k]);
+    for (int k = 0; k < 5; k++) measure("list", TABLE, lists[k], lists[k] == 1, drawn, COUNT - COUNT % lists[k]);
     for (int k = 0; k < 4; k++) measure("table", TABLE, batches[k / 2], !(k % 2), drawn, batches[k / 2]);
     for (int k = 0; k < 4; k++) measure("gaussian", GAUSSIAN, batches[k / 2], !(k % 2), near_means, batches[k / 2]);
 }

@@ -18,5 +18,6 @@ mod LaneFilling
 mod LaneGroups
 pub mod LaneRows
 mod LaneThree
+mod LaneFour
 mod LaneTurns
 pub mod LaneWords

@@ -10,11 +10,15 @@ use Rattle.constriction_stack.proofs.lanes.decoding.decode_lanes.Goals as goal
 
 -- ---- groups of three
 -- the rows of a group lie within the matrix
-group_within : (i t n width all : ℕ) → i < t → t * 3 ≤ n → all ≡ n * width → i * 3 * width + 3 * width ≤ all
-group_within i t n width all lt le is =
-    let upto : i * 3 + 3 ≤ n = omega arith in
-    let next : (i * 3 + 3) * width ≤ n * width = mul-le-mul_right width upto in
-    omega (arith, next, add-mul (i * 3) 3 width)
+group_within : (first i t n width all : ℕ) → i < t → first + t * 3 ≤ n → all ≡ n * width → (first + i * 3) * width + 3 * width ≤ all
+group_within first i t n width all lt le is =
+    let upto : first + i * 3 + 3 ≤ n = omega arith in
+    let next : (first + i * 3 + 3) * width ≤ n * width = mul-le-mul_right width upto in
+    omega (arith, next, add-mul (first + i * 3) 3 width)
+
+-- the groups lie behind the first coders
+groups_within : (first t n m : ℕ) → first ≤ n → m ≡ n → t * 3 ≤ m - first → first + t * 3 ≤ n
+groups_within first t n m few same le = omega arith
 
 -- as many items as a part has
 part_long : {A : Type 0} (xs : List A) (a k : ℕ) → a + k ≤ length xs → length (take (a + k - a) (drop a xs)) ≡ k
@@ -28,32 +32,46 @@ left_behind {A} a k xs ys new within long e =
     drop-put_mid a (a + k - a) xs new (a + k) (omega arith) (omega arith) (omega arith)
     ∙ (sym (drop-drop k a xs) ∙ (ap (λ (zs : List A). drop k zs) e ∙ drop-drop k a ys))
 
-pub overflow_add-j-in-threes : goal.overflow_add-j-in-threes
-overflow_add-j-in-threes g c =
-    let inside = group_within c.threes.group c.group_count-threes.result (length c.args.heads.now) c.args.width (length c.args.words.now) c.threes-test.true c.group_count-threes.ensures.within c.requires.words in
+pub threes-init : goal.threes-init
+threes-init g c =
+    let call = c.decode_first_four-first in
+    let e : call.result + 0 * 3 ≡ call.result = omega arith in
+    rw e (record {
+      done = call.ensures.decoded;
+      heads_left = call.ensures.kept.0;
+      lens_left = call.ensures.kept.1;
+      heads_count = call.auto.heads;
+      lens_count = call.auto.lens;
+      symbols_count = call.auto.symbols;
+    })
+
+pub overflow_add-j-in-threes-2 : goal.overflow_add-j-in-threes-2
+overflow_add-j-in-threes-2 g c =
+    let inside = group_within c.decode_first_four-first.result c.threes.group c.group_count-threes.result (length c.args.heads.now) c.args.width (length c.args.words.now) c.threes-test.true (groups_within c.decode_first_four-first.result c.group_count-threes.result (length c.args.heads.now) _ c.decode_first_four-first.ensures.within c.decode_first_four-first.auto.heads c.group_count-threes.ensures.within) c.requires.words in
     omega (arith, inside)
 
 pub slice_bounds-decode_group-end-in-threes : goal.slice_bounds-decode_group-end-in-threes
 slice_bounds-decode_group-end-in-threes g c =
-    let inside = group_within c.threes.group c.group_count-threes.result (length c.args.heads.now) c.args.width (length c.args.words.now) c.threes-test.true c.group_count-threes.ensures.within c.requires.words in
+    let inside = group_within c.decode_first_four-first.result c.threes.group c.group_count-threes.result (length c.args.heads.now) c.args.width (length c.args.words.now) c.threes-test.true (groups_within c.decode_first_four-first.result c.group_count-threes.result (length c.args.heads.now) _ c.decode_first_four-first.ensures.within c.decode_first_four-first.auto.heads c.group_count-threes.ensures.within) c.requires.words in
     omega (arith, inside)
 
 pub slice_bounds-decode_group-end-in-threes-3 : goal.slice_bounds-decode_group-end-in-threes-3
 slice_bounds-decode_group-end-in-threes-3 g c =
-    let inside = group_within c.threes.group c.group_count-threes.result (length c.args.heads.now) c.args.count (length c.args.symbols.now) c.threes-test.true c.group_count-threes.ensures.within c.requires.symbols in
+    let inside = group_within c.decode_first_four-first.result c.threes.group c.group_count-threes.result (length c.args.heads.now) c.args.count (length c.args.symbols.now) c.threes-test.true (groups_within c.decode_first_four-first.result c.group_count-threes.result (length c.args.heads.now) _ c.decode_first_four-first.ensures.within c.decode_first_four-first.auto.heads c.group_count-threes.ensures.within) c.requires.symbols in
     omega (arith, inside, c.threes.invariant.symbols_count)
 
 pub threes-preserved : goal.threes-preserved
 threes-preserved g c =
     let l = c.threes in
-    let j = l.group * 3 in
+    let first = c.decode_first_four-first.result in
+    let j = first + l.group * 3 in
     let width = c.args.width in
     let count = c.args.count in
     let model : Model ℕ = record { precision = g.row.PRECISION; table = g.M.EntropyModel.table c.args.model.now } in
     let one : j + 3 - j ≡ 3 = omega arith in
     let row : j * width + 3 * width - j * width ≡ 3 * width = omega arith in
-    let symbols = group_within l.group c.group_count-threes.result (length c.args.heads.now) count (length c.args.symbols.now) c.threes-test.true c.group_count-threes.ensures.within c.requires.symbols in
-    let upto : j + 3 ≤ length c.args.heads.now = omega (arith, c.threes-test.true, c.group_count-threes.ensures.within) in
+    let symbols = group_within first l.group c.group_count-threes.result (length c.args.heads.now) count (length c.args.symbols.now) c.threes-test.true (groups_within c.decode_first_four-first.result c.group_count-threes.result (length c.args.heads.now) _ c.decode_first_four-first.ensures.within c.decode_first_four-first.auto.heads c.group_count-threes.ensures.within) c.requires.symbols in
+    let upto : j + 3 ≤ length c.args.heads.now = omega (arith, c.threes-test.true, groups_within c.decode_first_four-first.result c.group_count-threes.result (length c.args.heads.now) _ c.decode_first_four-first.ensures.within c.decode_first_four-first.auto.heads c.group_count-threes.ensures.within) in
     let in_heads : j + 3 ≤ length l.heads = omega (arith, upto, l.invariant.heads_count) in
     let in_lens : j + 3 ≤ length l.lens = omega (arith, upto, l.invariant.lens_count, c.requires.lens) in
     let in_symbols : j * count + 3 * count ≤ length l.symbols = omega (arith, symbols, l.invariant.symbols_count) in
@@ -61,7 +79,7 @@ threes-preserved g c =
     let heads : length call.new.heads ≡ 3 = omega (arith, call.auto.heads, part_long l.heads j 3 in_heads) in
     let lens : length call.new.lens ≡ 3 = omega (arith, call.auto.lens, part_long l.lens j 3 in_lens) in
     let decoded : length call.new.symbols ≡ 3 * count = omega (arith, call.auto.symbols, part_long l.symbols (j * count) (3 * count) in_symbols) in
-    let next : (l.group + 1) * 3 ≡ j + 3 = omega arith in
+    let next : first + (l.group + 1) * 3 ≡ j + 3 = omega arith in
     rw next (record {
       done = lanes_more g.Word.BitArray.number g.State.BitArray.number g.Word.BitArray.BITS g.State.BitArray.BITS model width count c.args.words.now c.args.heads.now c.args.lens.now
           l.heads l.lens l.symbols j 3 call.new.heads _ call.new.lens _ call.new.symbols _ l.invariant.heads_left l.invariant.lens_left
@@ -114,7 +132,7 @@ rest-preserved g c =
 pub rest-init : goal.rest-init
 rest-init g c =
     let l = c.threes in
-    let e : c.group_count-threes.result * 3 ≡ l.group * 3 = omega (arith, c.threes-test.false, l.auto.group-end) in
+    let e : c.decode_first_four-first.result + c.group_count-threes.result * 3 ≡ c.decode_first_four-first.result + l.group * 3 = omega (arith, c.threes-test.false, l.auto.group-end) in
     rw e (record {
       done = l.invariant.done;
       heads_left = l.invariant.heads_left;

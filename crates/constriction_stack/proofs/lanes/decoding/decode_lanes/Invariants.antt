@@ -1,13 +1,13 @@
-use Rattle.std.proofs.Common.{◌≡◌, ◌*◌, drop, length}
+use Rattle.std.proofs.Common.{◌≡◌, ◌+◌, ◌*◌, drop, length}
 use Rattle.constriction_stack.specs.Lanes.{DecodesLanes}
 use Rattle.constriction_stack.proofs.lanes.decoding.decode_lanes.Given as goal
 
 abbrev pub invariant-threes : goal.invariant-threes
 invariant-threes g l = record {
   done : DecodesLanes g.Word.BitArray.number g.State.BitArray.number g.Word.BitArray.BITS g.State.BitArray.BITS (record { precision = g.row.PRECISION; table = g.M.EntropyModel.table l.model }) l.width l.count l.words
-      l.fn.heads l.fn.lens l.heads l.lens l.symbols (l.group * 3);
-  heads_left : drop (l.group * 3) l.heads ≡ drop (l.group * 3) l.fn.heads;
-  lens_left : drop (l.group * 3) l.lens ≡ drop (l.group * 3) l.fn.lens;
+      l.fn.heads l.fn.lens l.heads l.lens l.symbols (l.first + l.group * 3);
+  heads_left : drop (l.first + l.group * 3) l.heads ≡ drop (l.first + l.group * 3) l.fn.heads;
+  lens_left : drop (l.first + l.group * 3) l.lens ≡ drop (l.first + l.group * 3) l.fn.lens;
   heads_count : length l.heads ≡ length l.fn.heads;
   lens_count : length l.lens ≡ length l.fn.lens;
   symbols_count : length l.symbols ≡ length l.fn.symbols;

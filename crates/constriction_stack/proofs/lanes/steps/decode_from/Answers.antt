@@ -1,5 +1,5 @@
 use Rattle.std.specs.Prelude.{◌≡◌, ℕ, ◌%◌, ◌^◌, ◌≤◌}
-use Rattle.std.proofs.Common.{arith, ◌∙◌, ◌-◌}
+use Rattle.std.proofs.Common.{arith, ◌∙◌}
 use Rattle.constriction_base.proofs.Entries.{in_range}
 use Rattle.constriction_base.proofs.Heads.{low_in_word}
 use Rattle.constriction_stack.proofs.lanes.steps.decode_from.Goals as goal
