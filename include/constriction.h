@@ -259,7 +259,7 @@ uint32_t constriction_ans_into_binary_u32(uint64_t head, uint32_t *words, size_t
    rows of the same length, one after another. With n coders, rows of `width` words and `count` symbols for each coder,
    pass n, n * width, n and n * count as the lengths. The words are those of n coders that are called one by one, so the
    other functions can continue with a coder. One call for many coders takes less time than many calls, and decodes the
-   symbols of three coders at a time.
+   symbols of three or four coders at a time.
 
    A call that fails changes no coder. WRONG_LENGTH also means that len_count isn't head_count, that a list isn't
    head_count rows of the same length, or that lens[j] is past the end of a row. After NO_SPACE, *needed is the number
@@ -763,7 +763,7 @@ uint32_t constriction_ans_into_binary_u16(uint32_t head, uint16_t *words, size_t
    rows of the same length, one after another. With n coders, rows of `width` words and `count` symbols for each coder,
    pass n, n * width, n and n * count as the lengths. The words are those of n coders that are called one by one, so the
    other functions can continue with a coder. One call for many coders takes less time than many calls, and decodes the
-   symbols of three coders at a time.
+   symbols of three or four coders at a time.
 
    A call that fails changes no coder. WRONG_LENGTH also means that len_count isn't head_count, that a list isn't
    head_count rows of the same length, or that lens[j] is past the end of a row. After NO_SPACE, *needed is the number
