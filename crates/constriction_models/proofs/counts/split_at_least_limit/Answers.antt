@@ -76,7 +76,7 @@ search-preserved c =
     let mass : ℕ = c.args.all - c.search.split.raised in
     let next : ℕ = (rest + mass - 1) / mass in
     let some : 0 < mass = omega (arith, n.1) in
-    let made = c.split_at-split.ensures in
+    let made = c.split_from-split.ensures in
     let most = rounded_least rest mass next c.args.most some refl n.2 in
     record {
       split = rw made.value made.total;

@@ -1,4 +1,4 @@
-use Rattle.std.specs.Prelude.{ℕ, ◌<◌, length, slice_index}
+use Rattle.std.specs.Prelude.{◌≡◌, ℕ, ◌<◌, length, slice_index}
 use Rattle.std.proofs.Common.{rules, inl, inr, arith}
 use Rattle.std.proofs.lemmas.Bool.{cases_lt}
 use Rattle.constriction_models.proofs.Sharing.{kept_fit, kept_all, ones_fit, positive_few}
@@ -34,6 +34,12 @@ loop-count-preserved c =
             let old = c.loop-count.invariant.reached (omega (arith, less)) in
             (old.0, old.1, omega (arith, old.2, less, c.max-most.ensures)))
         | inr from ↦ (i, inside, omega (arith, from, c.max-most.ensures))
+      ];
+      least = λ k before some. elim (cases_lt k i) [
+        | inl old ↦ omega (arith, c.loop-count.invariant.least k old some, c.min-least.ensures)
+        | inr new ↦ (
+            let here : k ≡ i = omega (arith, before, new) in
+            rw here (omega (arith, c.min-least.ensures, c.most_if_zero.ensures.some (rw here at some))))
       ];
       total = omega (arith, c.loop-count.invariant.total, kept_all (slice_index xs i), sum_by_more (kept 1) xs i 0 inside);
     }

@@ -9,5 +9,6 @@ invariant-loop-count l = record {
   positives : l.positives ≡ sum_by positive (take l.count-index l.counts);
   bound : (k : ℕ) → k < l.count-index → slice_index l.counts k ≤ l.most;
   reached : 0 < l.most → (k : ℕ) × (k < length l.counts) × (slice_index l.counts k ≡ l.most);
+  least : (k : ℕ) → k < l.count-index → 0 < slice_index l.counts k → l.least ≤ slice_index l.counts k;
   total : l.sum ≡ sum_by (kept 1) (take l.count-index l.counts);
 }
