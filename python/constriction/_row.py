@@ -95,7 +95,10 @@ class Row(_Floats):
 
     def take_floats(self, row: Any) -> int:
         """Computes the weights of a row of floats. Returns the result of the C function."""
-        self._put(row)
+        if self._seen is None or type(row) is array:
+            self._put(row)
+        else:
+            self._seen[...] = row
         refused: int = self._share_floats()
         return refused
 

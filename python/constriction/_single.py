@@ -204,17 +204,19 @@ class Lane:
             return 0
         if form == MIXED:
             return self._take_components(model, first, second)
-        width = len(first)
+        width, row = len(first), self._taken
+        if form == FLOATS and row is not None and row.width == width and not row.is_quick:
+            refused: int = row.take_floats(first)
+            return refused
         if width > _MOST_WEIGHTS:
             return 1
         if form == ROW or form == COUNTS:
             self._taken = None
             self._row.value, self._width.value = first.buffer_info()[0], width
             return 0
-        row = self._taken
         if row is None or row.width != width or row.is_quick is not (form == QUICK):
             row = self._take_width(width, form == QUICK)
-        refused: int = row.take_counts(first) if form == SHARED else row.take_floats(first)
+        refused = row.take_counts(first) if form == SHARED else row.take_floats(first)
         return refused
 
     def _take_width(self, width: int, is_quick: bool) -> Any:
