@@ -3,6 +3,7 @@ pub mod CountTables
 pub mod FamilyCounts
 pub mod FamilyTables
 pub mod FloatCounts
+pub mod Guiding
 pub mod IndexedTables
 pub mod IntervalPlaces
 pub mod KnownRows

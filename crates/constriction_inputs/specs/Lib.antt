@@ -2,6 +2,7 @@ pub mod Buffers
 pub mod Coded
 pub mod Counts
 pub mod Floats
+pub mod Guided
 pub mod Indexed
 pub mod Intervals
 pub mod Items

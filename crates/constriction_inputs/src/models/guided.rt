@@ -1,25 +1,45 @@
-//! `Guided`: a table of weights with guesses, for many tables.
+//! `Guided`: a row of weights with what makes its look-ups fast, for many tables.
 
-ghost use Rattle.std.specs.Prelude.{◌≡◌, ◌+◌, ◌^◌, ◌<◌, ◌≤◌, map, IfSome};
+ghost use Rattle.std.specs.Prelude.{◌≡◌, ◌-◌, ◌^◌, ◌<◌, ◌≤◌, get_or, length, map, sum_by, take, IfOk, IfSome, IsTrue};
 ghost use Rattle.std.specs.Bool.{OnTrue};
-ghost use Rattle.constriction_base.specs.Tables.{Covers, Has, table_of};
-ghost use Rattle.constriction_base.specs.WeightTables.{entries, entries_are_table, entries_are_two};
+ghost use Rattle.constriction_base.specs.Tables.{Covers, table_of};
+ghost use Rattle.constriction_base.specs.laws.Weights.{weights_make_table};
+ghost use Rattle.constriction_inputs.specs.Guided.{AreGuesses, AreSymbolRows, IsGuess};
+ghost use Rattle.constriction_inputs.specs.Weights.{IsTotal};
+ghost use Rattle.constriction_inputs.specs.laws.Rows.{two_weights};
+ghost use Rattle.constriction_words.specs.Reciprocals.{IsReciprocalOf};
 
-use crate::models::weights::table_by;
+use crate::rows::Row;
 use constriction_base::model::{DecoderModel, EncoderModel, EntropyModel};
-use constriction_base::weights::WeightTable;
 use constriction_base::weights::starts::ones;
 use constriction_words::{BitArray, Reciprocal};
 use std::alloc::{AllocError, Global};
 
-/// How many symbols from a guess on a look-up tries before it searches the table.
-const NEAR: usize = 6;
-
-/// A table of weights, and a guess of the symbol for all quantiles with the same high bits.
+/// A symbol's interval, and the reciprocal of the interval's length: all that a coder needs to encode the symbol.
 ///
-/// A guess takes 2 bytes, and there are at most as many guesses as symbols. So the guesses of many tables fit the cache,
-/// which the tables' own hints don't, with 32 bytes per symbol. A look-up tries the symbols from the guess on. It needs
-/// the table's hints only if it doesn't find the quantile's symbol there, so no result depends on a guess.
+/// A row takes 32 bytes if `P` has at most 32 bits, so the processor loads it at once.
+#[derive(Clone, Copy, Drop)]
+pub struct SymbolRow<P: Copy + Drop> {
+    left: P,
+    weight: P,
+    reciprocal: Reciprocal,
+}
+
+/// A symbol and its interval.
+#[derive(Clone, Copy, Drop)]
+pub struct Guess<P: Copy + Drop> {
+    left: P,
+    weight: P,
+    symbol: u32,
+}
+
+/// A row of weights, with a row for each symbol to encode, or with guesses to decode.
+///
+/// All quantiles with the same high bits form a bucket. A guess is the symbol of the quantile in the middle of a bucket,
+/// with the symbol's interval. A guess takes 12 bytes if `P` has 32 bits, and there are at most as many guesses as
+/// symbols. So the guesses of many tables fit the cache. If the interval doesn't hold a quantile of the bucket, a look-up
+/// goes from the guess to the symbols before or behind it, and adds up the caller's weights. If the quantiles are evenly
+/// distributed, a look-up takes less than two such steps on average.
 ///
 /// # Examples
 ///
@@ -29,35 +49,46 @@ const NEAR: usize = 6;
 /// }
 /// ```
 #[derive(Drop)]
-pub struct Guided<P: BitArray, const PRECISION: usize> {
-    table: WeightTable<P, PRECISION>,
-    guesses: Vec<u16>,
-    /// The number of low bits in which quantiles of one guess differ.
+pub struct Guided<'a, P: BitArray, const PRECISION: usize> {
+    row: Row<'a, P, PRECISION>,
+    /// The row of each symbol. Empty if the model is for decoding.
+    symbol_rows: Vec<SymbolRow<P>>,
+    /// The guess of each bucket. Empty if the model is for encoding.
+    guesses: Vec<Guess<P>>,
+    /// The number of low bits in which quantiles of one bucket differ.
     shift: u32,
-    ghost cut: { shift < P.BITS },
+    /// Whether the rows of symbols have reciprocals.
+    divides: bool,
+    ghost kept: { AreSymbolRows P.number row.weights.now divides symbol_rows.items },
+    ghost guessed: { AreGuesses P.number row.weights.now guesses.items },
+    ghost cut: { (shift < PRECISION) × (PRECISION - shift ≤ 63) },
 }
 
-impl<P: BitArray, const PRECISION: usize> EntropyModel<PRECISION> for Guided<P, PRECISION> {
+impl<'a, P: BitArray, const PRECISION: usize> EntropyModel<PRECISION> for Guided<'a, P, PRECISION> {
     type Symbol = usize;
 
     type Probability = P;
 
-    ghost table = { λ guided. entries guided.table };
+    ghost table = { λ guided. table_of (map P.number guided.row.weights.now) };
 
-    ghost lawful = { λ guided. entries_are_table guided.table };
+    ghost lawful = { λ guided. weights_make_table PRECISION (map P.number guided.row.weights.now) guided.row.total };
 
-    ghost sized = { λ guided. (guided.table.positive, guided.table.fits) };
+    ghost sized = { λ guided. (guided.row.positive, guided.row.fits) };
 
-    ghost two_symbols = { λ guided all. entries_are_two guided.table all };
+    ghost two_symbols = { λ guided all. two_weights P.number P.BITS P.number_law PRECISION guided.row.weights.now
+        guided.row.total all };
 }
 
-impl<P: BitArray, const PRECISION: usize> EncoderModel<PRECISION> for Guided<P, PRECISION> {
+impl<'a, P: BitArray, const PRECISION: usize> EncoderModel<PRECISION> for Guided<'a, P, PRECISION> {
     #[inline(always)]
     fn left_cumulative_and_probability(
         &self,
         symbol: &usize,
     ) -> Option<(P, <P as BitArray>::NonZero)> {
-        self.table.left_cumulative_and_probability(symbol)
+        match self.left_cumulative_and_reciprocal(symbol) {
+            None => None,
+            Some((left, p, _)) => Some((left, p)),
+        }
     }
 
     #[inline(always)]
@@ -65,137 +96,317 @@ impl<P: BitArray, const PRECISION: usize> EncoderModel<PRECISION> for Guided<P, 
         &self,
         symbol: &usize,
     ) -> Option<(P, <P as BitArray>::NonZero, Option<Reciprocal>)> {
-        self.table.left_cumulative_and_reciprocal(symbol)
-    }
-}
-
-impl<P: BitArray, const PRECISION: usize> DecoderModel<PRECISION> for Guided<P, PRECISION> {
-    #[inline(always)]
-    fn quantile_function(&self, quantile: P) -> (usize, P, <P as BitArray>::NonZero) {
-        match self.near_guess(quantile) {
-            Some(found) => found,
-            None => self.table.quantile_function(quantile),
+        if *symbol >= self.symbol_rows.len() {
+            return match self.row.left_cumulative_and_probability(symbol) {
+                None => None,
+                Some((left, p)) => Some((left, p, None)),
+            };
+        }
+        let row = &self.symbol_rows[*symbol];
+        let reciprocal = if self.divides {
+            Some(row.reciprocal)
+        } else {
+            None
+        };
+        match row.weight.to_nonzero() {
+            None => None,
+            Some(p) => Some((row.left, p, reciprocal)),
         }
     }
 }
 
-impl<P: BitArray, const PRECISION: usize> Guided<P, PRECISION> {
-    /// Returns the symbol whose interval holds the quantile, and the start and the length of this interval, if the
-    /// symbol is one of the first from the guess on. Otherwise returns `None`.
+impl<'a, P: BitArray, const PRECISION: usize> DecoderModel<PRECISION> for Guided<'a, P, PRECISION> {
+    #[inline(always)]
+    fn quantile_function(&self, quantile: P) -> (usize, P, <P as BitArray>::NonZero) {
+        let guess = self.guess(quantile);
+        let symbol = guess.symbol as usize;
+        if covers::<P>(guess.left, guess.weight, quantile) {
+            return (symbol, guess.left, guess.weight.to_nonzero().unwrap());
+        }
+        let found = find_from::<P, PRECISION>(self.row.weights, symbol, guess.left, quantile);
+        (found.0, found.1, found.2.to_nonzero().unwrap())
+    }
+}
+
+impl<'a, P: BitArray, const PRECISION: usize> Guided<'a, P, PRECISION> {
+    /// Returns the guess of the bucket that holds `quantile`, or symbol 0 if the model has no guesses.
     ///
     /// The caller proves that `quantile` is below `2 ^ PRECISION`.
     #[inline(always)]
-    fn near_guess(&self, quantile: P) -> Option<(usize, P, <P as BitArray>::NonZero)>
+    fn guess(&self, quantile: P) -> Guess<P>
         requires { P.number quantile < 2 ^ PRECISION }
-        ensures found { IfSome result (λ found.
-            Has (entries self.now.table) found.0 (P.number found.1) (P.nonzero_number found.2)) }
-        ensures covers { IfSome result (λ found.
-            Covers (P.number found.1) (P.nonzero_number found.2) (P.number quantile)) }
+        ensures { IsGuess P.number self.now.row.weights.now result }
     {
-        if PRECISION > 32 {
-            return None;
-        }
         let bucket = quantile.shift_right(self.shift).to_index();
-        if bucket >= self.guesses.len() {
-            return None;
+        if bucket < self.guesses.len() {
+            return self.guesses[bucket];
         }
-        let guess = self.guesses[bucket] as usize;
-        for step in 0..NEAR {
-            let symbol = guess + step;
-            if let Some((left, p)) = self.table.left_cumulative_and_probability(&symbol) {
-                if covers::<P>(left, p, quantile) {
-                    return Some((symbol, left, p));
-                }
-            }
+        Guess {
+            left: P::nothing(),
+            weight: self.row.weights[0],
+            symbol: 0,
         }
-        None
     }
 }
 
 /// Returns whether the interval that starts at `left` and has the length `p` holds the quantile.
 #[inline(always)]
-fn covers<P: BitArray>(left: P, p: <P as BitArray>::NonZero, quantile: P) -> bool
-    ensures { OnTrue result (Covers (P.number left) (P.nonzero_number p) (P.number quantile)) }
+fn covers<P: BitArray>(left: P, p: P, quantile: P) -> bool
+    ensures { OnTrue result (Covers (P.number left) (P.number p) (P.number quantile)) }
 {
     if quantile.is_below(left) {
         return false;
     }
-    quantile.minus(left).is_below(P::from_nonzero(p))
+    quantile.minus(left).is_below(p)
+}
+
+/// Returns the symbol whose interval holds the quantile, and the start and the length of this interval.
+///
+/// The search begins at the symbol `from`, whose interval starts at `left`. The caller proves that the weights add up to
+/// `2 ^ PRECISION`, and that `quantile` is below `2 ^ PRECISION`.
+#[inline(always)]
+fn find_from<P: BitArray, const PRECISION: usize>(
+    weights: &[P],
+    from: usize,
+    left: P,
+    quantile: P,
+) -> (usize, P, P)
+    requires total { IsTotal PRECISION (map P.number weights.now) }
+    requires fits { PRECISION ≤ P.BITS }
+    requires quantile { P.number quantile < 2 ^ PRECISION }
+    requires within { from ≤ length weights.now }
+    requires left { P.number left ≡ sum_by P.number (take from weights.now) }
+    ensures within { result.0 < length weights.now }
+    ensures left { P.number result.1 ≡ sum_by P.number (take result.0 weights.now) }
+    ensures weight { P.number result.2 ≡ P.number (get_or weights.now result.0 result.2) }
+    ensures covers { Covers (P.number result.1) (P.number result.2) (P.number quantile) }
+{
+    let (symbol, start) = step_down(weights, from, left, quantile);
+    step_up::<P, PRECISION>(weights, symbol, start, quantile)
+}
+
+/// Returns the last symbol up to `from` whose interval starts at or below the quantile, and where it starts.
+///
+/// The caller proves that the interval of `from` starts at `left`.
+#[inline(always)]
+fn step_down<P: BitArray>(weights: &[P], from: usize, left: P, quantile: P) -> (usize, P)
+    requires within { from ≤ length weights.now }
+    requires left { P.number left ≡ sum_by P.number (take from weights.now) }
+    ensures within { result.0 ≤ from }
+    ensures left { P.number result.1 ≡ sum_by P.number (take result.0 weights.now) }
+    ensures below { P.number result.1 ≤ P.number quantile }
+{
+    let mut symbol = from;
+    let mut start = left;
+    while quantile.is_below(start) {
+        symbol -= 1;
+        start = start.minus(weights[symbol]);
+    }
+    (symbol, start)
+}
+
+/// Returns the first symbol from `from` on whose interval ends above the quantile, and its interval.
+///
+/// The caller proves that the weights add up to `2 ^ PRECISION`, that `quantile` is below `2 ^ PRECISION`, and that the
+/// interval of `from` starts at `left`, at or below the quantile.
+#[inline(always)]
+fn step_up<P: BitArray, const PRECISION: usize>(
+    weights: &[P],
+    from: usize,
+    left: P,
+    quantile: P,
+) -> (usize, P, P)
+    requires total { IsTotal PRECISION (map P.number weights.now) }
+    requires fits { PRECISION ≤ P.BITS }
+    requires quantile { P.number quantile < 2 ^ PRECISION }
+    requires left { P.number left ≡ sum_by P.number (take from weights.now) }
+    requires below { P.number left ≤ P.number quantile }
+    ensures within { result.0 < length weights.now }
+    ensures left { P.number result.1 ≡ sum_by P.number (take result.0 weights.now) }
+    ensures weight { P.number result.2 ≡ P.number (get_or weights.now result.0 result.2) }
+    ensures covers { Covers (P.number result.1) (P.number result.2) (P.number quantile) }
+{
+    let mut start = left;
+    for symbol in from..weights.len() {
+        let weight = weights[symbol];
+        if quantile.minus(start).is_below(weight) {
+            return (symbol, start, weight);
+        }
+        start = start.plus(weight);
+    }
+    unreachable!()
 }
 
 /// Returns the model of the symbols `0`, `1`, .. with the weights `weights`.
 ///
-/// If `divides` is true, the table keeps the reciprocals of the weights. If `decodes` is true and the precision is from
-/// 12 to 32 bits, the model has guesses. The call returns `None` if the weights don't add up to `2 ^ PRECISION`, or if
-/// there is no memory.
-pub fn guided_by<P: BitArray, const PRECISION: usize>(
+/// If `decodes` is true, the model has guesses. Otherwise it has a row for each symbol. These rows have reciprocals if
+/// `divides` is true and the precision is at most 63 bits. The caller proves that the weights add up to `2 ^ PRECISION`.
+/// The call returns `None` if there is no memory.
+pub fn guided_by<'a, P: BitArray, const PRECISION: usize>(
     alloc: Global,
-    weights: &[P],
+    weights: &'a [P],
     divides: bool,
     decodes: bool,
-) -> Option<Guided<P, PRECISION>>
-    requires { (1 ≤ PRECISION) × (PRECISION ≤ P.BITS) }
-    ensures { IfSome result (λ guided. ⟦<Guided<P, PRECISION> as EntropyModel<PRECISION>>⟧.table guided
+) -> Option<Guided<'a, P, PRECISION>>
+    requires sizes { (1 ≤ PRECISION) × (PRECISION ≤ P.BITS) }
+    requires total { IsTotal PRECISION (map P.number weights.now) }
+    ensures { IfSome result (λ guided. ⟦<Guided<'a, P, PRECISION> as EntropyModel<PRECISION>>⟧.table guided
         ≡ table_of (map P.number weights.now)) }
 {
-    let Some(table) = table_by(alloc, weights, divides) else {
-        return None;
-    };
-    if !decodes || PRECISION < 12 || PRECISION > 32 {
-        return Some(Guided {
-            table,
-            guesses: Vec::new(alloc),
-            shift: 0,
-        });
+    if decodes {
+        decoding_by(alloc, weights)
+    } else {
+        encoding_by(alloc, weights, divides)
     }
-    let bits = weights.len().max(1).ilog2().min(11).max(1);
-    match guesses_of(alloc, &table, bits) {
-        Ok(guesses) => Some(Guided {
-            table,
+}
+
+/// Returns the model of `weights` with a row for each symbol.
+///
+/// If `divides` is true and the precision is at most 63 bits, the rows have reciprocals. The caller proves that the
+/// weights add up to `2 ^ PRECISION`. The call returns `None` if there is no memory.
+fn encoding_by<'a, P: BitArray, const PRECISION: usize>(
+    alloc: Global,
+    weights: &'a [P],
+    divides: bool,
+) -> Option<Guided<'a, P, PRECISION>>
+    requires sizes { (1 ≤ PRECISION) × (PRECISION ≤ P.BITS) }
+    requires total { IsTotal PRECISION (map P.number weights.now) }
+    ensures { IfSome result (λ guided. ⟦<Guided<'a, P, PRECISION> as EntropyModel<PRECISION>>⟧.table guided
+        ≡ table_of (map P.number weights.now)) }
+{
+    let row = Row::of_total(weights);
+    let shift = shift_for(weights.len(), PRECISION);
+    let divides = divides && PRECISION <= 63;
+    let guesses = Vec::new(alloc);
+    match symbol_rows_of::<P, PRECISION>(alloc, weights, divides) {
+        Ok(symbol_rows) => Some(Guided {
+            row,
+            symbol_rows,
             guesses,
-            shift: PRECISION as u32 - bits,
+            shift,
+            divides,
         }),
         Err(_) => None,
     }
 }
 
-/// Returns the symbol of the first quantile of each bucket, or 65535 if the symbol is greater.
+/// Returns the model of `weights` with guesses.
 ///
-/// A bucket consists of the quantiles that have the same highest `bits` bits. The caller proves that `bits` is at most
-/// 11 and below `PRECISION`. The call returns `Err(AllocError)` if there is no memory for the list.
-fn guesses_of<P: BitArray, const PRECISION: usize>(
+/// The caller proves that the weights add up to `2 ^ PRECISION`. The call returns `None` if there is no memory.
+fn decoding_by<'a, P: BitArray, const PRECISION: usize>(
     alloc: Global,
-    table: &WeightTable<P, PRECISION>,
-    bits: u32,
-) -> Result<Vec<u16>, AllocError>
+    weights: &'a [P],
+) -> Option<Guided<'a, P, PRECISION>>
     requires sizes { (1 ≤ PRECISION) × (PRECISION ≤ P.BITS) }
-    requires bits { (bits ≤ 11) × (bits < PRECISION) }
+    requires total { IsTotal PRECISION (map P.number weights.now) }
+    ensures { IfSome result (λ guided. ⟦<Guided<'a, P, PRECISION> as EntropyModel<PRECISION>>⟧.table guided
+        ≡ table_of (map P.number weights.now)) }
 {
-    let count = 1usize << bits;
-    let last = ones::<P>(PRECISION);
-    let width = last.shift_right(bits).wrapping_plus(P::unit());
-    let mut first = P::nothing();
-    let mut guesses = Vec::with_capacity(alloc, count)?;
-    for _bucket in 0..count {
-        guesses.push_reserved(guess_at(table, last, first));
-        first = first.wrapping_plus(width);
+    let row = Row::of_total(weights);
+    let shift = shift_for(weights.len(), PRECISION);
+    let symbol_rows = Vec::new(alloc);
+    match guesses_of::<P, PRECISION>(alloc, weights, shift) {
+        Ok(guesses) => Some(Guided {
+            row,
+            symbol_rows,
+            guesses,
+            shift,
+            divides: false,
+        }),
+        Err(_) => None,
     }
-    Ok(guesses)
 }
 
-/// Returns the symbol of `quantile`, or 65535 if the symbol is greater, or if `quantile` is above `last`.
+/// Returns the number of low bits in which quantiles of one bucket differ, in a table of `symbols` symbols.
 ///
-/// The caller proves that `last` is the last quantile.
-fn guess_at<P: BitArray, const PRECISION: usize>(
-    table: &WeightTable<P, PRECISION>,
-    last: P,
-    quantile: P,
-) -> u16
-    requires { P.number last + 1 ≡ 2 ^ PRECISION }
+/// There are at least two buckets, and otherwise at most as many as symbols.
+fn shift_for(symbols: usize, precision: usize) -> u32
+    requires { (1 ≤ precision) × (precision ≤ 128) }
+    ensures within { result < precision }
+    ensures most { precision - result ≤ 63 }
 {
-    if last.is_below(quantile) {
-        return 65535;
+    let precision = precision as u32;
+    precision - symbols.max(2).ilog2().min(precision)
+}
+
+/// Returns the row of each symbol, in the order of the symbols.
+///
+/// If `divides` is true, each row has the reciprocal of its weight. The caller proves that the weights add up to
+/// `2 ^ PRECISION`, and that the precision is at most 63 bits if `divides` is true. The call returns `Err(AllocError)` if
+/// there is no memory for the rows.
+fn symbol_rows_of<P: BitArray, const PRECISION: usize>(
+    alloc: Global,
+    weights: &[P],
+    divides: bool,
+) -> Result<Vec<SymbolRow<P>>, AllocError>
+    requires fits { PRECISION ≤ P.BITS }
+    requires total { IsTotal PRECISION (map P.number weights.now) }
+    requires divides { IsTrue divides → PRECISION ≤ 63 }
+    ensures { IfOk result (λ made. AreSymbolRows P.number weights.now divides made.items) }
+{
+    let mut left = P::nothing();
+    let mut rows = Vec::with_capacity(alloc, weights.len())?;
+    for symbol in 0..weights.len() {
+        let weight = weights[symbol];
+        rows.push_reserved(SymbolRow {
+            left,
+            weight,
+            reciprocal: reciprocal_of(weight, divides),
+        });
+        left = left.wrapping_plus(weight);
     }
-    let (symbol, _, _) = table.quantile_function(quantile);
-    symbol.min(65535) as u16
+    Ok(rows)
+}
+
+/// Returns the reciprocal of `weight` if `divides` is true and the weight is above 0. Otherwise returns that of 1.
+///
+/// The caller proves that the weight fits 64 bits if `divides` is true.
+fn reciprocal_of<P: BitArray>(weight: P, divides: bool) -> Reciprocal
+    requires { IsTrue divides → P.number weight < 2 ^ 64 }
+    ensures { IsTrue divides → 0 < P.number weight → IsReciprocalOf result (P.number weight) }
+{
+    if !divides {
+        return Reciprocal::new(1);
+    }
+    Reciprocal::new((weight.to_index() as u64).max(1))
+}
+
+/// Returns the guess of each bucket: the symbol of the quantile in its middle, and the symbol's interval.
+///
+/// A bucket consists of `2 ^ shift` quantiles that differ only in their lowest `shift` bits. The caller proves that the
+/// weights add up to `2 ^ PRECISION`. If symbols don't fit 32 bits, their buckets have no guesses. The call returns
+/// `Err(AllocError)` if there is no memory for the guesses.
+fn guesses_of<P: BitArray, const PRECISION: usize>(
+    alloc: Global,
+    weights: &[P],
+    shift: u32,
+) -> Result<Vec<Guess<P>>, AllocError>
+    requires sizes { (1 ≤ PRECISION) × (PRECISION ≤ P.BITS) }
+    requires total { IsTotal PRECISION (map P.number weights.now) }
+    requires shift { (shift < PRECISION) × (PRECISION - shift ≤ 63) }
+    ensures { IfOk result (λ made. AreGuesses P.number weights.now made.items) }
+{
+    let count = 1usize << (PRECISION as u32 - shift);
+    let last = ones::<P>(PRECISION);
+    let width = P::unit().shift_left(shift);
+    let mut middle = P::unit().shift_left(shift.saturating_sub(1));
+    let mut symbol = 0;
+    let mut start = P::nothing();
+    let mut guesses = Vec::with_capacity(alloc, count)?;
+    for _bucket in 0..count {
+        let quantile = if last.is_below(middle) { last } else { middle };
+        let (found, left, weight) = find_from::<P, PRECISION>(weights, symbol, start, quantile);
+        if found > 4294967295 {
+            return Ok(guesses);
+        }
+        guesses.push_reserved(Guess {
+            left,
+            weight,
+            symbol: found as u32,
+        });
+        symbol = found;
+        start = left;
+        middle = middle.wrapping_plus(width);
+    }
+    Ok(guesses)
 }

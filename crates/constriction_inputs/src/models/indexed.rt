@@ -23,7 +23,7 @@ use std::alloc::Global;
 
 /// The model of a list of weights: a table with guesses, or a [`Row`] whose look-up adds up weights.
 pub type GuidedOrRow<'a, P, const PRECISION: usize> = WeightsModel<
-    Guided<P, PRECISION>,
+    Guided<'a, P, PRECISION>,
     Row<'a, P, PRECISION>,
 >;
 

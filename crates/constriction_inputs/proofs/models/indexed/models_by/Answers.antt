@@ -2,7 +2,6 @@ use Rattle.std.proofs.Common.{◌∙◌, ◌<◌, arith, map, refl, rules, sym}
 use Rattle.std.proofs.lemmas.List.{map_push}
 use Rattle.std.proofs.lemmas.List.FromFn.{map-range_with_len_more}
 use Rattle.constriction_base.specs.Tables.{table_of}
-use Rattle.constriction_base.specs.WeightTables.{entries}
 use Rattle.constriction_inputs.specs.Mixtures.{row_at_index}
 use Rattle.constriction_inputs.specs.Weights.{IsTotal}
 use Rattle.constriction_inputs.specs.WeightsModels.{of_either}
@@ -31,7 +30,7 @@ loop-index-preserved g c =
     let more = map-range_with_len_more (λ index. table_of (row_at_index given.width index (map number given.weights.now))) 0 l.index l.index (omega arith) in
     record {
       tables = rw c.push_reserved.ensures.items
-          (map_push (of_either (λ guided. entries guided.table) (λ row. table_of (map number row.weights.now))) l.models.items c.in-Some.model
+          (map_push (of_either (λ guided. table_of (map number guided.row.weights.now)) (λ row. table_of (map number row.weights.now))) l.models.items c.in-Some.model
           ∙ (rw (l.invariant.tables, c.in-Some.ensures, c.weights_at-row.ensures) refl ∙ sym more));
       counted = omega (arith, c.push_reserved.ensures.len, l.invariant.counted);
       capacity = omega (arith, c.push_reserved.ensures.capacity, l.invariant.capacity);
