@@ -1,8 +1,12 @@
 /* Nanoseconds a symbol with the stack coder, under tables by index and under one table: lines `name ns_per_symbol`, each the
    least of so many runs. bench/models builds and runs it.
 
-   Weights are in proportion to exponentials of a half of the distance from a symbol that differs between tables. Each symbol
-   has a random index, and is drawn by its table's weights. All symbols are looked at after the decodes. */
+   Weights fall exponentially with the distance from symbol 128, at a rate that differs between tables. Each symbol has a
+   random index, and is drawn by its table's weights. In the lines `sorted` the indexes are in order, so that the caches hold
+   the one table in use. All symbols are looked at after the decodes.
+
+   The lines `load_N_kb` are nanoseconds a load in a chain of loads, each from the address that the load before it read, in
+   random order over N KB. A decode can't take less than one such load: its place in a table depends on the coder's head. */
 
 #define _POSIX_C_SOURCE 199309L
 #include <math.h>
@@ -36,7 +40,7 @@ static double now(void) {
     return (double)at.tv_sec * 1e9 + (double)at.tv_nsec;
 }
 
-static void draw(size_t tables, size_t count) {
+static void draw(size_t tables, size_t count, int sorted) {
     for (size_t t = 0; t < tables; t++) {
         for (size_t i = 0; i < WIDTH; i++) {
             double far = fabs((double)i - 128.0) / (2.0 + (double)(t % 64) / 4.0);
@@ -45,7 +49,7 @@ static void draw(size_t tables, size_t count) {
         done(constriction_weights_of_counts_u32(counts, WIDTH, weights + t * WIDTH, WIDTH));
     }
     for (size_t i = 0; i < count; i++) {
-        indexes[i] = random_number() % tables;
+        indexes[i] = sorted ? i * tables / count : random_number() % tables;
         const uint32_t *row = weights + indexes[i] * WIDTH;
         uint32_t at = (uint32_t)random_number() & 0xffffff, symbol = 0;
         while (at >= row[symbol]) at -= row[symbol++];
@@ -77,13 +81,40 @@ static void run(size_t tables, size_t count, double *encode, double *decode) {
     exit(1);
 }
 
+static double chain(size_t kilobytes) {
+    enum { LINE = 64, LOADS = 1000000 };
+    static char memory[4096 * 1024 + LINE];
+    static uint32_t order[4096 * 1024 / LINE];
+    size_t lines = kilobytes * 1024 / LINE;
+    char *first = memory + (LINE - (uintptr_t)memory % LINE) % LINE;
+    for (size_t i = 0; i < lines; i++) order[i] = (uint32_t)i;
+    for (size_t i = lines - 1; i > 0; i--) {
+        size_t other = random_number() % i;
+        uint32_t kept = order[i];
+        order[i] = order[other], order[other] = kept;
+    }
+    for (size_t i = 0; i < lines; i++) *(char **)(first + LINE * i) = first + LINE * (size_t)order[i];
+    double least = 1e18;
+    for (int times = 0; times < RUNS; times++) {
+        char *at = first;
+        double start = now();
+        for (int i = 0; i < LOADS; i++) at = *(char *volatile *)at;
+        least = fmin(least, now() - start);
+    }
+    return least / LOADS;
+}
+
 int main(void) {
     const size_t tables[] = {1, 64, TABLES};
     for (int at = 0; at < 3; at++) {
-        double encode = 1e18, decode = 1e18;
-        draw(tables[at], MOST);
-        for (int times = 0; times < RUNS; times++) run(tables[at], MOST, &encode, &decode);
-        printf("c_ans_encode_indexed_p24_%zu %.3f\n", tables[at], encode / MOST);
-        printf("c_ans_decode_indexed_p24_%zu %.3f\n", tables[at], decode / MOST);
+        for (int sorted = 0; sorted < (at == 0 ? 1 : 2); sorted++) {
+            const char *order = sorted ? "sorted_" : "";
+            double encode = 1e18, decode = 1e18;
+            draw(tables[at], MOST, sorted);
+            for (int times = 0; times < RUNS; times++) run(tables[at], MOST, &encode, &decode);
+            printf("c_ans_encode_indexed_%sp24_%zu %.3f\n", order, tables[at], encode / MOST);
+            printf("c_ans_decode_indexed_%sp24_%zu %.3f\n", order, tables[at], decode / MOST);
+        }
     }
+    for (size_t kilobytes = 16; kilobytes <= 1024; kilobytes *= 4) printf("load_%zu_kb %.3f\n", kilobytes, chain(kilobytes));
 }

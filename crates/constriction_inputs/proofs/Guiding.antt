@@ -9,7 +9,7 @@ use Rattle.std.proofs.lemmas.List.{get_or_append_left, get_or_push}
 use Rattle.std.proofs.lemmas.List.Sums.{sum-map, sum_by_more, sum_by_more_le}
 use Rattle.constriction_inputs.specs.Guided.{AreGuesses, AreSymbolRows, IsGuess, IsSymbolRow}
 use Rattle.constriction_inputs.specs.Weights.{IsTotal}
-use Rattle.constriction_inputs.specs.declared.models.guided.Guess.{Guess}
+use Rattle.constriction_inputs.specs.declared.models.guided.Interval.{Interval}
 use Rattle.constriction_inputs.specs.declared.models.guided.SymbolRow.{SymbolRow}
 
 -- ---- steps from symbol to symbol
@@ -59,14 +59,24 @@ symbol_rows_push {P} number ws divides rows row i count are is k other within = 
 ]
 
 -- ---- guesses
-pub guesses_push : {P : Type 0} (number : P → ℕ) (ws : List P) (guesses : List (Guess P)) (guess : Guess P) → AreGuesses number ws guesses → IsGuess number ws guess → AreGuesses number ws (guesses ++ guess ∷ [])
-guesses_push {P} number ws guesses guess are is k other within = elim (cases_lt k (length guesses)) [
-  | inl old ↦ subst (λ (g : Guess P). IsGuess number ws g) (sym (get_or_append_left guesses (guess ∷ []) other k old)) (are k other old)
-  | inr new ↦ subst (λ (g : Guess P). IsGuess number ws g) (sym (get_or_push guesses guess other k (omega (arith, length-append guesses (guess ∷ []))))) is
-]
+pub guesses_push : {P : Type 0} (number : P → ℕ) (ws : List P) (intervals : List (Interval P)) (symbols : List ℕ) (interval : Interval P) (s : ℕ) → AreGuesses number ws intervals symbols
+    → IsGuess number ws s interval.left interval.weight → AreGuesses number ws (intervals ++ interval ∷ []) (symbols ++ s ∷ [])
+guesses_push {P} number ws intervals symbols interval s are is = record {
+  counted = omega (arith, length-append intervals (interval ∷ []), length-append symbols (s ∷ []), are.counted);
+  each = λ k symbol other within here there. elim (cases_lt k (length symbols)) [
+    | inl old ↦ are.each k symbol other old (here ∙ get_or_append_left symbols (s ∷ []) symbol k old) (there ∙ get_or_append_left intervals (interval ∷ []) other k (omega (arith, old, are.counted)))
+    | inr new ↦
+        let same : symbol ≡ s = here ∙ get_or_push symbols s symbol k (omega (arith, within, new, length-append symbols (s ∷ []))) in
+        let equal : other ≡ interval = there ∙ get_or_push intervals interval other k (omega (arith, within, new, length-append symbols (s ∷ []), are.counted)) in
+        subst (λ (i : Interval P). IsGuess number ws symbol i.left i.weight) (sym equal) (subst (λ (n : ℕ). IsGuess number ws n interval.left interval.weight) (sym same) is)
+  ];
+}
 
-pub no_guesses : {P : Type 0} (number : P → ℕ) (ws : List P) (guesses : List (Guess P)) → guesses ≡ [] → AreGuesses number ws guesses
-no_guesses number ws guesses none k other within = absurd (omega (arith, within, ap length none))
+pub no_guesses : {P : Type 0} (number : P → ℕ) (ws : List P) (intervals : List (Interval P)) (symbols : List ℕ) → intervals ≡ [] → symbols ≡ [] → AreGuesses number ws intervals symbols
+no_guesses number ws intervals symbols none empty = record {
+  counted = omega (arith, ap length none, ap length empty);
+  each = λ k symbol interval within here there. absurd (omega (arith, within, ap length empty));
+}
 
 pub no_rows : {P : Type 0} (number : P → ℕ) (ws : List P) (divides : Bool) (rows : List (SymbolRow P)) → rows ≡ [] → AreSymbolRows number ws divides rows
 no_rows number ws divides rows none = record { within = omega (arith, ap length none); each = λ k other within. absurd (omega (arith, within, ap length none)) }

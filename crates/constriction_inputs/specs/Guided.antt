@@ -1,7 +1,7 @@
--- What a table keeps beside the caller's weights: a row for each symbol, and guesses of symbols.
+-- What a table keeps beside the caller's weights: a row for each symbol, or guesses of symbols.
 use Rattle.std.specs.Prelude.{◌≡◌, ℕ, ◌<◌, ◌≤◌, List, Bool, IsTrue, length, get_or, take, sum_by}
 use Rattle.constriction_words.specs.Reciprocals.{IsReciprocalOf}
-use Rattle.constriction_inputs.specs.declared.models.guided.Guess.{Guess}
+use Rattle.constriction_inputs.specs.declared.models.guided.Interval.{Interval}
 use Rattle.constriction_inputs.specs.declared.models.guided.SymbolRow.{SymbolRow}
 
 -- The row has the symbol's weight. If the weight is above 0, the row has the start of the symbol's interval, and if
@@ -16,12 +16,13 @@ pub record AreSymbolRows {P : Type 0} (number : P → ℕ) (weights : List P) (d
   pub within : length rows ≤ length weights
   pub each : (k : ℕ) (other : SymbolRow P) → k < length rows → IsSymbolRow number weights divides k (get_or rows k other)
 
--- The guess has a symbol of the table, the sum of the weights before it, and its weight.
-pub record IsGuess {P : Type 0} (number : P → ℕ) (weights : List P) (guess : Guess P) : Type 0 where
-  pub within : guess.symbol < length weights
-  pub left : number guess.left ≡ sum_by number (take guess.symbol weights)
-  pub weight : number guess.weight ≡ number (get_or weights guess.symbol guess.weight)
+-- The symbol is one of the table, `start` is the sum of the weights before it, and `p` is its weight.
+pub record IsGuess {P : Type 0} (number : P → ℕ) (weights : List P) (symbol : ℕ) (start p : P) : Type 0 where
+  pub within : symbol < length weights
+  pub left : number start ≡ sum_by number (take symbol weights)
+  pub weight : number p ≡ number (get_or weights symbol p)
 
--- Each of the guesses has a symbol of the table.
-abbrev pub AreGuesses : {P : Type 0} → (P → ℕ) → List P → List (Guess P) → Type 0
-AreGuesses number weights guesses = (k : ℕ) (other : Guess _) → k < length guesses → IsGuess number weights (get_or guesses k other)
+-- There are as many intervals as symbols, and at each index stands the interval of the symbol at the same index.
+pub record AreGuesses {P : Type 0} (number : P → ℕ) (weights : List P) (intervals : List (Interval P)) (symbols : List ℕ) : Type 0 where
+  pub counted : length intervals ≡ length symbols
+  pub each : (k symbol : ℕ) (interval : Interval P) → k < length symbols → symbol ≡ get_or symbols k symbol → interval ≡ get_or intervals k interval → IsGuess number weights symbol interval.left interval.weight

@@ -25,21 +25,20 @@ pub struct SymbolRow<P: Copy + Drop> {
     reciprocal: Reciprocal,
 }
 
-/// A symbol and its interval.
+/// The start of a symbol's interval, and the interval's length.
 #[derive(Clone, Copy, Drop)]
-pub struct Guess<P: Copy + Drop> {
+pub struct Interval<P: Copy + Drop> {
     left: P,
     weight: P,
-    symbol: u32,
 }
 
 /// A row of weights, with a row for each symbol to encode, or with guesses to decode.
 ///
-/// All quantiles with the same high bits form a bucket. A guess is the symbol of the quantile in the middle of a bucket,
-/// with the symbol's interval. A guess takes 12 bytes if `P` has 32 bits, and there are at most as many guesses as
-/// symbols. So the guesses of many tables fit the cache. If the interval doesn't hold a quantile of the bucket, a look-up
-/// goes from the guess to the symbols before or behind it, and adds up the caller's weights. If the quantiles are evenly
-/// distributed, a look-up takes less than two such steps on average.
+/// All quantiles with the same high bits form a bucket. A guess is the symbol of the quantile in the middle of a bucket.
+/// With its interval it takes 12 bytes if `P` has 32 bits, and there are at most as many guesses as symbols. So the
+/// guesses of many tables fit the caches. If the guess's interval doesn't hold a quantile of the bucket, a look-up goes on
+/// to the symbols before or behind it, and adds up the caller's weights. If all quantiles are equally frequent, this takes
+/// less than two such steps on average.
 ///
 /// # Examples
 ///
@@ -53,14 +52,16 @@ pub struct Guided<'a, P: BitArray, const PRECISION: usize> {
     row: Row<'a, P, PRECISION>,
     /// The row of each symbol. Empty if the model is for decoding.
     symbol_rows: Vec<SymbolRow<P>>,
-    /// The guess of each bucket. Empty if the model is for encoding.
-    guesses: Vec<Guess<P>>,
+    /// The interval of each bucket's guess. Empty if the model is for encoding.
+    intervals: Vec<Interval<P>>,
+    /// The symbol of each bucket's guess.
+    symbols: Vec<u32>,
     /// The number of low bits in which quantiles of one bucket differ.
     shift: u32,
     /// Whether the rows of symbols have reciprocals.
     divides: bool,
     ghost kept: { AreSymbolRows P.number row.weights.now divides symbol_rows.items },
-    ghost guessed: { AreGuesses P.number row.weights.now guesses.items },
+    ghost guessed: { AreGuesses P.number row.weights.now intervals.items symbols.items },
     ghost cut: { (shift < PRECISION) × (PRECISION - shift ≤ 63) },
 }
 
@@ -119,33 +120,30 @@ impl<'a, P: BitArray, const PRECISION: usize> DecoderModel<PRECISION> for Guided
     #[inline(always)]
     fn quantile_function(&self, quantile: P) -> (usize, P, <P as BitArray>::NonZero) {
         let guess = self.guess(quantile);
-        let symbol = guess.symbol as usize;
-        if covers::<P>(guess.left, guess.weight, quantile) {
-            return (symbol, guess.left, guess.weight.to_nonzero().unwrap());
+        if covers::<P>(guess.1, guess.2, quantile) {
+            return (guess.0, guess.1, guess.2.to_nonzero().unwrap());
         }
-        let found = find_from::<P, PRECISION>(self.row.weights, symbol, guess.left, quantile);
+        let found = find_from::<P, PRECISION>(self.row.weights, guess.0, guess.1, quantile);
         (found.0, found.1, found.2.to_nonzero().unwrap())
     }
 }
 
 impl<'a, P: BitArray, const PRECISION: usize> Guided<'a, P, PRECISION> {
-    /// Returns the guess of the bucket that holds `quantile`, or symbol 0 if the model has no guesses.
+    /// Returns the guess for the bucket that holds `quantile`, and the start and the length of its interval.
     ///
-    /// The caller proves that `quantile` is below `2 ^ PRECISION`.
+    /// If the model has no guesses, this is symbol 0. The caller proves that `quantile` is below `2 ^ PRECISION`.
     #[inline(always)]
-    fn guess(&self, quantile: P) -> Guess<P>
+    fn guess(&self, quantile: P) -> (usize, P, P)
         requires { P.number quantile < 2 ^ PRECISION }
-        ensures { IsGuess P.number self.now.row.weights.now result }
+        ensures { IsGuess P.number self.now.row.weights.now result.0 result.1 result.2 }
     {
         let bucket = quantile.shift_right(self.shift).to_index();
-        if bucket < self.guesses.len() {
-            return self.guesses[bucket];
+        if bucket >= self.symbols.len() {
+            return (0, P::nothing(), self.row.weights[0]);
         }
-        Guess {
-            left: P::nothing(),
-            weight: self.row.weights[0],
-            symbol: 0,
-        }
+        let interval = &self.intervals[bucket];
+        let symbol = self.symbols[bucket];
+        (symbol as usize, interval.left, interval.weight)
     }
 }
 
@@ -178,7 +176,7 @@ fn find_from<P: BitArray, const PRECISION: usize>(
     requires left { P.number left ≡ sum_by P.number (take from weights.now) }
     ensures within { result.0 < length weights.now }
     ensures left { P.number result.1 ≡ sum_by P.number (take result.0 weights.now) }
-    ensures weight { P.number result.2 ≡ P.number (get_or weights.now result.0 result.2) }
+    ensures value { P.number result.2 ≡ P.number (get_or weights.now result.0 result.2) }
     ensures covers { Covers (P.number result.1) (P.number result.2) (P.number quantile) }
 {
     let (symbol, start) = step_down(weights, from, left, quantile);
@@ -223,7 +221,7 @@ fn step_up<P: BitArray, const PRECISION: usize>(
     requires below { P.number left ≤ P.number quantile }
     ensures within { result.0 < length weights.now }
     ensures left { P.number result.1 ≡ sum_by P.number (take result.0 weights.now) }
-    ensures weight { P.number result.2 ≡ P.number (get_or weights.now result.0 result.2) }
+    ensures value { P.number result.2 ≡ P.number (get_or weights.now result.0 result.2) }
     ensures covers { Covers (P.number result.1) (P.number result.2) (P.number quantile) }
 {
     let mut start = left;
@@ -277,12 +275,14 @@ fn encoding_by<'a, P: BitArray, const PRECISION: usize>(
     let row = Row::of_total(weights);
     let shift = shift_for(weights.len(), PRECISION);
     let divides = divides && PRECISION <= 63;
-    let guesses = Vec::new(alloc);
+    let intervals = Vec::new(alloc);
+    let symbols = Vec::new(alloc);
     match symbol_rows_of::<P, PRECISION>(alloc, weights, divides) {
         Ok(symbol_rows) => Some(Guided {
             row,
             symbol_rows,
-            guesses,
+            intervals,
+            symbols,
             shift,
             divides,
         }),
@@ -306,10 +306,11 @@ fn decoding_by<'a, P: BitArray, const PRECISION: usize>(
     let shift = shift_for(weights.len(), PRECISION);
     let symbol_rows = Vec::new(alloc);
     match guesses_of::<P, PRECISION>(alloc, weights, shift) {
-        Ok(guesses) => Some(Guided {
+        Ok((intervals, symbols)) => Some(Guided {
             row,
             symbol_rows,
-            guesses,
+            intervals,
+            symbols,
             shift,
             divides: false,
         }),
@@ -341,7 +342,7 @@ fn symbol_rows_of<P: BitArray, const PRECISION: usize>(
 ) -> Result<Vec<SymbolRow<P>>, AllocError>
     requires fits { PRECISION ≤ P.BITS }
     requires total { IsTotal PRECISION (map P.number weights.now) }
-    requires divides { IsTrue divides → PRECISION ≤ 63 }
+    requires most { IsTrue divides → PRECISION ≤ 63 }
     ensures { IfOk result (λ made. AreSymbolRows P.number weights.now divides made.items) }
 {
     let mut left = P::nothing();
@@ -371,7 +372,7 @@ fn reciprocal_of<P: BitArray>(weight: P, divides: bool) -> Reciprocal
     Reciprocal::new((weight.to_index() as u64).max(1))
 }
 
-/// Returns the guess of each bucket: the symbol of the quantile in its middle, and the symbol's interval.
+/// Returns the interval and the symbol of each bucket's guess: the symbol of the quantile in the bucket's middle.
 ///
 /// A bucket consists of `2 ^ shift` quantiles that differ only in their lowest `shift` bits. The caller proves that the
 /// weights add up to `2 ^ PRECISION`. If symbols don't fit 32 bits, their buckets have no guesses. The call returns
@@ -380,11 +381,11 @@ fn guesses_of<P: BitArray, const PRECISION: usize>(
     alloc: Global,
     weights: &[P],
     shift: u32,
-) -> Result<Vec<Guess<P>>, AllocError>
+) -> Result<(Vec<Interval<P>>, Vec<u32>), AllocError>
     requires sizes { (1 ≤ PRECISION) × (PRECISION ≤ P.BITS) }
     requires total { IsTotal PRECISION (map P.number weights.now) }
-    requires shift { (shift < PRECISION) × (PRECISION - shift ≤ 63) }
-    ensures { IfOk result (λ made. AreGuesses P.number weights.now made.items) }
+    requires within { (shift < PRECISION) × (PRECISION - shift ≤ 63) }
+    ensures { IfOk result (λ made. AreGuesses P.number weights.now made.0.items made.1.items) }
 {
     let count = 1usize << (PRECISION as u32 - shift);
     let last = ones::<P>(PRECISION);
@@ -392,21 +393,19 @@ fn guesses_of<P: BitArray, const PRECISION: usize>(
     let mut middle = P::unit().shift_left(shift.saturating_sub(1));
     let mut symbol = 0;
     let mut start = P::nothing();
-    let mut guesses = Vec::with_capacity(alloc, count)?;
+    let mut intervals = Vec::with_capacity(alloc, count)?;
+    let mut symbols = Vec::with_capacity(alloc, count)?;
     for _bucket in 0..count {
         let quantile = if last.is_below(middle) { last } else { middle };
         let (found, left, weight) = find_from::<P, PRECISION>(weights, symbol, start, quantile);
         if found > 4294967295 {
-            return Ok(guesses);
+            return Ok((intervals, symbols));
         }
-        guesses.push_reserved(Guess {
-            left,
-            weight,
-            symbol: found as u32,
-        });
+        intervals.push_reserved(Interval { left, weight });
+        symbols.push_reserved(found as u32);
         symbol = found;
         start = left;
         middle = middle.wrapping_plus(width);
     }
-    Ok(guesses)
+    Ok((intervals, symbols))
 }

@@ -21,7 +21,7 @@ use constriction_base::model::{DecoderModel, EncoderModel, EntropyModel};
 use constriction_words::{BitArray, Reciprocal};
 use std::alloc::Global;
 
-/// The model of a list of weights: a table with guesses, or a [`Row`] whose look-up adds up weights.
+/// The model of a row of weights: with rows of symbols or guesses, or a [`Row`] whose look-up adds up weights.
 pub type GuidedOrRow<'a, P, const PRECISION: usize> = WeightsModel<
     Guided<'a, P, PRECISION>,
     Row<'a, P, PRECISION>,
@@ -32,7 +32,8 @@ pub type GuidedOrRow<'a, P, const PRECISION: usize> = WeightsModel<
 /// Each table has the weights of the symbols `0`, `1`, .., which have to add up to `2 ^ PRECISION`. Symbol `i` of the
 /// list to encode or decode has the table `indexes[i]`.
 ///
-/// A long list makes each table once. A list of at most 64 symbols for each table makes none to decode: a look-up adds up
+/// A long list makes each table once. To encode, a table takes 32 bytes for each weight if `P` has at most 32 bits. To
+/// decode, it takes at most 12 bytes. A list of at most 64 symbols for each table makes none to decode: a look-up adds up
 /// the weights before the symbol. To encode, this holds for up to 128 symbols for each table, or 256 if a table would
 /// keep reciprocals.
 ///
@@ -212,8 +213,7 @@ fn rows_of<P: BitArray>(weights: &[P], width: usize) -> usize
 
 /// Returns the model of each of `tables` rows of `width` weights. `weights` has the rows one after another.
 ///
-/// If `searches` is true, each model is a row, whose look-up adds up weights. Otherwise it is a table, which keeps
-/// reciprocals if `divides` is true. The caller proves that `weights` has `tables` rows, and that each row adds up to
+/// [`model_by`] makes each model. The caller proves that `weights` has `tables` rows, and that each row adds up to
 /// `2 ^ PRECISION`. The call returns `None` if there is no memory.
 fn models_by<'a, P: BitArray, const PRECISION: usize>(
     alloc: Global,
@@ -246,9 +246,9 @@ fn models_by<'a, P: BitArray, const PRECISION: usize>(
 
 /// Returns the model of a row of weights.
 ///
-/// If `searches` is true, the model is the row. Otherwise it is a table, which keeps reciprocals if `divides` is true,
-/// and guesses if `decodes` is true. The caller proves that the weights add up to `2 ^ PRECISION`. The call returns
-/// `None` if there is no memory.
+/// If `searches` is true, the model is the row, whose look-up adds up weights. Otherwise it has guesses if `decodes` is
+/// true, and a row for each symbol if not, with reciprocals if `divides` is true. The caller proves that the weights add up
+/// to `2 ^ PRECISION`. The call returns `None` if there is no memory.
 fn model_by<'a, P: BitArray, const PRECISION: usize>(
     alloc: Global,
     row: &'a [P],

@@ -7,9 +7,11 @@ abbrev pub invariant-loop-bucket : goal.invariant-loop-bucket
 invariant-loop-bucket g l =
     let number = g.P.BitArray.number in
     record {
-      capacity : vec_capacity l.guesses ≡ l.count;
-      counted : vec_len l.guesses ≡ l._bucket;
+      room : vec_capacity l.intervals ≡ l.count;
+      counted : vec_len l.intervals ≡ l._bucket;
+      capacity : vec_capacity l.symbols ≡ l.count;
+      as_many : vec_len l.symbols ≡ l._bucket;
       within : l.symbol ≤ length l.weights;
       left : number l.start ≡ sum_by number (take l.symbol l.weights);
-      are : AreGuesses number l.weights l.guesses.items;
+      are : AreGuesses number l.weights l.intervals.items l.symbols.items;
     }

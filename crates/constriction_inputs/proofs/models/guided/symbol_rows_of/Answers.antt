@@ -6,7 +6,7 @@ use Rattle.constriction_inputs.proofs.models.guided.symbol_rows_of.Goals as goal
 pub reciprocal_of-requires : goal.reciprocal_of-requires
 reciprocal_of-requires g c = λ divides.
     let number = g.P.BitArray.number in
-    let most : 2 ^ g.row.PRECISION ≤ 9223372036854775808 = pow_mono (c.requires.divides divides) in
+    let most : 2 ^ g.row.PRECISION ≤ 9223372036854775808 = pow_mono (c.requires.most divides) in
     let inside : c.loop-symbol.symbol < length c.args.weights.now = omega (arith, c.loop-symbol-test.true) in
     omega (arith, most, ap number c.index-weights-symbol.is, weight_most number g.row.PRECISION c.args.weights.now c.loop-symbol.symbol c.index-weights-symbol.result c.requires.total inside)
 

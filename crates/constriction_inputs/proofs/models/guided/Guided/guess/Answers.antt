@@ -1,4 +1,4 @@
-use Rattle.std.proofs.Common.{arith}
+use Rattle.std.proofs.Common.{◌<◌, length, arith}
 use Rattle.std.proofs.Math.Pow.{pow_mono}
 use Rattle.constriction_inputs.proofs.Guiding.{below_buckets}
 use Rattle.constriction_inputs.proofs.models.guided.Guided.guess.Goals as goal
@@ -10,3 +10,14 @@ pub to_index-bucket-requires : goal.to_index-bucket-requires
 to_index-bucket-requires g c =
     let cut = c.args.self.now.cut in
     omega (arith, c.shift_right.ensures, below_buckets (g.P.BitArray.number c.args.quantile) g.row.PRECISION c.args.self.now.shift (omega (arith, cut.0)) c.requires, pow_mono cut.1)
+
+pub index-interval-requires : goal.index-interval-requires
+index-interval-requires g c =
+    let self = c.args.self.now in
+    omega (arith, c.if-bucket-len.false, c.len.ensures, self.symbols.ok.0, self.intervals.ok.0, self.guessed.counted)
+
+pub returns : goal.returns
+returns g c =
+    let self = c.args.self.now in
+    let inside : c.to_index-bucket.result < length self.symbols.items = omega (arith, c.if-bucket-len.false, c.len.ensures, self.symbols.ok.0) in
+    self.guessed.each c.to_index-bucket.result _ c.index-interval.result.now inside c.index-symbol.ensures c.index-interval.ensures
