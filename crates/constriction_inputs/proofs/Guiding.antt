@@ -1,6 +1,5 @@
 -- Rows of symbols and guesses, made one after another and looked up.
-use Rattle.std.specs.Prelude.{sum}
-use Rattle.std.proofs.Common.{◌≡◌, ℕ, zero, suc, ◌+◌, ◌-◌, ◌%◌, ◌^◌, ◌<◌, ◌≤◌, List, [], ◌∷◌, ◌++◌, Bool, length, get_or, map, take, refl, sym, ◌∙◌, ap, subst, inl, inr, arith, length-append, pow-add, pow_pos, ◌*◌, ◌/◌}
+use Rattle.std.proofs.Common.{◌≡◌, ℕ, zero, suc, ◌+◌, ◌-◌, ◌%◌, ◌^◌, ◌<◌, ◌≤◌, List, [], ◌∷◌, ◌++◌, Bool, length, get_or, map, take, sym, ◌∙◌, ap, subst, inl, inr, arith, length-append, pow-add, pow_pos, ◌*◌, ◌/◌}
 use Rattle.std.specs.List.{sum_by}
 use Rattle.std.proofs.Math.Nat.{div-lt_iff_lt-mul, mod-eq_of_lt}
 use Rattle.std.proofs.Math.Pow.{pow_mono}

@@ -37,8 +37,8 @@ pub struct Interval<P: Copy + Drop> {
 /// All quantiles with the same high bits form a bucket. A guess is the symbol of the quantile in the middle of a bucket.
 /// With its interval it takes 12 bytes if `P` has 32 bits, and there are at most as many guesses as symbols. So the
 /// guesses of many tables fit the caches. If the guess's interval doesn't hold a quantile of the bucket, a look-up goes on
-/// to the symbols before or behind it, and adds up the caller's weights. If all quantiles are equally frequent, this takes
-/// less than two such steps on average.
+/// to the symbols before or behind it, and adds up the caller's weights. If there are at most `2 ^ PRECISION` symbols, and
+/// all quantiles are equally frequent, this takes less than two such steps on average.
 ///
 /// # Examples
 ///

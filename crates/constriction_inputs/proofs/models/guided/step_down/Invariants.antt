@@ -1,4 +1,4 @@
-use Rattle.std.proofs.Common.{◌≡◌, ◌≤◌, length, take}
+use Rattle.std.proofs.Common.{◌≡◌, ◌≤◌, take}
 use Rattle.std.specs.Prelude.{sum_by}
 use Rattle.constriction_inputs.proofs.models.guided.step_down.Given as goal
 
