@@ -97,9 +97,7 @@ def as_numpy(numbers: Any) -> Any:
     if numpy is None or isinstance(numbers, (list, tuple, range, array)):
         return None
     unmasked(numbers)
-    if isinstance(numbers, numpy.ndarray):
-        return numbers
-    return numpy.asarray(numbers) if hasattr(numbers, "__array__") else None
+    return numpy.asarray(numbers) if hasattr(numbers, "__array__") else None  # Subclasses may have other methods.
 
 
 def items_of(numbers: Any) -> Any:

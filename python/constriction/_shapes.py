@@ -7,7 +7,7 @@ from math import prod
 from typing import Any
 
 from ._buffers import NUMBER, SYMBOL, numpy_module, room
-from ._numbers import as_numpy, is_one, is_row, real, whole
+from ._numbers import as_numpy, is_one, is_row, items_of, real, whole
 from .errors import WrongLengthError
 
 __all__ = ["Shape", "aligned", "flat", "shape_of"]
@@ -56,8 +56,8 @@ def _stretched(numbers: Any, shape: Shape, row: bool = False, wholes: bool = Fal
         table = numpy.asarray(numbers)
     if table is not None:
         table = numpy.broadcast_to(table, shape)
-        return table.reshape(-1, shape[-1]) if row else table.ravel()
-    single, code = numbers if is_one(numbers) else next(iter(numbers)), SYMBOL if wholes else NUMBER
+        return table.reshape(prod(shape[:-1]), shape[-1]) if row else table.ravel()
+    single, code = numbers if is_one(numbers) else next(iter(items_of(numbers))), SYMBOL if wholes else NUMBER
     stretched = room(code, prod(shape))
     try:
         stretched[:] = type(stretched)(code, (whole(single) if wholes else real(single),)) * len(stretched)

@@ -170,6 +170,16 @@ class Lists(Misuse):
                 self.refused(TypeError, text, lambda: make(wrong))  # type: ignore[operator]
         self.assertEqual(list(Categorical({0: 1, 1: 3}.values()).table()), [1 << 22, 3 << 22])
 
+    def test_what_stands_for_all(self) -> None:
+        """A list of one number stands for all symbols. A dictionary, a set or bytes with one number aren't lists."""
+        text, ones, tables = "^expected a list of ", [1.0] * 2, WeightTable([[1 << 23] * 2] * 2)
+        for wrong in ({5.0: 1}, {5.0}, frozenset((5.0,)), {5.0: 1}.keys(), b"\5", bytearray(b"\5")):
+            self.unchanged(TypeError, text, lambda it: it.encode_reverse([1, 2], FAMILY, wrong, ones))
+            self.unchanged(TypeError, text, lambda it: it.encode_reverse([1, 2], FAMILY, ones, wrong))
+            self.unchanged(TypeError, text, lambda it: it.decode(FAMILY, wrong, ones))
+        for wrong in ({1: 1}, {1}, b"\1"):
+            self.unchanged(TypeError, text, lambda it: it.encode_reverse([1, 0], tables, wrong))
+
     def test_one_number_is_no_list(self) -> None:
         """A single number is refused as a list."""
         for make in (

@@ -181,6 +181,15 @@ class Shapes(unittest.TestCase):
         coder.encode_reverse(view, Uniform(5))
         self.assertEqual(coder.decode(Uniform(5), amt=(2, 2)).tolist(), [[1, 2], [3, 4]])
 
+        class Square(np.ndarray):  # type: ignore[misc]
+            """An array that keeps two dimensions, as numpy.matrix does."""
+
+            def ravel(self, order: Any = "C") -> Any:
+                return super().ravel(order).reshape(1, -1)
+
+        coder.encode_reverse(np.array([[1, 2], [3, 4]]).view(Square), Uniform(5))
+        self.assertEqual(coder.decode(Uniform(5), amt=(2, 2)).tolist(), [[1, 2], [3, 4]])
+
     def test_types_of_answers(self) -> None:
         """A symbol that doesn't fit its type is refused, and the coder stays unchanged."""
         family, symbols = QuantizedGaussian(-200, 300), np.array([[-3, 7], [100, 0]])
@@ -234,10 +243,11 @@ class Shapes(unittest.TestCase):
 
     def test_refusals_of_the_callers_own_array(self) -> None:
         """A wrong array of the caller is refused, and neither the array nor the coder changes."""
-        still = np.zeros(3, dtype="int64")
+        still, masked = np.zeros(3, dtype="int64"), np.ma.array([0, 0, 0], mask=[1, 0, 1], hard_mask=True)
         still.flags.writeable = False
         for kind, message, out, more in (
             (TypeError, "got list", [0, 0, 0], {}), (TypeError, "got float64", np.zeros(3), {}), (ValueError, "writeable", still, {}),
+            (TypeError, "got a masked array", masked, {}),
             (errors.WrongLengthError, r"of shape \(3,\), got \(2,\)", np.zeros(2, dtype="int64"), {}), (errors.WrongLengthError, r"\(3,\)", np.zeros((3, 1), dtype="int64"), {}),
             (TypeError, "got both", np.zeros(3, dtype="int8"), {"dtype": "int8"}), (ValueError, "that fit int8, got 300", np.full(3, 5, dtype="int8"), {}),
         ):  # fmt: skip
@@ -339,6 +349,11 @@ class Shapes(unittest.TestCase):
             lambda: AnsCoder().encode_reverse(symbols[:1], family, zeros, 1.0),
         ):  # fmt: skip
             self.assertRaisesRegex(errors.WrongLengthError, r"^expected symbols of shape \(2, 3\), got ", call)
+        for model, text in (
+            (Categorical(), "got 0 in row 0"), (WeightTable(), "expected at least one weight, got none in row 0"), (mixture, "without components"),
+        ):  # fmt: skip
+            nothing = [np.zeros((2, 3, 0), dtype="int64")] * len(model.missing)
+            self.assertRaisesRegex(ValueError, text, AnsCoder([5]).decode, model, *nothing)
         for wrong in ((2, -1), (2, 1.5), ("2",), (1 << 30, 1 << 30)):
             self.assertRaises((TypeError, ValueError), AnsCoder([5]).decode, Uniform(3), amt=wrong)
 
