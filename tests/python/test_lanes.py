@@ -5,9 +5,11 @@ from __future__ import annotations
 import copy
 import pickle
 import random
+import threading
 import unittest
 from array import array
 from typing import Any
+from unittest import mock
 
 from classes_of_families import KINDS
 from constriction import errors
@@ -48,6 +50,25 @@ def row(numbers: list[Any], j: int, time: int) -> list[Any]:
 
 class Lanes(unittest.TestCase):
     """Batches of coders beside one coder for each row."""
+
+    def test_words_of_one_time(self) -> None:
+        """The words of all coders are from one time, even if other threads encode meanwhile."""
+        for coders, coder in SIZES:
+            batch, alone, export = coders(4), coder(), coder.get_compressed
+            batch.encode_reverse([1] * 4, Uniform(9))
+            alone.encode_reverse(1, Uniform(9))
+            wanted = alone.get_compressed().tolist()
+
+            def exported(one: Any, *given: Any) -> Any:
+                """Lets another thread encode before the words of each coder."""
+                thread = threading.Thread(target=batch.encode_reverse, args=([2] * 4, Uniform(9)))
+                thread.start()
+                thread.join()
+                return export(one, *given)
+
+            with mock.patch.object(coder, "get_compressed", exported):
+                self.assertEqual([it.tolist() for it in batch.get_compressed()], [wanted] * 4)
+            self.assertEqual(batch.decode(Uniform(9)).tolist(), [2] * 4)
 
     def test_as_one_coder_each(self) -> None:
         """Each model, each number of coders from 0 to 9 and 64, and rows of 0 to 5 symbols."""

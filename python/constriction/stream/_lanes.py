@@ -320,18 +320,21 @@ class AnsCoders(Coder):
 
     def __getitem__(self, lane: SupportsIndex) -> Any:
         """Returns an :class:`AnsCoder` with a copy of the head and the words of coder ``lane``."""
-        from .stack import AnsCoder, SmallAnsCoder
-
         j, coders = whole(lane), len(self._state.heads)
         if not -coders <= j < coders:
             raise IndexError(f"expected the number of one of {coders} coders, got {j}")
-        it = (SmallAnsCoder if self._size is SMALL else AnsCoder)()
-        data, head = self._asked(lambda state: self._plain_lane(state, j % coders))
-        it._state = it._unplain((data, head, len(data) // (self._size.bits // 8)))
-        return it
+        return self._alone(*self._asked(lambda state: self._plain_lane(state, j % coders)))
 
     def __iter__(self) -> Iterator[Any]:
         return (self[j] for j in range(len(self)))
+
+    def _alone(self, data: bytes, head: int) -> Any:
+        """Returns an :class:`AnsCoder` of its own from the words and the head that ``_plain_lane`` returned."""
+        from .stack import AnsCoder, SmallAnsCoder
+
+        it = (SmallAnsCoder if self._size is SMALL else AnsCoder)()
+        it._state = it._unplain((data, head, len(data) // (self._size.bits // 8)))
+        return it
 
     def _plain_lane(self, state: _State, j: int) -> tuple[Any, ...]:
         """Returns the plain state of an :class:`AnsCoder` with the head and the words of coder ``j``."""
@@ -341,7 +344,8 @@ class AnsCoders(Coder):
 
     def get_compressed(self) -> list[Answer]:
         """Returns a copy of each coder's words, followed by the words of its head. The coders are unchanged."""
-        return [it.get_compressed() for it in self]
+        lanes = self._asked(self._plain)  # All at one time.
+        return [self._alone(*it).get_compressed() for it in lanes]
 
     def num_words(self) -> int:
         """Returns the number of words that ``get_compressed`` returns, of all coders together."""
