@@ -1,7 +1,7 @@
 """Lists of numbers in memory that C functions read and write.
 
-A C function only gets memory of this package, so no other code changes it during a call. An exception is ``out=`` of a
-decode. The package asks for the memory's address at each call, so no copy of a coder keeps an old address.
+A C function only gets memory of this package, so no other code changes it during a call. The package asks for the
+memory's address at each call, so no copy of a coder keeps an old address.
 """
 
 from __future__ import annotations

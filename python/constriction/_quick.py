@@ -72,9 +72,9 @@ def quick_counts_of_rows(table: Any) -> array[int] | None:
     numpy = numpy_module()
     if table.dtype.kind != "f":
         return _counts_of_wholes(table)
-    rows, counts = numpy.ascontiguousarray(doubles(table)), room("I", table.size)
+    floats, counts = doubles(table).flatten(), room("I", table.size)  # A copy, because C functions get own memory.
     try:
-        LARGE.count_floats(rows.ctypes.data, rows.size, rows.shape[1], *counts.buffer_info())
+        LARGE.count_floats(floats.ctypes.data, floats.size, table.shape[1], *counts.buffer_info())
     except WrongWeightsError:
         return None
     return counts

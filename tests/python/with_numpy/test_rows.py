@@ -6,6 +6,7 @@ import sys
 import unittest
 from pathlib import Path
 from typing import Any
+from unittest import mock
 
 numpy: Any
 try:
@@ -16,6 +17,7 @@ except ImportError:
 sys.path.insert(0, str(Path(__file__).resolve().parents[1]))
 
 from constriction import errors
+from constriction._sizes import LARGE
 from constriction.stream.model import Categorical, Model, WeightTable
 from constriction.stream.stack import AnsCoder, SmallAnsCoder
 
@@ -121,6 +123,21 @@ class Rows(unittest.TestCase):
             coder.encode_reverse(1, model, row), wanted.encode_reverse([1], model, [row.tolist()])
             row += numpy.array([0.0, 0.125, 0.5])
         self.assertEqual(coder, wanted)
+
+    def test_rows_that_another_thread_changes(self) -> None:
+        """C functions get copies of rows: what another thread writes to an array during a call makes no difference."""
+        for name, model in (("share_floats", Categorical()), ("count_floats", Categorical(perfect=False))):
+            rows = numpy.random.default_rng(3).random((5, 7))
+            coder, wanted, called = AnsCoder(), AnsCoder(), getattr(LARGE, name)
+            wanted.encode_reverse([6, 1, 2, 3, 0], model, rows.tolist())
+
+            def meanwhile(*given: Any, called: Any = called, rows: Any = rows) -> None:
+                rows[:] = numpy.nan
+                called(*given)
+
+            with mock.patch.object(LARGE, name, meanwhile):
+                coder.encode_reverse([6, 1, 2, 3, 0], model, rows)
+            self.assertEqual(coder, wanted)
 
     def test_lists_of_weights(self) -> None:
         """Lists of weights of several types have the words of lists of ints, and others are refused."""

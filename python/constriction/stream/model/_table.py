@@ -445,7 +445,7 @@ class Categorical(Rows):
 
     def _shared_rows(self, table: Any) -> array[int]:
         """Returns the weights of each row of a numpy array of floats, one row after another."""
-        floats, width = doubles(table).ravel(), table.shape[1]
+        floats, width = doubles(table).flatten(), table.shape[1]  # A copy, because C functions get own memory.
         weights = room(self.words.code, len(floats), array)
         at, to = floats.ctypes.data, weights.buffer_info()[0]
         for start in range(0, len(floats), width):
