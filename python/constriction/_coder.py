@@ -97,12 +97,14 @@ class Coder:
         """
         if not isinstance(model, Model) or given and not model.missing:
             return None
-        symbol = (self._lane or self._made_lane()).decode(self, model, given)
-        if symbol is not None and given and not model.core:
+        listed = None
+        if given and not model.core:  # Comes first: after the decode, no method of an argument may raise an exception.
             for it in given:
                 if type(it) is not float and (getattr(it, "ndim", None) or not is_one(it)):
-                    return answered_alone(symbol, it)
-        return symbol
+                    listed = it
+                    break
+        symbol = (self._lane or self._made_lane()).decode(self, model, given)
+        return symbol if symbol is None or listed is None else answered_alone(symbol, listed)
 
     def _compared(self, state: Any) -> Any:
         """Returns a value that is equal for equal coders."""

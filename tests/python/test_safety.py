@@ -329,6 +329,31 @@ class Threads(unittest.TestCase):
         middle = [it for it in ticks if begin + (end - begin) / 10 < it < end - (end - begin) / 10]
         self.assertGreater(len(middle), 100)
 
+    def test_a_model_that_is_copied(self) -> None:
+        """Another thread may use a model for the first time while a call copies it, as calls with words of 16 bits do."""
+        for place in range(1, 1000):
+            model, seen = Categorical([1, 2, 1]), 0
+
+            def step(frame: Any, kind: str, argument: Any) -> Any:
+                """Uses the model before the instruction with this number."""
+                nonlocal seen
+                frame.f_trace_opcodes = True
+                if kind == "opcode":
+                    seen += 1
+                    if seen == place:
+                        AnsCoder([5]).decode(model)
+                return step
+
+            sys.settrace(step)
+            try:
+                twin = copy.copy(model)
+            finally:
+                sys.settrace(None)
+            self.assertEqual(twin, Categorical([1, 2, 1]))
+            if seen < place:
+                break
+        self.assertGreater(place, 20)
+
     def test_a_model_that_calls_its_coder(self) -> None:
         """A model that calls its own coder is refused, and the coder stays unchanged."""
         coder = AnsCoder(array("I", range(1, 100)))
@@ -482,6 +507,49 @@ def patched(room: Any) -> Any:
 
 
 from constriction._buffers import room as definitions_room  # noqa: E402
+
+
+class Arguments(unittest.TestCase):
+    """Arguments whose methods fail."""
+
+    def test_each_access(self) -> None:
+        """If an access to a list of one number fails, no symbol is lost."""
+
+        class Slice:
+            """A list of one number. The access to it with the number ``place`` fails."""
+
+            def __init__(self, number: float, place: int) -> None:
+                self.number, self.place = number, place
+
+            def __getattribute__(self, name: str) -> Any:
+                held = object.__getattribute__(self, "__dict__")
+                if name in ("ndim", "shape", "item", "__len__", "__array__"):
+                    held["place"] -= 1
+                    if not held["place"]:
+                        raise ZeroDivisionError
+                if name == "item":
+                    return lambda: held["number"]
+                return {"ndim": 1, "shape": (1,)}.get(name) or object.__getattribute__(self, name)
+
+            def __len__(self) -> int:
+                return 1
+
+            def __iter__(self) -> Any:
+                return iter((self.number,))
+
+        family, failed = QuantizedGaussian(-9, 9), 0
+        for place in range(1, 100):
+            coder, wanted = AnsCoder([5, 6, 7]), AnsCoder([5, 6, 7])
+            try:
+                found = coder.decode(family, Slice(0.5, place), 2.0)
+            except ZeroDivisionError:
+                self.assertEqual(coder, wanted)
+                failed += 1
+                continue
+            self.assertEqual(found, wanted.decode(family, [0.5], [2.0]))
+            self.assertEqual(coder, wanted)
+            break
+        self.assertGreater(failed, 2)
 
 
 class WholeNumbers(unittest.TestCase):

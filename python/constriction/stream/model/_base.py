@@ -122,7 +122,8 @@ class Model:
     _twin: Model | None = None
 
     def __getstate__(self) -> dict[str, Any]:
-        return {name: it for name, it in vars(self).items() if name not in ("_often", "_uses", "_twin")}
+        state = vars(self).copy()  # Another thread may add an attribute meanwhile.
+        return {name: it for name, it in state.items() if name not in ("_often", "_uses", "_twin")}
 
     def at(self, words: Size) -> Model:
         """Returns the same model for coders with words of this size."""
