@@ -75,12 +75,16 @@ OUT_OF_REMAINDERS = "Out of remainders information from previous decoding."
 CODEWORD_ENDED = "The compressed data ended before the current codeword was complete."
 INVALID_CODEWORD = "Invalid codeword for this codebook: Invalid Exp-Golomb codeword."
 NO_WHOLE_WORDS = "the coder holds no whole number of words"
-NO_SUCH_POSITION = "there is no such position"
 
 
 def wrong_weights(total: int) -> str:
     """Returns the text for weights that don't have this sum."""
     return f"expected weights with a sum of {total}"
+
+
+def no_such_position(most: int, position: int, unit: str = "words") -> WrongLengthError:
+    """Returns the exception for a position that isn't between 0 and ``most``."""
+    return WrongLengthError(f"expected a position between 0 and {most} {unit}, got {shown(position)}")
 
 
 def shown(number: int) -> str:

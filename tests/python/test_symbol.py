@@ -201,9 +201,13 @@ class Codewords(unittest.TestCase):
             [32, 32],
             [*range(1, 46), 45],
             [*range(1, 41), 41],
+            [1, 10**30],
+            [-(10**30), 1],
         ):
             self.assertRaises(errors.WrongWeightsError, EncoderHuffmanTree.from_lengths, wrong)
         self.assertRaises(TypeError, EncoderHuffmanTree.from_lengths, [1.0, 1.0])
+        make: Any = EncoderHuffmanTree.from_lengths
+        self.assertRaisesRegex(TypeError, "^expected a list of lengths, got int$", make, 1)
 
     def test_deep_canonical_trees(self) -> None:
         """Trees with codewords of more than 31 bits, whose weights can't be powers of two below 2^32."""

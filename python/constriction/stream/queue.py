@@ -324,12 +324,14 @@ class RangeDecoder(Coder):
 
         def go(now: _Reading) -> tuple[_Reading, None]:
             if not 0 <= place <= now.words.length:
-                raise errors.WrongLengthError(errors.NO_SUCH_POSITION)
-            if not (0 <= lower <= self._size.greatest and 0 <= length <= self._size.greatest):
-                raise errors.InvalidDataError(errors.NO_SUCH_POSITION)
+                raise errors.no_such_position(now.words.length, place)
+            greatest = self._size.greatest
+            if not (0 <= lower <= greatest and 0 < length >> self._size.bits and length <= greatest):
+                raise errors.InvalidDataError(
+                    f"expected an encoder's interval, got ({errors.shown(lower)}, {errors.shown(length)})"
+                )
             it = self._size.decoder(*now.numbers)
-            texts = {4: errors.NO_SUCH_POSITION, 7: errors.NO_SUCH_POSITION}
-            self._size.call("range_seek", byref(it), *now.lent(), place, lower, length, texts=texts)
+            self._size.call("range_seek", byref(it), *now.lent(), place, lower, length)
             return _reading(now.words, it), None
 
         self._changed(go)

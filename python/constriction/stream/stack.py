@@ -315,8 +315,12 @@ class AnsCoder(Coder):
         length, head = whole(position), whole(state)
 
         def go(now: _State) -> tuple[_State, None]:
-            if not 0 <= length <= now.top or not 0 <= head <= self._size.greatest:
-                raise errors.WrongLengthError(errors.NO_SUCH_POSITION)
+            if not 0 <= length <= now.top:
+                raise errors.no_such_position(now.top, length)
+            if not 0 <= head <= self._size.greatest:
+                raise errors.WrongLengthError(
+                    f"expected a head between 0 and {self._size.greatest}, got {errors.shown(head)}"
+                )
             return _State(Words(_whole(now).words.memory, length), head, now.top), None
 
         self._changed(go)

@@ -153,7 +153,7 @@ class QueueDecoder(Coder):
 
         def go(now: _Place) -> tuple[_Place, None]:
             if not 0 <= place <= now.bits.length:
-                raise errors.WrongLengthError(errors.NO_SUCH_POSITION)
+                raise errors.no_such_position(now.bits.length, place, "bits")
             return _Place(now.bits, place), None
 
         self._changed(go)

@@ -91,11 +91,13 @@ class _Tree(Codebook):
         Raises :class:`WrongWeightsError` if no codewords have these lengths, if others would be left over, or if a length is
         above 44. Some trees with a length above 31 are refused too: whole weights for them have a sum of 2^32 or more.
         """
-        given = wholes_of(SYMBOL, sequence_of(lengths))
+        if is_one(lengths):
+            raise TypeError(f"expected a list of lengths, got {type(lengths).__name__}")
+        given = list(map(whole, listed_of(lengths)))  # Of any size.
         for place, length in enumerate(given):
             if not 0 <= length <= _LONGEST:
                 raise errors.WrongWeightsError(
-                    f"expected a length between 0 and {_LONGEST}, got {length} at place {place}"
+                    f"expected a length between 0 and {_LONGEST}, got {errors.shown(length)} at place {place}"
                 )
         longest = max(given, default=0)
         weights = [1 << longest - length for length in given]
@@ -185,7 +187,7 @@ class _Tree(Codebook):
         return found
 
 
-def _least_weights(lengths: array[int]) -> list[int]:
+def _least_weights(lengths: list[int]) -> list[int]:
     """Returns a weight for each length. The tree of these weights has the codewords of the tree of the weights 2^-length.
 
     The lengths fill a tree. Its levels are looked at from the longest length on. The nodes of a level are its leaves and
