@@ -22,7 +22,9 @@ from . import errors
 from ._buffers import SYMBOL, WORD, List, Numbers, answered, lent, room
 from ._answers import shifted
 from ._library import RangeDecoderState
-from ._numbers import whole
+from ._coding import model_wanted
+from ._numbers import sequence_of, whole
+from ._shapes import flat
 from ._sizes import LARGE
 from .stream.model import Model
 from .stream.queue import RangeEncoder
@@ -80,6 +82,8 @@ class Store:
 
     def __init__(self, words: Any, index: Iterable[Sequence[Any]], model: Model) -> None:
         """Creates a store from its parts. See :meth:`from_parts`."""
+        if not isinstance(model, Model):
+            model_wanted(model)
         if model.missing:
             raise TypeError(f"expected a model with all its parameters, got {model!r}")
         self._words, self._index, self._model = words, [_entry(it) for it in index], model
@@ -94,6 +98,7 @@ class Store:
     def build(cls, chunks: Iterable[List], model: Model) -> Store:
         """Builds a store: encodes the chunks in order with one range encoder.
 
+        A chunk is a list, or an array of any shape in C order, and decodes to a list.
         The seal of the words is self-delimiting, so other words may follow.
 
         Raises :class:`ImpossibleSymbolError` if the model has no entry for a symbol, and :class:`WrongLengthError` if
@@ -101,7 +106,7 @@ class Store:
         """
         encoder, index, left = RangeEncoder(), [], MOST_SYMBOLS
         for chunk in chunks:
-            symbols: Any = chunk if hasattr(chunk, "__len__") else list(chunk)
+            symbols = flat(sequence_of(chunk))
             left -= len(symbols)
             if left < 0:
                 raise errors.WrongLengthError(TOO_MANY_SYMBOLS)

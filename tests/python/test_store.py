@@ -57,6 +57,19 @@ def looked_up_by_function(words: list[int], entry: tuple[Any, ...], model: Weigh
 class Stores(unittest.TestCase):
     """Stores and their look-ups."""
 
+    def test_arrays_of_two_dimensions(self) -> None:
+        """All symbols of a chunk are stored, also those of an array of two dimensions."""
+        table = memoryview(array("q", range(6))).cast("B").cast("q", (2, 3))
+        store = Store.build([table, [7], iter([8, 0])], Uniform(9))  # type: ignore[list-item]
+        self.assertEqual([it.tolist() for it in store], [[0, 1, 2, 3, 4, 5], [7], [8, 0]])
+        self.assertEqual([it.count for it in store.index], [6, 1, 2])
+
+    def test_other_objects_are_no_models(self) -> None:
+        """Parts with another object in place of the model are refused."""
+        store, call = Store.build([[1]], Uniform(9)), Store.from_parts
+        for wrong in (3, None, [1, 2]):
+            self.assertRaisesRegex(TypeError, "^expected a model ", call, store.words, store.index, wrong)
+
     def test_three(self) -> None:
         found = Store.build(THREE, HALVES)
         self.assertEqual(list(found.words), [2684354560])

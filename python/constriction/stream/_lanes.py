@@ -138,7 +138,7 @@ class AnsCoders(Coder):
         """Encodes a row of symbols onto each coder, from the last symbol of the row to the first.
 
         ``symbols`` has the shape ``(n,)``, a symbol for each coder, or ``(n, T)``. If the model has missing parameters,
-        pass an array or a list of each after the model, which broadcasts to this shape.
+        pass an array of each after the model, which broadcasts to this shape, or a list of this shape.
 
         Raises the exceptions of :meth:`AnsCoder.encode_reverse`, which name the symbol, its place in the row and the
         coder. After an error no coder is changed.
@@ -243,8 +243,8 @@ class AnsCoders(Coder):
     def decode(self, model: Model, *parameters: Any, amt: SupportsIndex | None = None) -> Answer:
         """Decodes a symbol from each coder, ``amt`` symbols from each, or one for each set of parameters.
 
-        Returns an array of shape ``(n,)``, or ``(n, amt)``. Parameters have the shape ``(n,)`` or ``(n, T)`` after
-        broadcasting, and the answer has the same shape. Without numpy the answer for ``(n, T)`` is a flat list of ``n``
+        Returns an array of shape ``(n,)``, or ``(n, amt)``. Parameters broadcast with each other to the shape ``(n,)``
+        or ``(n, T)``, and the answer has this shape. Without numpy the answer for ``(n, T)`` is a flat list of ``n``
         rows.
         """
         if len(parameters) == 1 and amt is None and isinstance(model, Model) and not model.missing:
