@@ -224,10 +224,10 @@ def words_of(
         return wholes_of(code, given)
     except OverflowError:
         bits = 8 * array(code).itemsize
-        place, number = next((i, it) for i, it in enumerate(map(whole, listed_of(given))) if it >> bits)
-        raise refused(
-            f"expected a {name} of at least 0 and below 2^{bits}, got {shown(number)} at place {place}"
-        ) from None
+        found = (f"{shown(it)} at place {i}" for i, it in enumerate(map(whole, listed_of(given))) if it >> bits)
+        # Another thread may have changed it.
+        text = next(found, "another")
+        raise refused(f"expected a {name} of at least 0 and below 2^{bits}, got {text}") from None
 
 
 def doubles(table: Any) -> Any:

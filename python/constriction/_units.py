@@ -75,7 +75,10 @@ def _fault_of(
 
     ``width`` is the number of floats for each symbol, if there are several.
     """
-    place, number = next((i, it) for i, it in enumerate(floats) if not good(it))
+    found = next(((i, it) for i, it in enumerate(floats) if not good(it)), None)
+    if found is None:  # Another thread has changed it.
+        return ValueError(f"expected a {name} {wanted}, got another")
+    place, number = found
     which = f" at place {place}" if len(floats) > 1 else ""
     if width is not None:
         which = f" for component {place % width} of symbol {place // width}"

@@ -3,6 +3,7 @@
 from __future__ import annotations
 
 import copy
+import math
 import os
 import pickle
 import random
@@ -18,7 +19,7 @@ from typing import Any
 from unittest import mock
 
 import definitions
-from constriction import _library, _words, errors
+from constriction import _library, _units, _words, errors
 from constriction.stream.chain import ChainCoder
 
 from constriction.stream.model import (
@@ -550,6 +551,25 @@ class Arguments(unittest.TestCase):
             self.assertEqual(coder, wanted)
             break
         self.assertGreater(failed, 2)
+
+
+    def test_faults_that_are_gone(self) -> None:
+        """A number at fault that another thread changes before the message is made is refused as others are."""
+
+        class Turns(list[int]):
+            """A list whose number is at fault in the first look at it alone."""
+
+            def __iter__(self) -> Any:
+                number = self.pop()
+                self.append(5)
+                return iter((number,))
+
+        for number in (-1, 1 << 32, 1 << 70):
+            with self.assertRaisesRegex(errors.InvalidDataError, "^expected a word of at least 0 and below 2.32, got "):
+                AnsCoder(Turns([number]))
+        with mock.patch.object(_units, "_ends", lambda floats: (math.nan, math.nan)):
+            with self.assertRaisesRegex(ValueError, "^expected a mean that is finite, got "):
+                QuantizedGaussian(-9, 9, 0.5, 2.0)
 
 
 class WholeNumbers(unittest.TestCase):
