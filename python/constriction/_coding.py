@@ -9,7 +9,7 @@ from typing import Any, NoReturn
 
 from ._answers import Wanted, shape_counted, shifted
 from ._buffers import ANSWER, SYMBOL, Numbers, Symbols, lent, listed, room
-from ._numbers import count_of, is_one, listed_of, sequence_of, whole
+from ._numbers import count_of, is_one, is_whole, listed_of, sequence_of, whole
 from ._places import places_of
 
 from .errors import (
@@ -248,7 +248,7 @@ def _counted(model: Model, rest: tuple[Any, ...], amt: Any) -> tuple[tuple[Any, 
     if len(rest) != 1 or model.missing:
         return rest, False
     number = rest[0]
-    if is_one(number) and hasattr(number, "__index__") or model.complete and isinstance(number, tuple):
+    if is_whole(number) or model.complete and isinstance(number, tuple):
         return rest, True
     if model.complete:
         raise TypeError(f"expected a number of symbols as a whole number, got {number!r}")

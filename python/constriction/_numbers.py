@@ -17,7 +17,7 @@ from ._buffers import BYTE, NUMBER, SHORT, SYMBOL, WORD, List, numpy_module, roo
 from .errors import InvalidDataError, Refusal, WrongLengthError, shown
 
 __all__ = [
-    "as_numpy", "count_of", "doubles", "floats_of", "grid_of", "is_one", "is_row", "items_of", "listed_of", "own_of", "past", "plain_of", "real",
+    "as_numpy", "count_of", "doubles", "floats_of", "grid_of", "is_one", "is_row", "is_whole", "items_of", "listed_of", "own_of", "past", "plain_of", "real",
     "rows_of", "sequence_of", "table_of", "unmasked", "whole", "wholes_of", "wholes_wanted", "words_of",
 ]  # fmt: skip
 
@@ -48,6 +48,14 @@ def is_row(numbers: Any) -> bool:
     if not hasattr(numbers, "__len__"):
         return False
     return isinstance(numbers, array) and len(numbers) > 0 or any(map(is_one, islice(numbers, 1)))
+
+
+def is_whole(number: Any) -> bool:
+    """Returns whether ``number`` is a single whole number. An array without dimensions may have a float."""
+    try:
+        return is_one(number) and index(number) is not None
+    except TypeError:
+        return False
 
 
 def whole(number: Any) -> int:

@@ -13,7 +13,7 @@ from .._buffers import ANSWER, OWN, SYMBOL, Answer, List, Numbers, Parameter, le
 from .._coder import Coder
 from .._coding import _explained as explained
 from .._coding import model_wanted
-from .._numbers import as_numpy, count_of, is_one, is_row, sequence_of, whole
+from .._numbers import as_numpy, count_of, is_one, is_row, is_whole, sequence_of, whole
 from .._places import places_of
 from .._shapes import Shape, aligned, shape_of
 from .._sizes import LARGE, SMALL, Size
@@ -249,7 +249,7 @@ class AnsCoders(Coder):
         """
         if len(parameters) == 1 and amt is None and isinstance(model, Model) and not model.missing:
             # A model of a function may have parameters or none. A single whole number is then a number of symbols.
-            if model.complete or is_one(parameters[0]) and hasattr(parameters[0], "__index__"):
+            if model.complete or is_whole(parameters[0]):
                 (amt,), parameters = parameters, ()
         if amt is not None and parameters:
             raise TypeError("expected parameters or a number of symbols, got both")

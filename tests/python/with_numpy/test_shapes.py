@@ -190,6 +190,16 @@ class Shapes(unittest.TestCase):
         coder.encode_reverse(np.array([[1, 2], [3, 4]]).view(Square), Uniform(5))
         self.assertEqual(coder.decode(Uniform(5), amt=(2, 2)).tolist(), [[1, 2], [3, 4]])
 
+    def test_a_float_without_dimensions(self) -> None:
+        """An array without dimensions is a parameter of a caller's function if it has a float, and else an amount."""
+        spread: Any = CustomModel(lambda x, k=0.5: min(max((x - k) / 40 + 0.5, 0), 1), None, -9, 9)
+        coder, wanted = AnsCoder([5, 6, 7]), AnsCoder([5, 6, 7])
+        for number in (np.array(2.5), np.array(3.0), np.float32(-1)):
+            self.assertEqual(coder.decode(spread, number), wanted.decode(spread, [float(number)])[0])
+            self.assertEqual(coder, wanted)
+        self.assertEqual(coder.decode(spread, np.array(3)).tolist(), wanted.decode(spread, 3).tolist())
+        self.assertRaisesRegex(TypeError, "^expected a number of symbols ", coder.decode, Uniform(3), np.array(3.0))
+
     def test_types_of_answers(self) -> None:
         """A symbol that doesn't fit its type is refused, and the coder stays unchanged."""
         family, symbols = QuantizedGaussian(-200, 300), np.array([[-3, 7], [100, 0]])
