@@ -6,7 +6,7 @@ from typing import Any, NamedTuple
 
 from . import _buffers
 from ._buffers import BYTE, SHORT, SYMBOL, Numbers, answered, numpy_for_answers, numpy_module
-from ._numbers import count_of, unmasked
+from ._numbers import count_of
 from ._shapes import Shape
 from .errors import WrongLengthError
 from .stream.model import Model
@@ -59,10 +59,10 @@ class Wanted(NamedTuple):
             return _integers(numpy.dtype(self.dtype))
         if self.dtype is not None:
             raise TypeError("expected dtype or out, got both")
-        if not isinstance(self.out, numpy.ndarray) or not shape:
+        masked = isinstance(self.out, numpy.ma.MaskedArray)  # A hard mask would keep symbols out.
+        if masked or not isinstance(self.out, numpy.ndarray) or not shape:
             text = "for an array of symbols" if not shape else f"as a numpy array, got {type(self.out).__name__}"
             raise TypeError(f"expected out {text}")
-        unmasked(self.out)  # A hard mask keeps symbols out.
         _integers(self.out.dtype)
         if not self.out.flags.writeable:
             raise ValueError("expected out to be writeable, got an array that isn't")

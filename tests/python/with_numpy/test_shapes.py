@@ -257,7 +257,7 @@ class Shapes(unittest.TestCase):
         still.flags.writeable = False
         for kind, message, out, more in (
             (TypeError, "got list", [0, 0, 0], {}), (TypeError, "got float64", np.zeros(3), {}), (ValueError, "writeable", still, {}),
-            (TypeError, "got a masked array", masked, {}),
+            (TypeError, "got MaskedArray", masked, {}),
             (errors.WrongLengthError, r"of shape \(3,\), got \(2,\)", np.zeros(2, dtype="int64"), {}), (errors.WrongLengthError, r"\(3,\)", np.zeros((3, 1), dtype="int64"), {}),
             (TypeError, "got both", np.zeros(3, dtype="int8"), {"dtype": "int8"}), (ValueError, "that fit int8, got 300", np.full(3, 5, dtype="int8"), {}),
         ):  # fmt: skip
