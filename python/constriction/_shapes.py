@@ -20,7 +20,10 @@ def shape_of(numbers: Any) -> Shape:
     if is_one(numbers):
         return ()
     shape = getattr(numbers, "shape", None)
-    return tuple(shape) if isinstance(shape, tuple) else (len(numbers),)
+    if isinstance(shape, tuple):
+        return tuple(shape)
+    table = as_numpy(numbers)
+    return (len(numbers),) if table is None else table.shape  # type: ignore[no-any-return]
 
 
 def common_shape(shapes: Sequence[Shape]) -> Shape:

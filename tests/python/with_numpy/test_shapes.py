@@ -177,6 +177,20 @@ class Shapes(unittest.TestCase):
         self.assertEqual(
             coder.decode(QuantizedGaussian(-9, 9), Offers([[0.5, 1.0]]), Offers([[2.0]])).tolist(), [[1, 2]]
         )
+
+        class OtherShape(Offers):
+            """An object with `__array__` whose shape isn't a tuple, as in tensorflow."""
+
+            def __init__(self, of: Any) -> None:
+                super().__init__(of)
+                self.shape, self.ndim = iter(self.shape), self.of.ndim
+
+        family, rows = QuantizedGaussian(-9, 9), OtherShape([[[1, 2], [3, 1]]])
+        coder.encode_reverse(OtherShape([[1, 2]]), family, OtherShape([[0.5, 1.0]]), OtherShape([[2.0]]))
+        self.assertEqual(coder.decode(family, Offers([[0.5, 1.0]]), Offers([[2.0]])).tolist(), [[1, 2]])
+        coder.encode_reverse(OtherShape([[1, 0]]), Categorical(), rows)
+        self.assertEqual(coder.decode(Categorical(), rows).tolist(), [[1, 0]])
+        self.assertTrue(coder.is_empty())
         view = memoryview(np.array([[1, 2], [3, 4]]))
         coder.encode_reverse(view, Uniform(5))
         self.assertEqual(coder.decode(Uniform(5), amt=(2, 2)).tolist(), [[1, 2], [3, 4]])
