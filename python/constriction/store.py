@@ -61,14 +61,23 @@ def _entry(given: Sequence[Any]) -> Entry:
 _BYTES, _WORDS = frozenset(("B", "b", "c")), frozenset(("I", "L", "=I", "<I" if sys.byteorder == "little" else ">I"))
 
 
+def _buffer_wanted(got: str) -> TypeError:
+    return TypeError(
+        "expected a buffer of unsigned 32-bit words in this machine's byte order, as array('I') or a numpy array of"
+        f" uint32, or of their bytes, lowest first, got {got}"
+    )
+
+
 def _as_bytes(words: Any) -> memoryview:
     """Returns the buffer of words as bytes, without a copy."""
-    view = memoryview(words)
+    try:
+        view = memoryview(words)
+    except TypeError:
+        raise _buffer_wanted(type(words).__name__) from None
+    if not view.c_contiguous:
+        raise _buffer_wanted("numbers that aren't one after another")
     if view.ndim != 1 or view.format not in (_BYTES if view.itemsize == 1 else _WORDS if view.itemsize == 4 else ()):
-        raise TypeError(
-            "expected a buffer of unsigned 32-bit words in this machine's byte order, as array('I') or a numpy array of uint32, or of their"
-            f" bytes, lowest first, got numbers of the format {view.format!r}"
-        )
+        raise _buffer_wanted(f"numbers of the format {view.format!r}")
     return view.cast("B") if view.nbytes else memoryview(b"")
 
 

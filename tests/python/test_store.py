@@ -64,6 +64,12 @@ class Stores(unittest.TestCase):
         self.assertEqual([it.tolist() for it in store], [[0, 1, 2, 3, 4, 5], [7], [8, 0]])
         self.assertEqual([it.count for it in store.index], [6, 1, 2])
 
+    def test_words_in_other_memory(self) -> None:
+        """Words of a list, or that aren't one after another, are refused with what is expected."""
+        for wrong, text in (([1, 2], "got list$"), (memoryview(array("I", [1, 2, 3]))[::2], "one after another$")):
+            with self.assertRaisesRegex(TypeError, "^expected a buffer of .*" + text):
+                Store.from_parts(wrong, [], HALVES)
+
     def test_other_objects_are_no_models(self) -> None:
         """Parts with another object in place of the model are refused."""
         store, call = Store.build([[1]], Uniform(9)), Store.from_parts
