@@ -78,20 +78,24 @@ fn encoded(
     Ok(encoder)
 }
 
-/// Encodes three symbols over the backend [`Counted`], and prints two counts of words and the first symbol decoded.
+/// Prints two counts of an encoder's words.
 ///
 /// The first count comes from the encoder's position: the words written and pending before the seal. The second count
 /// is the field `written` of the backend: the words written, including the seal.
-fn show_symbols(rt: &impl Print, alloc: Global) -> Result<()> {
-    let table = WeightTable::<u32, 24>::new(alloc, &[3, 2, 16777211])?;
-    let encoder = encoded(alloc, &table)?;
+fn show_counts(rt: &impl Print, encoder: RangeEncoder<u32, u64, Counted<Vec<u32>>>) -> Result<()> {
     match place(&encoder) {
         Some((words, _)) => println!(rt; "{words}")?, // 2
         None => bail!("more words than a usize can count"),
     }
     let written = encoder.into_compressed()?.written;
     println!(rt; "{written}")?; // 3
-    match first_symbol(encoded(alloc, &table)?, &table) {
+    Ok(())
+}
+
+/// Encodes three symbols over the backend [`Counted`], and prints two counts of words and the first symbol decoded.
+fn show_symbols(rt: &impl Print, alloc: Global, table: &WeightTable<u32, 24>) -> Result<()> {
+    show_counts(rt, encoded(alloc, table)?)?;
+    match first_symbol(encoded(alloc, table)?, table) {
         Some(symbol) => println!(rt; "{symbol}")?, // 1
         None => bail!("the backend refused a call"),
     }
@@ -110,6 +114,7 @@ fn show_bits(rt: &impl Print, alloc: Global) -> Result<()> {
 
 /// Encodes and decodes over the backend [`Counted`], and prints the results.
 pub fn run(rt: &impl Print, alloc: Global) -> Result<()> {
-    show_symbols(rt, alloc)?;
+    let table = WeightTable::<u32, 24>::new(alloc, &[3, 2, 16777211])?;
+    show_symbols(rt, alloc, &table)?;
     show_bits(rt, alloc)
 }

@@ -9,8 +9,46 @@ pub mod stack;
 pub mod symbol;
 
 use anyhow::Result;
+use constriction::WordOf;
+use constriction::stream::Decode;
 use constriction::stream::model::WeightTable;
 use std::alloc::Global;
+use std::error::Error;
+use std::fmt::Display;
+use std::iter;
+
+/// Prints a decoded symbol. Returns the error if the decode failed.
+fn show<Symbol: Display + Drop, E: Error>(
+    rt: &impl Print,
+    symbol: Result<Symbol, E>,
+) -> Result<()> {
+    let symbol = symbol?;
+    println!(rt; "{symbol}")?;
+    Ok(())
+}
+
+/// Decodes `count` symbols with one model, then two symbols each with its own model, and prints all of them.
+///
+/// The function is generic over decoders, so its proof is made once for all of them.
+fn take<Coder: Decode<24>>(
+    rt: &impl Print,
+    coder: &mut Coder,
+    count: usize,
+    table: &WeightTable<u32, 24>,
+) -> Result<()>
+where
+    u32: WordOf<Coder::Word>,
+    Coder::FrontendError: Error,
+    Coder::BackendError: Error,
+{
+    for symbol in coder.decode_iid_symbols(count, table) {
+        show(rt, symbol)?;
+    }
+    for symbol in coder.decode_symbols(iter::repeat_n(table, 2)) {
+        show(rt, symbol)?;
+    }
+    Ok(())
+}
 
 /// Runs the calls of each coder, and prints the results.
 pub fn run(rt: &impl Print, alloc: Global) -> Result<()> {

@@ -1,5 +1,6 @@
 //! Calls of the chain coder with concrete types: 32-bit words, a 64-bit remainders head and tables of weights.
 
+use super::take;
 use anyhow::{Result, bail};
 use constriction::stream::chain::DefaultChainCoder;
 use constriction::stream::model::WeightTable;
@@ -23,44 +24,42 @@ fn put_from_the_end(coder: &mut DefaultChainCoder, table: &Table) -> Result<()> 
     Ok(())
 }
 
-/// Decodes two symbols with one model, then two symbols each with its own model, and prints all four.
-fn take(rt: &impl Print, coder: &mut DefaultChainCoder, table: &Table) -> Result<()> {
-    for symbol in coder.decode_iid_symbols(2, table) {
-        let symbol = symbol?;
-        println!(rt; "{symbol}")?;
-    }
-    for symbol in coder.decode_symbols(iter::repeat_n(table, 2)) {
-        let symbol = symbol?;
-        println!(rt; "{symbol}")?;
-    }
-    Ok(())
-}
-
 /// Encodes lists of symbols, each list from its first symbol to its last.
 fn put_forth(coder: &mut DefaultChainCoder, table: &Table) -> Result<()> {
     coder.encode_symbols([(&1usize, table), (&0, table)])?;
-    coder.encode_iid_symbols([2usize, 0].iter().rev(), table)?;
+    coder.encode_iid_symbols([0usize, 2].as_slice(), table)?;
     Ok(())
 }
 
-/// Decodes symbols from words, changes the precision, encodes and decodes symbols, and prints all symbols decoded.
-pub fn run(rt: &impl Print, alloc: Global) -> Result<()> {
-    let table = WeightTable::<u32, 24>::new(alloc, &[8388608, 4194304, 4194304])?;
-    let words = [1, 2, 3, 4, 5, 6, 7, 0x9abcdef0, 0x12345678, 256].to_vec(alloc)?;
-    let Ok(mut coder) = DefaultChainCoder::from_compressed(alloc, words) else {
-        bail!("too few words, or a zero word at the end");
-    };
-    take(rt, &mut coder, &table)?;
+/// Changes the precision from 24 bits to 28 and to 20, and back.
+fn change(coder: DefaultChainCoder) -> Result<DefaultChainCoder> {
     let Ok(finer) = coder.increase_precision::<28>() else {
         bail!("no room at a finer precision");
     };
     let Ok(coarser) = finer.decrease_precision::<20>() else {
         bail!("no words at a coarser precision");
     };
-    let Ok(mut coder) = coarser.change_precision::<24>() else {
+    let Ok(coder) = coarser.change_precision::<24>() else {
         bail!("no room at the first precision");
     };
-    put_from_the_end(&mut coder, &table)?;
-    take(rt, &mut coder, &table)?;
-    put_forth(&mut coder, &table)
+    Ok(coder)
+}
+
+/// Decodes symbols, changes the precision, encodes and decodes symbols, and prints all symbols decoded.
+fn take_and_put(rt: &impl Print, mut coder: DefaultChainCoder, table: &Table) -> Result<()> {
+    take(rt, &mut coder, 2, table)?;
+    let mut coder = change(coder)?;
+    put_from_the_end(&mut coder, table)?;
+    take(rt, &mut coder, 2, table)?;
+    put_forth(&mut coder, table)
+}
+
+/// Decodes symbols from words, changes the precision, encodes and decodes symbols, and prints all symbols decoded.
+pub fn run(rt: &impl Print, alloc: Global) -> Result<()> {
+    let words = [1, 2, 3, 4, 5, 6, 7, 0x9abcdef0, 0x12345678, 256].to_vec(alloc)?;
+    let Ok(coder) = DefaultChainCoder::from_compressed(alloc, words) else {
+        bail!("too few words, or a zero word at the end");
+    };
+    let table = WeightTable::<u32, 24>::new(alloc, &[8388608, 4194304, 4194304])?;
+    take_and_put(rt, coder, &table)
 }

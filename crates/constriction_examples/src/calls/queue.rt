@@ -4,6 +4,7 @@
 //! as an argument doesn't know how many words are pending. `symbols_left` returns how many symbols the encoder can
 //! still encode.
 
+use super::show;
 use anyhow::{Result, bail};
 use constriction::stream::model::WeightTable;
 use constriction::stream::queue::{DefaultRangeDecoder, DefaultRangeEncoder, RangeCoderState};
@@ -29,8 +30,7 @@ fn put(encoder: &mut DefaultRangeEncoder, table: &Table) -> Result<()> {
 /// Decodes two symbols with one model, and prints them.
 fn take(rt: &impl Print, decoder: &mut DefaultRangeDecoder, table: &Table) -> Result<()> {
     for symbol in decoder.decode_iid_symbols(2, table) {
-        let symbol = symbol?;
-        println!(rt; "{symbol}")?;
+        show(rt, symbol)?;
     }
     Ok(())
 }
@@ -38,8 +38,7 @@ fn take(rt: &impl Print, decoder: &mut DefaultRangeDecoder, table: &Table) -> Re
 /// Decodes one symbol with its own model, and prints it.
 fn take_next(rt: &impl Print, decoder: &mut DefaultRangeDecoder, table: &Table) -> Result<()> {
     for symbol in decoder.decode_symbols(iter::repeat_n(table, 1)) {
-        let symbol = symbol?;
-        println!(rt; "{symbol}")?;
+        show(rt, symbol)?;
     }
     Ok(())
 }
@@ -47,7 +46,7 @@ fn take_next(rt: &impl Print, decoder: &mut DefaultRangeDecoder, table: &Table) 
 /// Prints whether a guard lends no words, and the first symbol that a decoder over the encoder's words returns.
 ///
 /// The encoder is unchanged.
-fn show(rt: &impl Print, encoder: &mut DefaultRangeEncoder, table: &Table) -> Result<()> {
+fn look(rt: &impl Print, encoder: &mut DefaultRangeEncoder, table: &Table) -> Result<()> {
     {
         let Ok(guard) = encoder.get_compressed() else {
             bail!("no memory for the words");
@@ -57,9 +56,7 @@ fn show(rt: &impl Print, encoder: &mut DefaultRangeEncoder, table: &Table) -> Re
     let Ok(mut decoder) = encoder.decoder() else {
         bail!("no memory for the words");
     };
-    let symbol = decoder.decode_symbol(table)?;
-    println!(rt; "{symbol}")?;
-    Ok(())
+    show(rt, decoder.decode_symbol(table))
 }
 
 /// Encodes four symbols. Returns the words, and the position of the third symbol.
@@ -68,7 +65,7 @@ fn show(rt: &impl Print, encoder: &mut DefaultRangeEncoder, table: &Table) -> Re
 fn encoded(rt: &impl Print, alloc: Global, table: &Table) -> Result<(Vec<u32>, Position)> {
     let mut encoder = DefaultRangeEncoder::new(alloc);
     put(&mut encoder, table)?;
-    show(rt, &mut encoder, table)?;
+    look(rt, &mut encoder, table)?;
     if !encoder.pos_fits() {
         bail!("a position past what can be counted");
     }
@@ -80,20 +77,32 @@ fn encoded(rt: &impl Print, alloc: Global, table: &Table) -> Result<(Vec<u32>, P
     Ok((words, position))
 }
 
+/// Decodes three symbols, seeks back to a position, and decodes two symbols from there. Prints the symbols.
+///
+/// Fails if the decoder then has words left.
+fn take_twice(
+    rt: &impl Print,
+    decoder: &mut DefaultRangeDecoder,
+    position: Position,
+    table: &Table,
+) -> Result<()> {
+    take(rt, decoder, table)?;
+    take_next(rt, decoder, table)?;
+    if decoder.seek(position).is_err() {
+        bail!("no position of these words");
+    }
+    take(rt, decoder, table)?;
+    if !Decode::<24>::maybe_exhausted(decoder) {
+        bail!("words are left");
+    }
+    Ok(())
+}
+
 /// Encodes four symbols, decodes the first three, seeks back to the third, and decodes from there.
 ///
 /// Prints the symbols decoded, and whether the list of words that a guard lends is empty.
 pub fn run(rt: &impl Print, alloc: Global, table: &Table) -> Result<()> {
     let (words, position) = encoded(rt, alloc, table)?;
     let mut decoder = DefaultRangeDecoder::from_compressed(words)?;
-    take(rt, &mut decoder, table)?;
-    take_next(rt, &mut decoder, table)?;
-    if decoder.seek(position).is_err() {
-        bail!("no position of these words");
-    }
-    take(rt, &mut decoder, table)?;
-    if !Decode::<24>::maybe_exhausted(&decoder) {
-        bail!("words are left");
-    }
-    Ok(())
+    take_twice(rt, &mut decoder, position, table)
 }

@@ -1,5 +1,6 @@
 //! Calls of the stack coder with concrete types: words of 32 or 16 bits, and tables of weights.
 
+use super::{show, take};
 use crate::uses::words_so_far;
 use anyhow::{Result, bail};
 use constriction::stream::model::WeightTable;
@@ -42,19 +43,6 @@ fn put_forth(coder: &mut DefaultAnsCoder, table: &Table) -> Result<()> {
     Ok(())
 }
 
-/// Decodes three symbols with one model, then two symbols each with its own model, and prints all five.
-fn take(rt: &impl Print, coder: &mut DefaultAnsCoder, table: &Table) -> Result<()> {
-    for symbol in coder.decode_iid_symbols(3, table) {
-        let symbol = symbol?;
-        println!(rt; "{symbol}")?;
-    }
-    for symbol in coder.decode_symbols(iter::repeat_n(table, 2)) {
-        let symbol = symbol?;
-        println!(rt; "{symbol}")?;
-    }
-    Ok(())
-}
-
 /// Records a position, encodes symbols, and seeks back to the position with a decoder over the coder's words.
 ///
 /// Prints the symbol that the decoder returns there: the symbol on top of the coder when it recorded the position.
@@ -65,16 +53,14 @@ fn seek(rt: &impl Print, coder: &mut DefaultAnsCoder, table: &Table) -> Result<(
     if decoder.seek(position).is_err() {
         bail!("no position of these words");
     }
-    let symbol = decoder.decode_symbol(table)?;
-    println!(rt; "{symbol}")?;
-    Ok(())
+    show(rt, decoder.decode_symbol(table))
 }
 
 /// Prints whether a coder's head is above 0, whether the coder is empty, and whether two ways to export words agree.
 ///
 /// The two ways are an iterator over the words, and a copy of the words that a guard lends. The call compares only the
 /// first word of each.
-fn show(rt: &impl Print, alloc: Global, coder: &mut DefaultAnsCoder) -> Result<()> {
+fn look(rt: &impl Print, alloc: Global, coder: &mut DefaultAnsCoder) -> Result<()> {
     let is_some = coder.state() > 0;
     println!(rt; "{is_some} {}", coder.is_empty())?; // true false
     let first = coder.iter_compressed().next();
@@ -85,23 +71,19 @@ fn show(rt: &impl Print, alloc: Global, coder: &mut DefaultAnsCoder) -> Result<(
     Ok(())
 }
 
-/// Decodes a symbol with each of three kinds of decoders, and prints the symbols.
-///
-/// The first decoder borrows a coder. The second decoder is created from the coder. The third decoder borrows a list
-/// of words.
-fn hand_on(rt: &impl Print, mut coder: DefaultAnsCoder, table: &Table) -> Result<()> {
-    let symbol = coder.as_decoder().decode_symbol(table)?;
-    println!(rt; "{symbol}")?;
-    let symbol = coder.into_decoder().decode_symbol(table)?;
-    println!(rt; "{symbol}")?;
+/// Decodes a symbol with a decoder that borrows a coder, and one with a decoder made from the coder. Prints both.
+fn hand_on(rt: &impl Print, coder: DefaultAnsCoder, table: &Table) -> Result<()> {
+    show(rt, coder.as_decoder().decode_symbol(table))?;
+    show(rt, coder.into_decoder().decode_symbol(table))
+}
 
+/// Decodes a symbol with a coder that borrows a list of words, and prints the symbol.
+fn borrow(rt: &impl Print, table: &Table) -> Result<()> {
     let words = [1u32, 2, 3];
     let Ok(mut borrowed) = DefaultAnsCoder::from_compressed_slice(words.as_slice()) else {
         bail!("no coder exports words that end with a zero word");
     };
-    let symbol = borrowed.decode_symbol(table)?;
-    println!(rt; "{symbol}")?;
-    Ok(())
+    show(rt, borrowed.decode_symbol(table))
 }
 
 /// Encodes and decodes a symbol with a coder of 16-bit words, and decodes another symbol from the empty coder.
@@ -113,19 +95,23 @@ fn small(rt: &impl Print, alloc: Global) -> Result<()> {
     coder.encode_symbol(&1, &table)?;
     let symbol = coder.decode_symbol(&table)?;
     println!(rt; "{symbol} {} {}", coder.num_words(), coder.num_bits())?; // 1 0 0
-    let symbol = coder.into_seekable_decoder().decode_symbol(&table)?;
-    println!(rt; "{symbol}")?; // 0, since an empty coder returns symbols too
-    Ok(())
+    show(rt, coder.into_seekable_decoder().decode_symbol(&table)) // 0, since an empty coder returns symbols too
+}
+
+/// Runs the functions that need a coder of 32-bit words, and prints the results.
+fn large(rt: &impl Print, alloc: Global, table: &Table) -> Result<()> {
+    let mut coder = DefaultAnsCoder::new(alloc);
+    put_from_the_end(&mut coder, table)?;
+    put_forth(&mut coder, table)?;
+    take(rt, &mut coder, 3, table)?;
+    seek(rt, &mut coder, table)?;
+    look(rt, alloc, &mut coder)?;
+    hand_on(rt, coder, table)
 }
 
 /// Runs all functions of this file, and prints the results.
 pub fn run(rt: &impl Print, alloc: Global, table: &Table) -> Result<()> {
-    let mut coder = DefaultAnsCoder::new(alloc);
-    put_from_the_end(&mut coder, table)?;
-    put_forth(&mut coder, table)?;
-    take(rt, &mut coder, table)?;
-    seek(rt, &mut coder, table)?;
-    show(rt, alloc, &mut coder)?;
-    hand_on(rt, coder, table)?;
+    large(rt, alloc, table)?;
+    borrow(rt, table)?;
     small(rt, alloc)
 }

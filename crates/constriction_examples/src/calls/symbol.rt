@@ -1,5 +1,6 @@
 //! Calls of bit coders and of stores with concrete types: 32-bit words, Exp-Golomb codewords, tables of weights.
 
+use super::show;
 use anyhow::{Result, bail};
 use constriction::store::Store;
 use constriction::stream::model::WeightTable;
@@ -7,22 +8,25 @@ use constriction::symbol::exp_golomb::ExpGolomb;
 use constriction::symbol::{DefaultQueueEncoder, DefaultStackCoder, ReadBitStream, WriteBitStream};
 use std::alloc::Global;
 
+/// Encodes two numbers into a queue of bits, and prints the number of words that a guard lends.
+fn put(rt: &impl Print, encoder: &mut DefaultQueueEncoder, golomb: &ExpGolomb<u32>) -> Result<()> {
+    encoder.encode_symbols([(&5u32, golomb), (&7, golomb)])?;
+    let Ok(guard) = encoder.get_compressed() else {
+        bail!("no memory for the words");
+    };
+    println!(rt; "{}", guard.words().len())?;
+    Ok(())
+}
+
 /// Encodes two numbers into a queue of bits, decodes them in the same order, and prints them.
 ///
 /// Also prints the number of words that a guard lends.
 fn queue(rt: &impl Print, alloc: Global, golomb: &ExpGolomb<u32>) -> Result<()> {
     let mut encoder = DefaultQueueEncoder::new(alloc);
-    encoder.encode_symbols([(&5u32, golomb), (&7, golomb)])?;
-    {
-        let Ok(guard) = encoder.get_compressed() else {
-            bail!("no memory for the words");
-        };
-        println!(rt; "{}", guard.words().len())?;
-    }
+    put(rt, &mut encoder, golomb)?;
     let mut decoder = encoder.into_decoder()?;
     for number in decoder.decode_iid_symbols(2, golomb) {
-        let number = number?;
-        println!(rt; "{number}")?;
+        show(rt, number)?;
     }
     Ok(())
 }
@@ -33,8 +37,7 @@ fn stack(rt: &impl Print, alloc: Global, golomb: &ExpGolomb<u32>) -> Result<()> 
     coder.encode_iid_symbols_reverse([5u32, 7].as_slice(), golomb)?;
     coder.encode_symbol(&0, golomb)?;
     for number in coder.decode_iid_symbols(3, golomb) {
-        let number = number?;
-        println!(rt; "{number}")?;
+        show(rt, number)?;
     }
     Ok(())
 }
