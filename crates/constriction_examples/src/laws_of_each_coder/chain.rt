@@ -1,6 +1,7 @@
 //! An application of a law of the chain coder, and calls whose contracts say how much room a failed call leaves.
 
 ghost use Rattle.constriction.specs.Symbols.{DecodesSymbol, EncodesSymbol};
+ghost use Rattle.constriction_examples.specs.Changing.{IsSecondSymbol};
 ghost use Rattle.std.specs.Bool.{OnFalse, OnTrue};
 ghost use Rattle.std.specs.Prelude.{IfErr, IfNone, IfOk, IfSome, Ok, [], ◌≡◌, ◌≤◌};
 
@@ -12,6 +13,28 @@ use constriction::stream::chain::{
 use constriction::stream::model::{DecoderModel, EncoderModel, EntropyModel};
 use constriction::stream::{Decode, Encode};
 use constriction::{CoderError, Stack, WordOf};
+
+/// Decodes a symbol with `first`, changes the precision from 24 to 16 bits, and decodes another symbol with `later`.
+///
+/// Returns the second symbol, or `None` if a call fails.
+fn second_symbol<
+    A: DecoderModel<24, Symbol = usize, Probability = u32>,
+    M: DecoderModel<16, Symbol = usize, Probability = u16>,
+>(mut coder: DefaultChainCoder, first: &A, later: &M) -> Option<usize>
+    ensures second { IfSome result
+        (IsSecondSymbol (A.table first.now) (M.table later.now) coder.state) }
+{
+    let Ok(_) = coder.decode_symbol(first) else {
+        return None;
+    };
+    let Ok(mut changed) = coder.change_precision::<16>() else {
+        return None;
+    };
+    let Ok(symbol) = changed.decode_symbol(later) else {
+        return None;
+    };
+    Some(symbol)
+}
 
 /// Decodes two symbols from each of two coders, and returns the second symbol of each.
 ///
@@ -34,26 +57,8 @@ pub fn isolated_across_a_change<
     ensures isolated { coder.state.h ≡ same.state.h → coder.state.compressed ≡ same.state.compressed →
         IfSome result (λ both. both.0 ≡ both.1) }
 {
-    let mut one = coder;
-    let Ok(_) = one.decode_symbol(first) else {
-        return None;
-    };
-    let Ok(mut changed) = one.change_precision::<16>() else {
-        return None;
-    };
-    let Ok(symbol) = changed.decode_symbol(later) else {
-        return None;
-    };
-    let mut two = same;
-    let Ok(_) = two.decode_symbol(other) else {
-        return None;
-    };
-    let Ok(mut altered) = two.change_precision::<16>() else {
-        return None;
-    };
-    let Ok(again) = altered.decode_symbol(later) else {
-        return None;
-    };
+    let symbol = second_symbol(coder, first, later)?;
+    let again = second_symbol(same, other, later)?;
     symbols_are_isolated::<usize>();
     Some((symbol, again))
 }
