@@ -25,7 +25,8 @@ ghost use Rattle.constriction_words.specs.Reciprocals.{IsReciprocalOf};
 ghost use Rattle.constriction_base.specs.declared.weights.TableError.TheVariants as errors;
 
 use crate::model::{DecoderModel, EncoderModel, EntropyModel};
-use crate::weights::rows::{Row, SymbolRow, buckets_for, make_rows, shift_for};
+pub use crate::weights::rows::SymbolRow;
+use crate::weights::rows::{Row, buckets_for, make_rows, shift_for};
 use crate::weights::starts::{known_symbols, starts_of, weight_of};
 use constriction_words::{BitArray, Reciprocal};
 use std::alloc::{AllocError, Global};

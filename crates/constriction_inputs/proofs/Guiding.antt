@@ -6,10 +6,10 @@ use Rattle.std.proofs.Math.Pow.{pow_mono}
 use Rattle.std.proofs.lemmas.Bool.{cases_lt}
 use Rattle.std.proofs.lemmas.List.{get_or_append_left, get_or_push}
 use Rattle.std.proofs.lemmas.List.Sums.{sum-map, sum_by_more, sum_by_more_le}
-use Rattle.constriction_inputs.specs.Guided.{AreGuesses, AreSymbolRows, IsGuess, IsSymbolRow}
+use Rattle.constriction_inputs.specs.Guided.{AreGuesses, AreRowsOfWeights, IsGuess, IsRowOfWeight}
 use Rattle.constriction_inputs.specs.Weights.{IsTotal}
 use Rattle.constriction_inputs.specs.declared.models.guided.Interval.{Interval}
-use Rattle.constriction_inputs.specs.declared.models.guided.SymbolRow.{SymbolRow}
+use Rattle.constriction_base.specs.declared.weights.rows.SymbolRow.{SymbolRow}
 
 -- ---- steps from symbol to symbol
 -- a start above a number isn't that of the first symbol
@@ -45,16 +45,16 @@ left_small number precision ws k w total within some = omega (arith, sum_by_more
 
 -- the rows of the first symbols
 abbrev pub AreFirstRows : {P : Type 0} (number : P → ℕ) (ws : List P) (divides : Bool) (rows : List (SymbolRow P)) → Type 0
-AreFirstRows number ws divides rows = (k : ℕ) (other : SymbolRow _) → k < length rows → IsSymbolRow number ws divides k (get_or rows k other)
+AreFirstRows number ws divides rows = (k : ℕ) (other : SymbolRow _) → k < length rows → IsRowOfWeight number ws divides k (get_or rows k other)
 
 pub symbol_rows_push : {P : Type 0} (number : P → ℕ) (ws : List P) (divides : Bool) (rows : List (SymbolRow P)) (row : SymbolRow P) (i : ℕ) → length rows ≡ i
-    → AreFirstRows number ws divides rows → IsSymbolRow number ws divides i row → AreFirstRows number ws divides (rows ++ row ∷ [])
+    → AreFirstRows number ws divides rows → IsRowOfWeight number ws divides i row → AreFirstRows number ws divides (rows ++ row ∷ [])
 symbol_rows_push {P} number ws divides rows row i count are is k other within = elim (cases_lt k (length rows)) [
-  | inl old ↦ subst (λ (r : SymbolRow P). IsSymbolRow number ws divides k r) (sym (get_or_append_left rows (row ∷ []) other k old)) (are k other old)
+  | inl old ↦ subst (λ (r : SymbolRow P). IsRowOfWeight number ws divides k r) (sym (get_or_append_left rows (row ∷ []) other k old)) (are k other old)
   | inr new ↦
       let place : k ≡ i = omega (arith, length-append rows (row ∷ [])) in
-      subst (λ (r : SymbolRow P). IsSymbolRow number ws divides k r) (sym (get_or_push rows row other k (omega (arith, place, count))))
-      (subst (λ (j : ℕ). IsSymbolRow number ws divides j row) (sym place) is)
+      subst (λ (r : SymbolRow P). IsRowOfWeight number ws divides k r) (sym (get_or_push rows row other k (omega (arith, place, count))))
+      (subst (λ (j : ℕ). IsRowOfWeight number ws divides j row) (sym place) is)
 ]
 
 -- ---- guesses
@@ -77,12 +77,12 @@ no_guesses number ws intervals symbols none empty = record {
   each = λ k symbol interval within here there. absurd (omega (arith, within, ap length empty));
 }
 
-pub no_rows : {P : Type 0} (number : P → ℕ) (ws : List P) (divides : Bool) (rows : List (SymbolRow P)) → rows ≡ [] → AreSymbolRows number ws divides rows
+pub no_rows : {P : Type 0} (number : P → ℕ) (ws : List P) (divides : Bool) (rows : List (SymbolRow P)) → rows ≡ [] → AreRowsOfWeights number ws divides rows
 no_rows number ws divides rows none = record { within = omega (arith, ap length none); each = λ k other within. absurd (omega (arith, within, ap length none)) }
 
 -- the row at a place
-pub row_at : {P : Type 0} (number : P → ℕ) (ws : List P) (divides : Bool) (rows : List (SymbolRow P)) (row : SymbolRow P) (k : ℕ) → AreSymbolRows number ws divides rows → k < length rows → row ≡ get_or rows k row → IsSymbolRow number ws divides k row
-row_at {P} number ws divides rows row k are within is = subst (λ (r : SymbolRow P). IsSymbolRow number ws divides k r) (sym is) (are.each k row within)
+pub row_at : {P : Type 0} (number : P → ℕ) (ws : List P) (divides : Bool) (rows : List (SymbolRow P)) (row : SymbolRow P) (k : ℕ) → AreRowsOfWeights number ws divides rows → k < length rows → row ≡ get_or rows k row → IsRowOfWeight number ws divides k row
+row_at {P} number ws divides rows row k are within is = subst (λ (r : SymbolRow P). IsRowOfWeight number ws divides k r) (sym is) (are.each k row within)
 
 -- ---- buckets
 -- so many bits are left of a quantile

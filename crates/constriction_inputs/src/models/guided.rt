@@ -4,26 +4,17 @@ ghost use Rattle.std.specs.Prelude.{◌≡◌, ◌-◌, ◌^◌, ◌<◌, ◌≤
 ghost use Rattle.std.specs.Bool.{OnTrue};
 ghost use Rattle.constriction_base.specs.Tables.{Covers, table_of};
 ghost use Rattle.constriction_base.specs.laws.Weights.{weights_make_table};
-ghost use Rattle.constriction_inputs.specs.Guided.{AreGuesses, AreSymbolRows, IsGuess};
+ghost use Rattle.constriction_inputs.specs.Guided.{AreGuesses, AreRowsOfWeights, IsGuess};
 ghost use Rattle.constriction_inputs.specs.Weights.{IsTotal};
 ghost use Rattle.constriction_inputs.specs.laws.Rows.{two_weights};
 ghost use Rattle.constriction_words.specs.Reciprocals.{IsReciprocalOf};
 
 use crate::rows::Row;
 use constriction_base::model::{DecoderModel, EncoderModel, EntropyModel};
+use constriction_base::weights::SymbolRow;
 use constriction_base::weights::starts::ones;
 use constriction_words::{BitArray, Reciprocal};
 use std::alloc::{AllocError, Global};
-
-/// A symbol's interval, and the reciprocal of the interval's length: all that a coder needs to encode the symbol.
-///
-/// A row takes 32 bytes if `P` has at most 32 bits, so the processor loads it at once.
-#[derive(Clone, Copy, Drop)]
-pub struct SymbolRow<P: Copy + Drop> {
-    left: P,
-    weight: P,
-    reciprocal: Reciprocal,
-}
 
 /// The start of a symbol's interval, and the interval's length.
 #[derive(Clone, Copy, Drop)]
@@ -60,7 +51,7 @@ pub struct Guided<'a, P: BitArray, const PRECISION: usize> {
     shift: u32,
     /// Whether the rows of symbols have reciprocals.
     divides: bool,
-    ghost kept: { AreSymbolRows P.number row.weights.now divides symbol_rows.items },
+    ghost kept: { AreRowsOfWeights P.number row.weights.now divides symbol_rows.items },
     ghost guessed: { AreGuesses P.number row.weights.now intervals.items symbols.items },
     ghost cut: { (shift < PRECISION) × (PRECISION - shift ≤ 63) },
 }
@@ -343,7 +334,7 @@ fn symbol_rows_of<P: BitArray, const PRECISION: usize>(
     requires fits { PRECISION ≤ P.BITS }
     requires total { IsTotal PRECISION (map P.number weights.now) }
     requires most { IsTrue divides → PRECISION ≤ 63 }
-    ensures { IfOk result (λ made. AreSymbolRows P.number weights.now divides made.items) }
+    ensures { IfOk result (λ made. AreRowsOfWeights P.number weights.now divides made.items) }
 {
     let mut left = P::nothing();
     let mut rows = Vec::with_capacity(alloc, weights.len())?;
