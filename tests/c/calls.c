@@ -910,8 +910,7 @@ static void long_lists(void) {
           && w.heads.remainders == start.heads.remainders && w.heads.compressed == start.heads.compressed);
 }
 
-/* Encodes by intervals or by rows of weights that write no words request no memory, but for a list of intervals that a stack
-   coder encodes: once, for a word each. The chain coder requests a buffer. */
+/* Encodes by intervals or by rows of weights that write no words request no memory. The chain coder requests a buffer. */
 static void intervals_ask_no_memory(void) {
     struct world w = fresh();
     draw(2);
@@ -921,9 +920,7 @@ static void intervals_ask_no_memory(void) {
         in.symbols[i] = i;
     }
     requests = 0;
-    CHECK("ANS: rows, no memory", !ans_encode_each(&w) && !w.len && !requests);
-    CHECK("ANS: intervals, memory for words", !ans_encode_pairs(&w) && !w.len && requests == 1);
-    requests = 0;
+    CHECK("ANS: intervals, no memory", !ans_encode_pairs(&w) && !ans_encode_each(&w) && !w.len && !requests);
     CHECK("range: intervals, no memory", !range_encode_pairs(&w) && !range_encode_each(&w) && !w.len && !requests);
 }
 

@@ -77,7 +77,8 @@ impl<'a, P: BitArray, const PRECISION: usize> Items<P, PRECISION> for Intervals<
 
 impl<'a, P: BitArray, const PRECISION: usize> ItemList<P, PRECISION>
     for CheckedIntervals<'a, P, PRECISION> {
-    const LOOKS_AHEAD: bool = false;
+    // Looking ahead takes the same time here, and a stack coder that looks ahead requests memory for its words only.
+    const LOOKS_AHEAD: bool = true;
 
     ghost list_items = { λ list. interval_items PRECISION (map P.number list.lefts.now) (map P.number list.ps.now) };
 
