@@ -121,8 +121,8 @@ def gate(rows):
 def first_calls(rows):
     """Yields the lines of bench/first_call."""
     text = " ".join(tables()["first call"][0].split())
-    yield f"constriction_words: {re.search(r'which took ([0-9]+) ', text)[1]}"
-    if answered := re.search(r"unproved answer after (\d+) s", text):
+    yield f"constriction_words: {re.search(r'`constriction_words` .([0-9]+) ', text)[1]}"
+    if answered := re.search(r"unproved answer came after (\d+) s", text):
         yield f"unproved answer: {answered[1]}"
     for name, (_, *cells) in zip(("first call", "library"), rows):
         yield f"{name}: {' '.join(cell.split()[0] for cell in cells)}"
