@@ -6,8 +6,8 @@
 //! each remaining symbol fits `Probability`. Contracts describe a table by its list of entries (`entries` in
 //! `specs/WeightTables.antt`).
 //!
-//! `new` spends more than half of its time on the reciprocals. The reciprocal of a weight below 2^32 takes two quotients
-//! of 64-bit numbers. The reciprocal of a larger weight divides a 128-bit number.
+//! `new` spends more than half of its time on the reciprocals. The reciprocal of a weight below 2^32 takes two
+//! quotients of 64-bit numbers. The reciprocal of a larger weight divides a 128-bit number.
 //!
 //! With a table from `for_decoding`, an encoder that divides by weights, such as the stack coder, executes a division
 //! for each symbol. With a table from `new`, at a precision of at most 63 bits, the encoder never divides if its state
@@ -117,12 +117,12 @@ impl<Probability: BitArray, const PRECISION: usize> WeightTable<Probability, PRE
     ///
     /// - `n` starts of type `Probability`, one for each of these symbols.
     /// - Rows, which speed up decoding. If `Probability` has at most 32 bits, these are at most `4 * n + 1` rows of 16
-    ///   bytes. If it has 64 bits, these are at most `2 * n + 1` rows of 24 bytes. If it has 128 bits, these are at most
-    ///   `n + 1` rows of 48 bytes, but at least 3.
-    /// - At a precision of at most 63 bits, `n` rows, which speed up encoding. Such a row has a symbol's interval and the
-    ///   reciprocal of its weight. It takes 32 bytes if `Probability` has at most 32 bits, 40 bytes if it has 64 bits,
-    ///   and 64 bytes if it has 128 bits. With a reciprocal, an encoder whose state has at most 64 bits multiplies
-    ///   instead of dividing by the weight.
+    ///   bytes. If it has 64 bits, these are at most `2 * n + 1` rows of 24 bytes. If it has 128 bits, these are at
+    ///   most `n + 1` rows of 48 bytes, but at least 3.
+    /// - At a precision of at most 63 bits, `n` rows, which speed up encoding. Such a row has a symbol's interval and
+    ///   the reciprocal of its weight. It takes 32 bytes if `Probability` has at most 32 bits, 40 bytes if it has 64
+    ///   bits, and 64 bytes if it has 128 bits. With a reciprocal, an encoder whose state has at most 64 bits
+    ///   multiplies instead of dividing by the weight.
     ///
     /// [`for_decoding`](WeightTable::for_decoding) creates a table without reciprocals in less time.
     ///

@@ -4,7 +4,8 @@
 //! [`give_quantile`].
 
 ghost use Rattle.constriction_chain.specs.Chain.{IsRemaindersHead, IsSized, least};
-ghost use Rattle.constriction_chain.specs.Steps.{QuantileAppended, Halts, Renormalizes, Lacks, Prepared, Regained, QuantileRead};
+ghost use Rattle.constriction_chain.specs.Steps.{QuantileAppended, Halts, Renormalizes, Lacks, Prepared, Regained};
+ghost use Rattle.constriction_chain.specs.Steps.{QuantileRead};
 ghost use Rattle.constriction_chain.specs.Walk.{NeedsWord, OwesWord};
 ghost use Rattle.constriction_chain.specs.Words.{IfFound, OnNone};
 ghost use Rattle.std.specs.Prelude.{Err, IfErr, IfOk, MatchBool, None, Ok, OnErr, OnOk};

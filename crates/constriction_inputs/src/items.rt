@@ -31,8 +31,8 @@ pub trait ItemList<P: BitArray, const PRECISION: usize>: Drop {
 
     /// Returns the start and the length of the interval of the item at index `place`, in quantiles.
     ///
-    /// The third value is the reciprocal of the length, if the list stores it. Returns `None` if the item's model has no
-    /// entry for its symbol. The caller proves that the list has the index. The call needs no memory.
+    /// The third value is the reciprocal of the length, if the list stores it. Returns `None` if the item's model has
+    /// no entry for its symbol. The caller proves that the list has the index. The call needs no memory.
     fn interval(
         &mut self,
         place: usize,

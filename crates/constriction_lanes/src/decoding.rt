@@ -24,9 +24,9 @@ use std::alloc::Global;
 
 /// Decodes symbols into `symbols`, each with its own model.
 ///
-/// With `n` coders, `symbols` has `n` rows. Coder `j` is `heads[j]` and the first `lens[j]` words of row `j` of `words`.
-/// The call fills row `j` of `symbols` with the symbols that it decodes from coder `j`, and sets `heads[j]` and `lens[j]`
-/// to the state after the decodes. `models` has a model for each symbol, in the order of `symbols`.
+/// With `n` coders, `symbols` has `n` rows. Coder `j` is `heads[j]` and the first `lens[j]` words of row `j` of
+/// `words`. The call fills row `j` of `symbols` with the symbols that it decodes from coder `j`, and sets `heads[j]`
+/// and `lens[j]` to the state after the decodes. `models` has a model for each symbol, in the order of `symbols`.
 ///
 /// # Errors
 ///
@@ -65,8 +65,8 @@ pub fn decode<
 /// Decodes symbols into `symbols`, with one table of weights for all symbols of all coders.
 ///
 /// The call builds a table, or a lookup model as [`Weights`](constriction_inputs::models::Weights) says, once for all
-/// coders. Three coders take their steps in turn, as [`decode_lanes`] says. The call changes `heads` and `lens` as
-/// [`decode`] does.
+/// coders. Three or four coders take their steps in turn, as [`decode_lanes`] says. The call changes `heads` and `lens`
+/// as [`decode`] does.
 ///
 /// # Errors
 ///

@@ -3,10 +3,12 @@
 //! The calls encode each row from the last item to the first, so that decoding returns the symbols in the row's order.
 
 ghost use Rattle.std.specs.Bool.{OnTrue};
-ghost use Rattle.std.specs.Prelude.{◌≡◌, ◌*◌, ◌+◌, ◌<◌, ◌≤◌, ◌^◌, ℕ, drop, length, slice_index, take, IfErr, IfSome, OnErr, OnOk};
+ghost use Rattle.std.specs.Prelude.{◌≡◌, ◌*◌, ◌+◌, ◌<◌, ◌≤◌, ◌^◌, ℕ, drop, length, slice_index, take, IfErr, IfSome};
+ghost use Rattle.std.specs.Prelude.{OnErr, OnOk};
 ghost use Rattle.constriction_base.specs.Steps.{IsSizes, IsStep};
 ghost use Rattle.constriction_inputs.specs.Refusals.{NoMemoryOrSpace};
-ghost use Rattle.constriction_lanes.specs.LaneCalls.{AppendsRows, CodesRow, CodesRows, IsGreatestSum, LanesEncodeListBy};
+ghost use Rattle.constriction_lanes.specs.LaneCalls.{AppendsRows, CodesRow, CodesRows, IsGreatestSum};
+ghost use Rattle.constriction_lanes.specs.LaneCalls.{LanesEncodeListBy};
 ghost use Rattle.constriction_stack.specs.Ans.{IsNormalized, IsPush};
 ghost use Rattle.constriction_stack.specs.Lanes.{lane};
 ghost use Rattle.constriction_words.specs.Reciprocals.{IsReciprocalOf};
@@ -22,8 +24,8 @@ use std::alloc::Global;
 /// Encodes items onto each coder, from the last to the first: symbols with their models, or intervals.
 ///
 /// With `n` coders, the items are `n` rows, one after another. Coder `j` is `heads[j]` and the first `lens[j]` words of
-/// row `j` of `words`. The call encodes row `j` of the items onto coder `j`: it writes new words behind the words in use,
-/// and sets `heads[j]` and `lens[j]` to the state after the encodes.
+/// row `j` of `words`. The call encodes row `j` of the items onto coder `j`: it writes new words behind the words in
+/// use, and sets `heads[j]` and `lens[j]` to the state after the encodes.
 ///
 /// The call makes the list of the items once for all coders, such as a table of weights. It collects the new words of
 /// all coders before it writes the first of them.
@@ -72,8 +74,8 @@ pub fn encode_reverse<
 /// Encodes the items of `list` from the last to the first, each row onto its head and no words.
 ///
 /// Returns the new heads, a matrix with a row of `count` words for each coder, and the number of words of each row that
-/// the encodes wrote. Returns `None` if a model has no entry for its symbol, or if there is no memory. The caller proves
-/// that the list has a row of `count` items for each head.
+/// the encodes wrote. Returns `None` if a model has no entry for its symbol, or if there is no memory. The caller
+/// proves that the list has a row of `count` items for each head.
 fn coded<
     Word: WordOf<State>,
     State: BitArray,
@@ -154,9 +156,9 @@ fn encode_rows<
 /// Encodes items onto the head `head` and no words, from the last to the first. The items are as many as `row` has
 /// words, from index `first` of the list on.
 ///
-/// Each item writes at most one word. The call writes the words from the beginning of `row` on, and returns the new head
-/// and the number of these words. Returns `None` if a model has no entry for its symbol. The caller proves that the list
-/// has the items.
+/// Each item writes at most one word. The call writes the words from the beginning of `row` on, and returns the new
+/// head and the number of these words. Returns `None` if a model has no entry for its symbol. The caller proves that
+/// the list has the items.
 ///
 /// The function isn't inlined, so that its loop keeps the coder in registers.
 #[inline(never)]
@@ -192,8 +194,8 @@ fn encode_row<
 
 /// Encodes the symbol of the interval `[left, left + p)` onto the coder of `head` and the first `len` words of `words`.
 ///
-/// Returns the new head and the new number of words. The caller proves that `words` has room for one more word, that the
-/// interval is a step, and that `reciprocal`, if there is one, is the reciprocal of `p`.
+/// Returns the new head and the new number of words. The caller proves that `words` has room for one more word, that
+/// the interval is a step, and that `reciprocal`, if there is one, is the reciprocal of `p`.
 #[inline(always)]
 fn encode_interval<Word: WordOf<State>, State: BitArray, P: WordOf<Word>, const PRECISION: usize>(
     head: State,
@@ -227,9 +229,9 @@ fn encode_interval<Word: WordOf<State>, State: BitArray, P: WordOf<Word>, const 
 
 /// Writes the words of each row of `added` behind the words in use of the same row of `words`, and sets `heads`.
 ///
-/// Row `j` of `added` begins at index `j * count` and has `counts[j]` words, and row `j` of `words` has `width` words, of
-/// which `lens[j]` are in use. The call increases `lens[j]` by `counts[j]`. The caller proves that all rows lie within
-/// their lists.
+/// Row `j` of `added` begins at index `j * count` and has `counts[j]` words, and row `j` of `words` has `width` words,
+/// of which `lens[j]` are in use. The call increases `lens[j]` by `counts[j]`. The caller proves that all rows lie
+/// within their lists.
 ///
 /// # Errors
 ///

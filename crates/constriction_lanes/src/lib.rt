@@ -1,8 +1,8 @@
 //! Many stack coders in one call, over a caller's buffers. No object of this crate outlives a call.
 //!
-//! The caller keeps the coders: a list of heads, a matrix of words with a row for each coder, and a list with the number
-//! of words that each coder has in use. Row `j` of every argument belongs to coder `j`: with `n` coders, a list of
-//! symbols, of intervals or of a model's parameters is `n` rows, one after another. So a call replaces `n` calls of
+//! The caller keeps the coders: a list of heads, a matrix of words with a row for each coder, and a list with the
+//! number of words that each coder has in use. Row `j` of every argument belongs to coder `j`: with `n` coders, a list
+//! of symbols, of intervals or of a model's parameters is `n` rows, one after another. So a call replaces `n` calls of
 //! [`constriction_calls::ans`], and each coder has the same head and words after it. The words have no format of their
 //! own.
 //!

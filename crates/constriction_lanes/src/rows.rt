@@ -5,9 +5,9 @@ ghost use Rattle.constriction_lanes.specs.LaneCalls.{AreLanes};
 
 /// Returns the number of words and the number of symbols of a coder, if the lengths match for `n` coders.
 ///
-/// `words` and `symbols` are the numbers of words and symbols of all coders, and `lens` has the numbers of words in use.
-/// Returns `None` if one of the lists doesn't have a row for each coder, or if a number of words in use is past the end
-/// of its row.
+/// `words` and `symbols` are the numbers of words and symbols of all coders, and `lens` has the numbers of words in
+/// use. Returns `None` if one of the lists doesn't have a row for each coder, or if a number of words in use is past
+/// the end of its row.
 pub fn row_lengths(n: usize, words: usize, lens: &[usize], symbols: usize) -> Option<(usize, usize)>
     ensures lanes { IfSome result (λ found. AreLanes n words lens.now symbols
         × (found.0 ≡ words / n) × (found.1 ≡ symbols / n)) }

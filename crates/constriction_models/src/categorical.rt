@@ -1,12 +1,12 @@
 //! `CategoricalCounts`: a model of a row of counts, whose table is computed in integers at each look-up.
 //!
-//! Each symbol has one quantile of its own, and the counts share the other quantiles in proportion. So each symbol has a
-//! weight of at least 1, and the start of a symbol's interval follows from the sum of the counts before the symbol. A
+//! Each symbol has one quantile of its own, and the counts share the other quantiles in proportion. So each symbol has
+//! a weight of at least 1, and the start of a symbol's interval follows from the sum of the counts before the symbol. A
 //! look-up adds up counts and divides twice. It needs no memory and stores no table. For a row with which many symbols
 //! are coded, [`CumulativeCounts`](crate::cumulative::CumulativeCounts) keeps the sums.
 //!
-//! To find a quantile's symbol, a decoder compares starts with the quantile before they are divided, so the search needs
-//! no division.
+//! To find a quantile's symbol, a decoder compares starts with the quantile before they are divided, so the search
+//! needs no division.
 
 ghost use Rattle.std.specs.Prelude.{◌≡◌, ◌+◌, ◌-◌, ◌*◌, ◌/◌, ◌^◌, ◌<◌, ◌≤◌, ◌↔◌, length, take};
 ghost use Rattle.std.specs.Prelude.{IfNone, IfOk, IfSome, IsErrOf, IsOk, IsTrue};
@@ -207,8 +207,8 @@ impl<'a, Probability: WordOf<u32>, const PRECISION: usize> CategoricalCounts<
     /// Returns the start and the length of the interval of `symbol` in the table of `counts`, or `None` if there is no
     /// count for `symbol`.
     ///
-    /// A look-up in a model adds up the counts before the symbol, and [`CategoricalCounts::new`] adds up all counts. This
-    /// call adds up each count once. The caller proves that the counts have a table.
+    /// A look-up in a model adds up the counts before the symbol, and [`CategoricalCounts::new`] adds up all counts.
+    /// This call adds up each count once. The caller proves that the counts have a table.
     ///
     /// # Examples
     ///
@@ -267,8 +267,8 @@ impl<'a, Probability: WordOf<u32>, const PRECISION: usize> CategoricalCounts<
 
     /// Returns the start and the length of the interval of `symbol`.
     ///
-    /// `before` is the sum of the counts before `symbol`, and `next` is the sum of the counts before the next symbol. The
-    /// caller proves that the model has `symbol`.
+    /// `before` is the sum of the counts before `symbol`, and `next` is the sum of the counts before the next symbol.
+    /// The caller proves that the model has `symbol`.
     #[inline(always)]
     fn entry(
         &self,
@@ -291,9 +291,9 @@ impl<'a, Probability: WordOf<u32>, const PRECISION: usize> CategoricalCounts<
 
     /// Returns a symbol whose start has a numerator below `limit`, and the sum of the counts before the symbol.
     ///
-    /// The symbol is the first of its block of 32 symbols, and the next block begins at or above `limit`, but no contract
-    /// promises this. The caller proves that `limit` is above 0, and at most the numerator of the start past the last
-    /// symbol.
+    /// The symbol is the first of its block of 32 symbols, and the next block begins at or above `limit`, but no
+    /// contract promises this. The caller proves that `limit` is above 0, and at most the numerator of the start past
+    /// the last symbol.
     #[inline(always)]
     fn skip(&self, limit: u64) -> (usize, u64)
         requires some { 0 < limit }

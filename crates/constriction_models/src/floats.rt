@@ -227,7 +227,8 @@ fn choose_bits(total: u128) -> u64
     31u64.saturating_sub((128 - total.leading_zeros()) as u64 - 39)
 }
 
-/// Returns a count for each float, in proportion to the floats, for [`weights_of_counts`](crate::counts::weights_of_counts).
+/// Returns a count for each float, in proportion to the floats, for
+/// [`weights_of_counts`](crate::counts::weights_of_counts).
 ///
 /// Each float is given by its bits (IEEE 754 binary64). A count is the float times a power of two, rounded to the
 /// nearest whole number (half to even), and at least 1. The power of two is the same for all floats. It makes the

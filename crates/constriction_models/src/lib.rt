@@ -16,8 +16,8 @@
 //!   components that can't form a mixture.
 //! - [`uniform`], [`bernoulli`]: `UniformModel`, whose symbols have equal weights, and `BernoulliModel`, which has two
 //!   symbols.
-//! - [`categorical`]: `CategoricalCounts`, a model of a row of counts. `CategoricalError` is the error for counts that have
-//!   no table.
+//! - [`categorical`]: `CategoricalCounts`, a model of a row of counts. `CategoricalError` is the error for counts that
+//!   have no table.
 //! - [`cumulative`]: `CumulativeCounts`, a model of a row of counts that keeps their sums, for rows with which many
 //!   symbols are coded. `CumulativeError` is the error for counts whose model can't be made.
 //! - [`counts`]: `weights_of_counts`, which computes weights in proportion to counts.

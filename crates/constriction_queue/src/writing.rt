@@ -1,8 +1,8 @@
 //! Writing words to a backend.
 //!
 //! Most steps write at most one word. [`write_step`] is inlined, with the code for a step that releases at most one
-//! pending word. If a step releases several pending words, `write_step` calls [`flush_words`], which isn't inlined. So an
-//! encode usually makes no call, except when a vector grows.
+//! pending word. If a step releases several pending words, `write_step` calls [`flush_words`], which isn't inlined. So
+//! an encode usually makes no call, except when a vector grows.
 
 ghost use Rattle.std.specs.Prelude.{◌≡◌, ◌+◌, ◌<◌, ◌≤◌, ◌^◌, ◌++◌, ◌∷◌, ◌⊎◌, [], None, Some, length, IfErr};
 ghost use Rattle.constriction_base.specs.Writing.{Appends, WritesAll};

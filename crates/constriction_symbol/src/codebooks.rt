@@ -5,8 +5,10 @@
 
 ghost use Rattle.constriction_base.specs.declared.errors.CoderError.TheVariants as coder;
 ghost use Rattle.constriction_symbol.specs.Bits.{bits_of};
-ghost use Rattle.constriction_symbol.specs.Codewords.{BeginsTopBits, EmitsCodeword, EmitsSymbol, IsLowBits, NoCodewordBegins};
-ghost use Rattle.constriction_symbol.specs.Codewords.{LacksMemory, NoCodewordFits, ReadsSymbol, UnlessBitsEnd, WantsMemory};
+ghost use Rattle.constriction_symbol.specs.Codewords.{BeginsTopBits, EmitsCodeword, EmitsSymbol, IsLowBits};
+ghost use Rattle.constriction_symbol.specs.Codewords.{NoCodewordBegins};
+ghost use Rattle.constriction_symbol.specs.Codewords.{LacksMemory, NoCodewordFits, ReadsSymbol, UnlessBitsEnd};
+ghost use Rattle.constriction_symbol.specs.Codewords.{WantsMemory};
 ghost use Rattle.std.specs.Iterator.{IsFinite};
 ghost use Rattle.std.specs.Prelude.{Bool, IfSome, List, Option, Some, reverse, ◌++◌, ◌<◌, ◌^◌, ◌≡◌, ◌≤◌};
 

@@ -4,7 +4,8 @@
 
 ghost use Rattle.constriction_base.specs.Backends.{IsWrite};
 ghost use Rattle.constriction_base.specs.Iterators.{item_of_answer};
-ghost use Rattle.constriction_symbol.specs.Bits.{YieldsFirstBit, YieldsLastBit, PutsLast, PutsLowest, FirstBitRead, LastBitRead};
+ghost use Rattle.constriction_symbol.specs.Bits.{YieldsFirstBit, YieldsLastBit, PutsLast, PutsLowest, FirstBitRead};
+ghost use Rattle.constriction_symbol.specs.Bits.{LastBitRead};
 ghost use Rattle.std.specs.Prelude.{length, ◌+◌, ◌<◌, ◌^◌};
 
 use crate::top_bits::TopBits;

@@ -26,7 +26,8 @@ use std::alloc::Global;
 /// ```
 /// let (mut heads, mut words, mut lens) = ([0u64; 2], [0u32; 8], [0; 2]); // two coders, with rows of four words
 /// let (weights, symbols) = ([8388608u32, 8388608], [1usize, 0, 0, 1]);
-/// encode_reverse_by_weights::<_, _, u32, _, 24>(alloc, &mut heads, &mut words, &mut lens, &weights, &symbols) // Ok(())
+/// // Ok(()):
+/// encode_reverse_by_weights::<_, _, u32, _, 24>(alloc, &mut heads, &mut words, &mut lens, &weights, &symbols)
 /// ```
 #[inline]
 pub fn encode_reverse_by_weights<

@@ -5,7 +5,8 @@ ghost use Rattle.std.specs.Prelude.{◌≡◌, length, map};
 ghost use Rattle.constriction_c.specs.Codes.{answer_by_code};
 ghost use Rattle.constriction_c.specs.U16.{RangeEndsU16, RangeEncodesU16, RangeDecodesU16, decoder_u16, encoder_u16};
 ghost use Rattle.constriction_c.specs.Words.{lowest};
-ghost use Rattle.constriction_calls.specs.RangeCalls.{IsNew, IsSealed, RangeBegins, RangeMayEnd, RangeSeals, RangeSeeks};
+ghost use Rattle.constriction_calls.specs.RangeCalls.{IsNew, IsSealed, RangeBegins, RangeMayEnd, RangeSeals};
+ghost use Rattle.constriction_calls.specs.RangeCalls.{RangeSeeks};
 ghost use Rattle.constriction_inputs.specs.Weights.{by_weights};
 
 use crate::codes::{code_of, code_without_space};

@@ -2,7 +2,8 @@
 
 ghost use Rattle.std.specs.Prelude.{◌≡◌, IfErr, OnErr, OnOk, length, map};
 ghost use Rattle.constriction_calls.specs.SymbolBits.{DecodesAtBit, symbols_at};
-ghost use Rattle.constriction_calls.specs.SymbolCalls.{BeginWithCodewords, AsQueue, AsStack, MapsError, SymbolReadFails};
+ghost use Rattle.constriction_calls.specs.SymbolCalls.{BeginWithCodewords, AsQueue, AsStack, MapsError};
+ghost use Rattle.constriction_calls.specs.SymbolCalls.{SymbolReadFails};
 ghost use Rattle.constriction_calls.specs.SymbolCalls.{DecodesCodewords};
 
 use crate::symbol::Codes;

@@ -1,6 +1,7 @@
 //! Encoding lists of symbols from last to first, as methods of the coder, so that no trait has to be in scope.
 
-ghost use Rattle.constriction_stream.specs.CoderLists.{EncodesEachPair, EncodesSymbols, YieldsUpToLeft, LowersLeft, TriesPairs};
+ghost use Rattle.constriction_stream.specs.CoderLists.{EncodesEachPair, EncodesSymbols, YieldsUpToLeft, LowersLeft};
+ghost use Rattle.constriction_stream.specs.CoderLists.{TriesPairs};
 
 use crate::coder::ChainCoder;
 use crate::errors::EncoderError;

@@ -25,11 +25,11 @@ pub struct Interval<P: Copy + Drop> {
 
 /// A row of weights, with a row for each symbol to encode, or with guesses to decode.
 ///
-/// All quantiles with the same high bits form a bucket. A guess is the symbol of the quantile in the middle of a bucket.
-/// With its interval it takes 12 bytes if `P` has 32 bits, and there are at most as many guesses as symbols. So the
-/// guesses of many tables fit the caches. If the guess's interval doesn't hold a quantile of the bucket, a look-up goes on
-/// to the symbols before or behind it, and adds up the caller's weights. If there are at most `2 ^ PRECISION` symbols, and
-/// all quantiles are equally frequent, this takes less than two such steps on average.
+/// All quantiles with the same high bits form a bucket. A guess is the symbol of the quantile in the middle of a
+/// bucket. With its interval it takes 12 bytes if `P` has 32 bits, and there are at most as many guesses as symbols. So
+/// the guesses of many tables fit the caches. If the guess's interval doesn't hold a quantile of the bucket, a look-up
+/// goes on to the symbols before or behind it, and adds up the caller's weights. If there are at most `2 ^ PRECISION`
+/// symbols, and all quantiles are equally frequent, this takes less than two such steps on average.
 ///
 /// # Examples
 ///
@@ -151,8 +151,8 @@ fn covers<P: BitArray>(left: P, p: P, quantile: P) -> bool
 
 /// Returns the symbol whose interval holds the quantile, and the start and the length of this interval.
 ///
-/// The search begins at the symbol `from`, whose interval starts at `left`. The caller proves that the weights add up to
-/// `2 ^ PRECISION`, and that `quantile` is below `2 ^ PRECISION`.
+/// The search begins at the symbol `from`, whose interval starts at `left`. The caller proves that the weights add up
+/// to `2 ^ PRECISION`, and that `quantile` is below `2 ^ PRECISION`.
 #[inline(always)]
 fn find_from<P: BitArray, const PRECISION: usize>(
     weights: &[P],
@@ -229,8 +229,8 @@ fn step_up<P: BitArray, const PRECISION: usize>(
 /// Returns the model of the symbols `0`, `1`, .. with the weights `weights`.
 ///
 /// If `decodes` is true, the model has guesses. Otherwise it has a row for each symbol. These rows have reciprocals if
-/// `divides` is true and the precision is at most 63 bits. The caller proves that the weights add up to `2 ^ PRECISION`.
-/// The call returns `None` if there is no memory.
+/// `divides` is true and the precision is at most 63 bits. The caller proves that the weights add up to
+/// `2 ^ PRECISION`. The call returns `None` if there is no memory.
 pub fn guided_by<'a, P: BitArray, const PRECISION: usize>(
     alloc: Global,
     weights: &'a [P],
@@ -324,8 +324,8 @@ fn shift_for(symbols: usize, precision: usize) -> u32
 /// Returns the row of each symbol, in the order of the symbols.
 ///
 /// If `divides` is true, each row has the reciprocal of its weight. The caller proves that the weights add up to
-/// `2 ^ PRECISION`, and that the precision is at most 63 bits if `divides` is true. The call returns `Err(AllocError)` if
-/// there is no memory for the rows.
+/// `2 ^ PRECISION`, and that the precision is at most 63 bits if `divides` is true. The call returns `Err(AllocError)`
+/// if there is no memory for the rows.
 fn symbol_rows_of<P: BitArray, const PRECISION: usize>(
     alloc: Global,
     weights: &[P],

@@ -33,9 +33,9 @@ pub type GuidedOrRow<'a, P, const PRECISION: usize> = WeightsModel<
 /// list to encode or decode has the table `indexes[i]`.
 ///
 /// A long list makes each table once. To encode, a table takes 32 bytes for each weight if `P` has at most 32 bits. To
-/// decode, it takes at most 12 bytes. A list of at most 64 symbols for each table makes none to decode: a look-up adds up
-/// the weights before the symbol. To encode, this holds for up to 128 symbols for each table, or 256 if a table would
-/// keep reciprocals.
+/// decode, it takes at most 12 bytes. A list of at most 64 symbols for each table makes none to decode: a look-up adds
+/// up the weights before the symbol. To encode, this holds for up to 128 symbols for each table, or 256 if a table
+/// would keep reciprocals.
 ///
 /// # Examples
 ///
@@ -247,8 +247,8 @@ fn models_by<'a, P: BitArray, const PRECISION: usize>(
 /// Returns the model of a row of weights.
 ///
 /// If `searches` is true, the model is the row, whose look-up adds up weights. Otherwise it has guesses if `decodes` is
-/// true, and a row for each symbol if not, with reciprocals if `divides` is true. The caller proves that the weights add up
-/// to `2 ^ PRECISION`. The call returns `None` if there is no memory.
+/// true, and a row for each symbol if not, with reciprocals if `divides` is true. The caller proves that the weights
+/// add up to `2 ^ PRECISION`. The call returns `None` if there is no memory.
 fn model_by<'a, P: BitArray, const PRECISION: usize>(
     alloc: Global,
     row: &'a [P],

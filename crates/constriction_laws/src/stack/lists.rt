@@ -10,7 +10,8 @@ ghost use Rattle.constriction_stack.specs.Ans.{AnsState, IsNormalized, IsPop, fi
 ghost use Rattle.constriction_base.specs.Models.{Item, IsModel, AreModels, AreKnown};
 ghost use Rattle.constriction_stack.specs.Symbols.{Encodes, Decodes, EncodesAll, DecodesAll};
 ghost use Rattle.constriction_laws.specs.Outcomes.{AreOne};
-ghost use Rattle.constriction_laws.specs.stack.Lists.{AfterDecodes, AfterEncodes, DecodesWords, FromEmpty, FromNormalized};
+ghost use Rattle.constriction_laws.specs.stack.Lists.{AfterDecodes, AfterEncodes, DecodesWords, FromEmpty};
+ghost use Rattle.constriction_laws.specs.stack.Lists.{FromNormalized};
 ghost use Rattle.constriction_laws.specs.stack.Lists.{IsOneWayBack, Pushes};
 ghost use Rattle.constriction_laws.specs.stack.Undone.{Sizes, decode_back, encode_back, decoded_valid};
 

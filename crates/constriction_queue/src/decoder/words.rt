@@ -20,8 +20,8 @@ impl<Word: WordOf<State>, State: BitArray, Backend: ReadWords<Word, Queue>> Rang
 > {
     /// Creates a decoder over a backend, and reads the first `State::BITS / Word::BITS` words.
     ///
-    /// If the backend has fewer words, the decoder stops reading at the first read that finds no word. Each missing word
-    /// counts as 0.
+    /// If the backend has fewer words, the decoder stops reading at the first read that finds no word. Each missing
+    /// word counts as 0.
     ///
     /// # Errors
     ///

@@ -45,8 +45,8 @@ impl<Word: WordOf<State>, State: BitArray, Backend: WriteWords<Word>> RangeEncod
     ///
     /// `encode_symbol` asks a model for these numbers. A caller who already has them doesn't need a model.
     ///
-    /// The caller proves that `PRECISION` is at least 1 and at most the number of bits of a word. The caller also proves
-    /// that the interval ends at or below `2^PRECISION`, and that `symbols_left` is at least 1.
+    /// The caller proves that `PRECISION` is at least 1 and at most the number of bits of a word. The caller also
+    /// proves that the interval ends at or below `2^PRECISION`, and that `symbols_left` is at least 1.
     ///
     /// # Errors
     ///

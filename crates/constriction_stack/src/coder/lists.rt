@@ -3,7 +3,8 @@
 //! The contracts require that the iterator ends and that its `next_back` may be called. They refer to `next_back`
 //! itself, so a caller needs no contract of the adapter `Rev`.
 
-ghost use Rattle.constriction_stream.specs.CoderLists.{EncodesEachPair, EncodesSymbols, YieldsUpToLeft, LowersLeft, TriesPairs};
+ghost use Rattle.constriction_stream.specs.CoderLists.{EncodesEachPair, EncodesSymbols, YieldsUpToLeft, LowersLeft};
+ghost use Rattle.constriction_stream.specs.CoderLists.{TriesPairs};
 
 use crate::coder::AnsCoder;
 use constriction_base::backends::{Holds, Stack, WriteWords};

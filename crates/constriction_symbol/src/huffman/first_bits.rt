@@ -9,7 +9,8 @@
 //! at most 9. So a small tree has a small table. A look-up reads as many bits as the table covers, or all bits of the
 //! word if the word has fewer bits.
 
-ghost use Rattle.constriction_symbol.specs.DecoderTree.{LeadToNodes, HoldsTree, LeadsToNode, TopLeadsToNode, tree_of_pairs};
+ghost use Rattle.constriction_symbol.specs.DecoderTree.{LeadToNodes, HoldsTree, LeadsToNode, TopLeadsToNode};
+ghost use Rattle.constriction_symbol.specs.DecoderTree.{tree_of_pairs};
 ghost use Rattle.std.specs.Prelude.{Bool, IfOk, List, [], length, ◌+◌, ◌++◌, ◌<◌, ◌==◌, ◌^◌, ◌∷◌, ◌≡◌, ◌≤◌, ℕ};
 
 use constriction_words::BitArray;

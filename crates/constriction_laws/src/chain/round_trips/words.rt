@@ -8,7 +8,8 @@ ghost use Rattle.constriction_base.specs.Models.{pairs_of};
 ghost use Rattle.constriction_chain.specs.Chain.{ChainState, IsSized};
 ghost use Rattle.constriction_laws.specs.chain.Endings.{ComesBackOver, OnlyEnds};
 ghost use Rattle.constriction_laws.specs.chain.Lists.{AfterWholeDecodes};
-ghost use Rattle.constriction_laws.specs.chain.Pairs.{PairsEnded, PairsNotPutBack, ChainEncodesPairs, ChainDecodesApart};
+ghost use Rattle.constriction_laws.specs.chain.Pairs.{PairsEnded, PairsNotPutBack, ChainEncodesPairs};
+ghost use Rattle.constriction_laws.specs.chain.Pairs.{ChainDecodesApart};
 
 use crate::chain::errors::PutBackError;
 use crate::chain::round_trips::coding::{decode_pairs, encode_pairs_reverse};

@@ -6,7 +6,8 @@ ghost use Rattle.constriction_base.specs.Steps.{IsSizes};
 ghost use Rattle.constriction_laws.specs.Outcomes.{IfItems, UnlessInvalid};
 ghost use Rattle.constriction_laws.specs.stack.Exporting.{ReturnsExported};
 ghost use Rattle.constriction_laws.specs.stack.Lists.{HoldsItems};
-ghost use Rattle.constriction_laws.specs.stack.Readings.{DecodesFromIterator, ReturnsListed, HoldsListed, IteratorRefused};
+ghost use Rattle.constriction_laws.specs.stack.Readings.{DecodesFromIterator, ReturnsListed, HoldsListed};
+ghost use Rattle.constriction_laws.specs.stack.Readings.{IteratorRefused};
 ghost use Rattle.constriction_stack.specs.Ans.{AnsState};
 
 use crate::errors::RoundTripError;
