@@ -33,7 +33,11 @@ _MOST = 1 << 48
 
 def is_one(it: Any) -> bool:
     """Returns whether ``it`` is a single number, and no list."""
-    return not hasattr(it, "__len__") and not hasattr(it, "__iter__") or getattr(it, "shape", None) == ()
+    kind = type(it)
+    if kind is int or kind is float:
+        return True
+    listed = hasattr(kind, "__len__") or hasattr(kind, "__iter__") or hasattr(kind, "__array__")
+    return not listed or getattr(it, "shape", None) == ()
 
 
 def is_row(numbers: Any) -> bool:
@@ -134,8 +138,11 @@ def _items(view: memoryview) -> list[Any]:
 
 
 def sequence_of(numbers: Any) -> Any:
-    """Returns the same list of numbers, or a list if ``numbers`` can be iterated only once."""
-    return numbers if hasattr(numbers, "__len__") else list(items_of(numbers))
+    """Returns the same list of numbers, or a list or an array if ``numbers`` has no length."""
+    if hasattr(numbers, "__len__"):
+        return numbers
+    table = as_numpy(numbers)
+    return list(items_of(numbers)) if table is None else table
 
 
 def listed_of(numbers: Any) -> list[Any]:

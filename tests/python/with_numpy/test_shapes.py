@@ -204,6 +204,29 @@ class Shapes(unittest.TestCase):
         coder.encode_reverse(np.array([[1, 2], [3, 4]]).view(Square), Uniform(5))
         self.assertEqual(coder.decode(Uniform(5), amt=(2, 2)).tolist(), [[1, 2], [3, 4]])
 
+    def test_an_array_alone(self) -> None:
+        """An object with `__array__` needs no other method."""
+
+        class Alone:
+            """An object with `__array__` alone."""
+
+            def __init__(self, of: Any) -> None:
+                self.of = np.array(of)
+
+            def __array__(self, dtype: Any = None, copy: Any = None) -> Any:
+                return self.of
+
+        coder: Any = AnsCoder(Alone(np.array([1, 2, 3], dtype="uint32")))
+        self.assertEqual(coder, AnsCoder([1, 2, 3]))
+        family, means, stds = QuantizedGaussian(-9, 9), Alone([[0.5, 1.0]]), Alone([[2.0]])
+        coder.encode_reverse(Alone([[1, 2]]), family, means, stds)
+        self.assertEqual(coder.decode(family, means, stds).tolist(), [[1, 2]])
+        rows = Alone([[1, 2], [3, 1]])
+        coder.encode_reverse(Alone([1, 0]), Categorical(), rows)
+        self.assertEqual(coder.decode(Categorical(), rows).tolist(), [1, 0])
+        self.assertEqual(WeightTable(Alone([1 << 23, 1 << 23])).table(), WeightTable([1 << 23, 1 << 23]).table())
+        self.assertEqual(coder, AnsCoder([1, 2, 3]))
+
     def test_a_float_without_dimensions(self) -> None:
         """An array without dimensions is a parameter of a caller's function if it has a float, and else an amount."""
         spread: Any = CustomModel(lambda x, k=0.5: min(max((x - k) / 40 + 0.5, 0), 1), None, -9, 9)
