@@ -23,7 +23,7 @@ def tables():
 
 def head(text):
     """Yields the first line of a run, if the table's caption has its date, processor and load."""
-    said = re.match(r"`bench/\w+` ran on (\S+) \((.*), load (\S+)\):", text)
+    said = re.match(r"`bench/\w+` ran on (\S+) \((.*), load (\S+)\)[:.]", text)
     if said:
         yield f"{said[1]}, {said[2]}, load {said[3]}"
 

@@ -292,17 +292,18 @@ class Codewords(unittest.TestCase):
         """The time of decoding symbol by symbol is linear."""
 
         def seconds(count: int) -> float:
-            """Returns the time of decoding `count` symbols."""
+            """Returns the processor time of decoding `count` symbols."""
             encoder = QueueEncoder()
             encoder.encode([5] * count, ExpGolomb())
             decoder = encoder.get_decoder()
-            begin = time.perf_counter()
+            begin = time.process_time()
             for _ in range(count):
                 decoder.decode_symbol(ExpGolomb())
-            return time.perf_counter() - begin
+            return time.process_time() - begin
 
         few = min(seconds(2000) for _ in range(3))
-        self.assertLess(seconds(32000), 16 * few * 4)  # Quadratic would be 16 times more.
+        # Quadratic would be 16 times more. A busy machine may need another run.
+        self.assertTrue(any(seconds(32000) < 16 * few * 4 for _ in range(3)))
 
 
 if __name__ == "__main__":
