@@ -75,7 +75,7 @@ def calls_from_python(rows):
 def lanes(rows):
     """Yields the lines of bench/lanes from C."""
     cases = [f"lanes_{call}_{size}" for size in ("u32u64p24", "u16u32p12") for call in ("encode", "decode")]
-    names = "list_1", "list_3", "list_6", "list_64", "table_64", "table_1024", "gaussian_64", "gaussian_1024"
+    names = [f"list_{n}" for n in (1, 3, 4, 6, 64)] + [f"{it}_{n}" for it in ("table", "gaussian") for n in (64, 1024)]
     for (_, *cells), name in zip(rows, names):
         for case, cell in zip(cases, cells):
             time, *ratio = map(float, cell.strip(")").split(" ("))
