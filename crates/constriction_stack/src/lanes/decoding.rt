@@ -26,8 +26,7 @@ use constriction_words::{BitArray, WordOf};
 ///
 /// Three or four coders take their steps in turn, so that the processor overlaps the steps: groups of three, and the
 /// first four coders if groups of three leave one coder. If they leave two coders, these decode one after another, as
-/// an
-/// [`AnsCoder`] does. So does a single coder.
+/// an [`AnsCoder`] does. So does a single coder.
 ///
 /// # Examples
 ///
