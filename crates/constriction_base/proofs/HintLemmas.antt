@@ -87,7 +87,7 @@ pub rows_none_above : {P : Type 0} (rows : List (Row P)) (row : Row P) → ((k :
     → (k : ℕ) → k < length (symbols_of (rows ++ row ∷ [])) → get_or (symbols_of (rows ++ row ∷ [])) k 0 ≤ row.symbol
 rows_none_above {P} rows row lower = rw (map_push (λ (r : Row P). r.symbol) rows row) (none_above (symbols_of rows) row.symbol lower)
 
--- and whose interval is that of its symbol
+-- and whose weight is that of its symbol
 pub rows_push : {P : Type 0} (number : P → ℕ) (starts : List ℕ) (high : ℕ) (rows : List (Row P)) (row : Row P) → AreBucketRows number starts high rows → IsBucketRow number starts high row
     → AreBucketRows number starts high (rows ++ row ∷ [])
 rows_push {P} number starts high rows row before is k other within = elim (cases_lt k (length rows)) [
@@ -105,22 +105,22 @@ pub row_hint : {P : Type 0} (starts : List ℕ) (high width : ℕ) (rows : List 
 row_hint {P} starts high width rows row k are within is =
     rw (row_symbol rows row k within is) (are.each k (omega (arith, within, length-map rows (λ (r : Row P). r.symbol))))
 
--- its interval
-pub row_interval : {P : Type 0} (number : P → ℕ) (starts : List ℕ) (high : ℕ) (rows : List (Row P)) (row : Row P) (k : ℕ) → AreBucketRows number starts high rows → k < length rows
+-- its weight
+pub row_weight : {P : Type 0} (number : P → ℕ) (starts : List ℕ) (high : ℕ) (rows : List (Row P)) (row : Row P) (k : ℕ) → AreBucketRows number starts high rows → k < length rows
     → row ≡ get_or rows k row → IsBucketRow number starts high row
-row_interval {P} number starts high rows row k are within is = subst (λ (r : Row P). IsBucketRow number starts high r) (sym is) (are k row within)
+row_weight {P} number starts high rows row k are within is = subst (λ (r : Row P). IsBucketRow number starts high r) (sym is) (are k row within)
 
 -- and it begins at or below each quantile of its bucket
-pub row_from : {P : Type 0} (number : P → ℕ) (starts : List ℕ) (high width : ℕ) (rows : List (Row P)) (row : Row P) (k q : ℕ) → AreHints starts high width (symbols_of rows)
-    → AreBucketRows number starts high rows → k < length rows → row ≡ get_or rows k row → k * width ≤ q → number row.left ≤ q
-row_from number starts high width rows row k q hinted listed within is above =
-    omega (arith, above, (row_interval number starts high rows row k listed within is).0, (row_hint starts high width rows row k hinted within is).from)
+pub row_from : {P : Type 0} (starts : List ℕ) (high width : ℕ) (rows : List (Row P)) (row : Row P) (k q l : ℕ) → AreHints starts high width (symbols_of rows)
+    → k < length rows → row ≡ get_or rows k row → k * width ≤ q → l ≡ get_or starts row.symbol 0 → l ≤ q
+row_from starts high width rows row k q l hinted within is above left =
+    omega (arith, above, left, (row_hint starts high width rows row k hinted within is).from)
 
--- a quantile behind the interval of its bucket's row lies at or behind the next symbol's start
-pub after_row : (starts : List ℕ) (high symbol top l w q : ℕ) → IsRising starts high → symbol < top + 1 → top + 1 ≤ length starts
+-- a quantile behind a symbol's interval lies at or behind the next symbol's start
+pub after_symbol : (starts : List ℕ) (high symbol top l w q : ℕ) → IsRising starts high → symbol < top + 1 → top + 1 ≤ length starts
     → l ≡ get_or starts symbol 0 → w ≡ get_or (weights_between starts high) symbol 0 → l + w ≤ q → q < get_or starts (top + 1) high
     → (symbol + 1 < top + 1) × (get_or starts (symbol + 1) 0 ≤ q)
-after_row starts high symbol top l w q rising order within left weight past below =
+after_symbol starts high symbol top l w q rising order within left weight past below =
     let end = ends starts high symbol l w rising (omega arith) left weight in
     elim (cases_lt symbol top) [
       | inl less ↦ (omega arith, omega (arith, past, end, ends_inside starts high symbol (symbol + 1) refl (omega arith)))
@@ -129,3 +129,15 @@ after_row starts high symbol top l w q rising order within left weight past belo
           let upper : q < get_or starts (symbol + 1) high = rw same at below in
           absurd (omega (arith, past, end, rw add-one at upper)))
     ]
+
+-- a quantile behind the interval of its bucket's row, and its bounds
+pub after_row : {P : Type 0} (number : P → ℕ) (starts : List ℕ) (high width : ℕ) (rows : List (Row P)) (row : Row P) (k q l top : ℕ) → AreHints starts high width (symbols_of rows)
+    → AreBucketRows number starts high rows → IsRising starts high → k + 1 < length rows → row ≡ get_or rows k row → top ≡ get_or (symbols_of rows) (k + 1) 0
+    → k * width ≤ q → q < (k + 1) * width → l ≡ get_or starts row.symbol 0 → l + number row.weight ≤ q
+    → (row.symbol + 1 < top + 1) × (get_or starts (row.symbol + 1) 0 ≤ q) × (top + 1 ≤ length starts) × (q < get_or starts (top + 1) high)
+after_row {P} number starts high width rows row k q l top hinted listed rising more is at_top above below left past =
+    let within : k < length rows = omega (arith, more) in
+    let h = hints_enclose starts high width (symbols_of rows) k q row.symbol top hinted (omega (arith, more, length-map rows (λ (r : Row P). r.symbol))) above below
+    (row_symbol rows row k within is) at_top in
+    let next = after_symbol starts high row.symbol top l (number row.weight) q rising h.0 h.1 left (row_weight number starts high rows row k listed within is) past h.3 in
+    (next.0, next.1, h.1, h.3)

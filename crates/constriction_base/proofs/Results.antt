@@ -1,5 +1,6 @@
 -- Clauses on answers that are known to be one or the other.
-use Rattle.std.proofs.Common.{Result, Ok, Err, ◌≡◌, ℕ, ◌<◌, Option, None, Some, rules, arith}
+use Rattle.std.proofs.Common.{Result, Ok, Err, ◌≡◌, ℕ, ◌<◌, ◌≤◌, ◌↔◌, Option, None, Some, Bool, true, false, IsTrue, inl, inr, rules, arith}
+use Rattle.std.proofs.lemmas.Bool.{cases_lt, false≢true}
 use Rattle.std.specs.Prelude.{IsErr, IfErr, IfOk, MatchResult, OnOk, MatchOption, IsSome}
 
 -- an error has made nothing
@@ -27,3 +28,8 @@ refused P Q Q' (Err e) f m = f e m
 pub some_above_zero : {N : Type 0} (o : Option N) (number : N → ℕ) (v : ℕ) → 0 < v → MatchOption o (v ≡ 0) (λ n. number n ≡ v) → IsSome o
 some_above_zero None number v some m = absurd (omega arith)
 some_above_zero (Some n) number v some m = search rules
+
+-- a number isn't below another, so it is the same or above
+pub not_below : (test : Bool) (number other : ℕ) → (IsTrue test ↔ (number < other)) → test ≡ false → other ≤ number
+not_below true number other is h = absurd cc
+not_below false number other is h = elim (cases_lt number other) [ inl less ↦ absurd (false≢true (is.1 less)) | inr more ↦ more ]

@@ -14,10 +14,10 @@ pub record AreHints (starts : List ℕ) (high width : ℕ) (hints : List ℕ) : 
   pub each : (k : ℕ) → k < length hints → IsHint starts high (k * width) (slice_index hints k)
   pub rising : (k : ℕ) → k + 1 < length hints → slice_index hints k ≤ slice_index hints (k + 1)
 
--- The row has the start and the length of its symbol's interval.
+-- The row has the length of its symbol's interval.
 abbrev pub IsBucketRow : {P : Type 0} → (P → ℕ) → List ℕ → ℕ → Row P → Type 0
-IsBucketRow number starts high row = (number row.left ≡ slice_index starts row.symbol) × (number row.weight ≡ slice_index (weights_between starts high) row.symbol)
+IsBucketRow number starts high row = number row.weight ≡ slice_index (weights_between starts high) row.symbol
 
--- Each row of the list has the start and the length of its symbol's interval.
+-- Each row of the list has the length of its symbol's interval.
 abbrev pub AreBucketRows : {P : Type 0} → (P → ℕ) → List ℕ → ℕ → List (Row P) → Type 0
 AreBucketRows number starts high rows = (k : ℕ) (other : Row _) → k < length rows → IsBucketRow number starts high (slice_index_or rows k other)

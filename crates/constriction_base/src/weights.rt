@@ -17,7 +17,7 @@ mod rows;
 pub mod starts;
 
 ghost use Rattle.std.specs.Prelude.{◌≡◌, ◌≢◌, ◌+◌, ◌-◌, ◌*◌, ◌^◌, ◌<◌, ◌≤◌, ◌↔◌, [], length, map, sum_by, slice_index};
-ghost use Rattle.std.specs.Prelude.{OnOk, IfOk, IfSome, IfNone, IsErrOf};
+ghost use Rattle.std.specs.Prelude.{slice_index_or, OnOk, IfOk, IfSome, IfNone, IsErrOf};
 ghost use Rattle.constriction_base.specs.Tables.{Has, Impossible, IsRising, table_of, weights_between};
 ghost use Rattle.constriction_base.specs.Hints.{AreHints, AreBucketRows};
 ghost use Rattle.constriction_base.specs.Reciprocals.{AreSymbolRows, IsSymbolRow};
@@ -47,7 +47,7 @@ pub enum TableError {
     /// The weights don't add up to `2 ^ PRECISION`.
     #[error("wrong total")]
     WrongTotal,
-    /// An allocation for the table failed.
+    /// An allocation for the table failed, or the table has more than `2^32` symbols.
     #[error("out of memory")]
     Memory,
 }
@@ -66,10 +66,10 @@ impl From<AllocError> for TableError {
 /// the order of the symbols, and the length of each interval is its symbol's weight. A symbol is impossible if its
 /// weight is 0, or if the list has no weight for it.
 ///
-/// A decoder finds a quantile's symbol in two stages. All quantiles with the same high bits form a bucket. The table
-/// stores the symbol of each bucket's first quantile, and the symbol's interval. Most often, this interval holds the
-/// quantile. If it doesn't, a binary search finds the quantile's symbol between the next symbol and the symbol of the
-/// next bucket's first quantile.
+/// A decoder finds a quantile's symbol in up to three stages. All quantiles with the same high bits form a bucket. The
+/// table stores the symbol of each bucket's first quantile, and the symbol's weight. Most often, the interval of this
+/// symbol holds the quantile. If it doesn't, the interval of the next symbol usually does. If it doesn't either, a
+/// binary search finds the quantile's symbol. It ends at the symbol of the next bucket's first quantile.
 ///
 /// # Examples
 ///
@@ -116,9 +116,9 @@ impl<Probability: BitArray, const PRECISION: usize> WeightTable<Probability, PRE
     /// symbol with a weight above 0. The table keeps:
     ///
     /// - `n` starts of type `Probability`, one for each of these symbols.
-    /// - Rows, which speed up decoding. If `Probability` has at most 32 bits, these are at most `4 * n + 1` rows of 16
-    ///   bytes. If it has 64 bits, these are at most `2 * n + 1` rows of 24 bytes. If it has 128 bits, these are at
-    ///   most `n + 1` rows of 48 bytes, but at least 3.
+    /// - Rows, which speed up decoding. If `Probability` has at most 32 bits, these are at most `8 * n + 1` rows of 8
+    ///   bytes. If it has 64 bits, these are at most `4 * n + 1` rows of 16 bytes. If it has 128 bits, these are at
+    ///   most `2 * n + 1` rows of 32 bytes.
     /// - At a precision of at most 63 bits, `n` rows, which speed up encoding. Such a row has a symbol's interval and
     ///   the reciprocal of its weight. It takes 32 bytes if `Probability` has at most 32 bits, 40 bytes if it has 64
     ///   bits, and 64 bytes if it has 128 bits. With a reciprocal, an encoder whose state has at most 64 bits
@@ -133,7 +133,7 @@ impl<Probability: BitArray, const PRECISION: usize> WeightTable<Probability, PRE
     /// - `Empty`: the list `weights` is empty.
     /// - `WrongTotal`: the weights don't add up to `2 ^ PRECISION`. The sum is exact, even if it doesn't fit
     ///   `Probability`.
-    /// - `Memory`: an allocation for the table fails.
+    /// - `Memory`: an allocation for the table fails, or `n` is above `2^32`.
     ///
     /// # Examples
     ///
@@ -172,7 +172,7 @@ impl<Probability: BitArray, const PRECISION: usize> WeightTable<Probability, PRE
     ///
     /// - `Empty`: the list `weights` is empty.
     /// - `WrongTotal`: the weights don't add up to `2 ^ PRECISION`.
-    /// - `Memory`: an allocation for the table fails.
+    /// - `Memory`: an allocation for the table fails, or the last weight above 0 is that of a symbol from `2^32` on.
     ///
     /// # Examples
     ///
@@ -196,6 +196,9 @@ impl<Probability: BitArray, const PRECISION: usize> WeightTable<Probability, PRE
         let Some(known) = known_symbols::<Probability, PRECISION>(weights) else {
             return Err(TableError::WrongTotal);
         };
+        if known > 4294967296 {
+            return Err(TableError::Memory);
+        }
         let starts = starts_of(alloc, &weights[..known - 1])?;
         let shift = shift_for(known, PRECISION, buckets_for(Probability::BITS));
         let rows = make_rows::<Probability, PRECISION>(alloc, &starts, shift)?;
@@ -275,6 +278,39 @@ impl<Probability: BitArray, const PRECISION: usize> WeightTable<Probability, PRE
             ≡ slice_index (weights_between (map Probability.number self.now.starts.items) (2 ^ PRECISION)) symbol }
     {
         weight_of::<Probability, PRECISION>(&self.starts, symbol)
+    }
+
+    /// Returns the symbol whose interval holds `quantile`, by a binary search from symbol `low` to symbol `high - 1`.
+    ///
+    /// The caller proves that there is such a symbol: that `low` is below `high`, that `high` is at most the number of
+    /// symbols, and that `quantile` is at or above the start of `low` and below the start of `high`. The start of the
+    /// symbol behind the last is `2 ^ PRECISION`.
+    #[cold]
+    #[inline(never)]
+    fn search(&self, quantile: Probability, low: usize, high: usize) -> usize
+        requires order { low < high }
+        requires within { high ≤ length self.now.starts.items }
+        requires above { slice_index (map Probability.number self.now.starts.items) low
+            ≤ Probability.number quantile }
+        requires below { Probability.number quantile
+            < slice_index_or (map Probability.number self.now.starts.items) high (2 ^ PRECISION) }
+        ensures within { result < length self.now.starts.items }
+        ensures above { slice_index (map Probability.number self.now.starts.items) result
+            ≤ Probability.number quantile }
+        ensures below { Probability.number quantile
+            < slice_index_or (map Probability.number self.now.starts.items) (result + 1) (2 ^ PRECISION) }
+    {
+        let mut low = low;
+        let mut high = high;
+        while high - low > 1 {
+            let middle = low + (high - low) / 2;
+            if quantile.is_below(self.start(middle)) {
+                high = middle;
+            } else {
+                low = middle;
+            }
+        }
+        low
     }
 
     /// Returns the row that the table keeps for `symbol`, or `None` if the table keeps none for this symbol.
@@ -362,19 +398,23 @@ impl<Probability: BitArray, const PRECISION: usize> DecoderModel<PRECISION>
     ) -> (usize, Probability, <Probability as BitArray>::NonZero) {
         let bucket = self.bucket(quantile);
         let row = &self.rows[bucket];
-        if quantile.minus(row.left).is_below(row.weight) {
-            return (row.symbol, row.left, row.weight.to_nonzero().unwrap());
+        let first = row.symbol as usize;
+        let left = self.start(first);
+        if quantile.minus(left).is_below(row.weight) {
+            return (first, left, row.weight.to_nonzero().unwrap());
         }
-        let mut low = row.symbol + 1;
-        let mut high = self.rows[bucket + 1].symbol + 1;
-        while high - low > 1 {
-            let middle = low + (high - low) / 2;
-            if quantile.is_below(self.start(middle)) {
-                high = middle;
-            } else {
-                low = middle;
-            }
+        let next = first + 1;
+        let left = self.start(next);
+        let weight = self.weight(next);
+        if quantile.minus(left).is_below(weight) {
+            return (next, left, weight.to_nonzero().unwrap());
         }
-        (low, self.start(low), self.weight(low).to_nonzero().unwrap())
+        let end = self.rows[bucket + 1].symbol as usize + 1;
+        let found = self.search(quantile, next + 1, end);
+        (
+            found,
+            self.start(found),
+            self.weight(found).to_nonzero().unwrap(),
+        )
     }
 }

@@ -104,6 +104,12 @@ shift_for-shift-requires-clause-within g c = (c.requires.0, omega (arith, c.requ
 pub make_rows-requires-clause-sized : goal.make_rows-requires-clause-sized
 make_rows-requires-clause-sized g c = c.requires
 
+pub make_rows-requires-clause-few : goal.make_rows-requires-clause-few
+make_rows-requires-clause-few g c =
+    let number = g.Probability.BitArray.number in
+    let sums = all_sums number _ _ _ _ _ c.in-Some.ensures.ok c.in_ok-starts.ensures in
+    rw c.deref.ensures.value (omega (arith, sums.len, length-map c.in_ok-starts.starts.items number, c.if-known-gt4294967296.false))
+
 pub make_rows-requires-clause-within : goal.make_rows-requires-clause-within
 make_rows-requires-clause-within g c = (c.shift_for-shift.ensures.within, c.shift_for-shift.ensures.fits)
 

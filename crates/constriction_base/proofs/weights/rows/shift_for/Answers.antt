@@ -3,15 +3,15 @@ use Rattle.std.proofs.Math.Nat.{mul-le-mul_left, mul-lt-mul_of_pos_left}
 use Rattle.std.proofs.lemmas.Bool.{cases_lt}
 use Rattle.constriction_base.proofs.weights.rows.shift_for.Goals as goal
 
--- two bits more are four times as many
-four_times : (log : ℕ) → 2 ^ (log + 2) ≡ 4 * 2 ^ log
-four_times log = let split : 2 ^ (log + 2) ≡ 2 ^ log * 2 ^ 2 = pow-add 2 log 2 in omega (arith, split)
+-- three bits more are eight times as many
+eight_times : (log : ℕ) → 2 ^ (log + 3) ≡ 8 * 2 ^ log
+eight_times log = let split : 2 ^ (log + 3) ≡ 2 ^ log * 2 ^ 3 = pow-add 2 log 3 in omega (arith, split)
 
-few : (symbols log precision buckets bits : ℕ) → 2 ^ log ≤ symbols → buckets ≤ 2 → bits ≡ min (min precision (max (log + buckets) 1)) 63
-    → 2 ^ (precision - (precision - bits)) ≤ 4 * symbols
+few : (symbols log precision buckets bits : ℕ) → 2 ^ log ≤ symbols → buckets ≤ 3 → bits ≡ min (min precision (max (log + buckets) 1)) 63
+    → 2 ^ (precision - (precision - bits)) ≤ 8 * symbols
 few symbols log precision buckets bits least most is =
-    let within : precision - (precision - bits) ≤ log + 2 = omega (arith, is, most) in
-    omega (arith, least, four_times log, pow_mono within)
+    let within : precision - (precision - bits) ≤ log + 3 = omega (arith, is, most) in
+    omega (arith, least, eight_times log, pow_mono within)
 
 -- no more buckets than the symbols' shares
 shared : (symbols log precision buckets bits : ℕ) → 2 ^ log ≤ symbols → 1 ≤ precision → bits ≡ min (min precision (max (log + buckets) 1)) 63
