@@ -3,6 +3,7 @@
 from __future__ import annotations
 
 import copy
+import sys
 from collections.abc import Callable
 from operator import index
 from threading import RLock
@@ -13,10 +14,12 @@ from ._numbers import is_one
 from ._single import Lane
 from .stream.model._base import Model
 
-__all__ = ["Coder"]
+__all__ = ["CALLS", "Coder"]
 
 Found = TypeVar("Found")
 Self = TypeVar("Self", bound="Coder")
+#: The code of the functions that set a coder's ``_busy`` during a call. The coder is their ``coder`` or ``self``.
+CALLS = {Lane.encode.__code__, Lane.decode.__code__}
 
 
 def _restored(kind: Any, plain: tuple[Any, ...]) -> Any:
@@ -62,7 +65,7 @@ class Coder:
         If ``change`` raises an exception, the state is unchanged.
         """
         with self._lock:
-            if self._busy:
+            if self._busy and self._is_under_way():
                 raise RuntimeError(
                     "expected no call of the coder from inside its own call, got one, as from a model's function"
                 )
@@ -73,6 +76,19 @@ class Coder:
                 return found
             finally:
                 self._busy = False
+
+    def _is_under_way(self) -> bool:
+        """Returns whether a call of this coder is under way in this thread, which has the lock.
+
+        ``_busy`` alone doesn't say so: an exception of a trace function, or of a signal's handler in older versions of
+        Python, may come just before the end of a call resets it.
+        """
+        frame = sys._getframe(2)
+        while frame is not None:
+            if frame.f_code in CALLS and any(frame.f_locals.get(it) is self for it in ("self", "coder")):
+                return True
+            frame = frame.f_back  # type: ignore[assignment]
+        return "greenlet" in sys.modules  # Another greenlet's call isn't in the frames of this one.
 
     def _asked(self, ask: Callable[[Any], Found]) -> Found:
         """Returns the result of ``ask``, which reads the state and doesn't change it."""
@@ -154,3 +170,6 @@ class Coder:
 
     def __reduce__(self) -> tuple[Any, ...]:
         return _restored, (type(self), self._asked(self._plain)), self._extras() or None
+
+
+CALLS.add(Coder._changed.__code__)

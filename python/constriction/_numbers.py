@@ -27,6 +27,8 @@ _WANTED = "expected whole numbers, got {}: round them and convert them, as by ar
 #: The formats of memory that holds such numbers. No index of a table has more than 63 bits, so a sign doesn't matter.
 _ALIKE = {BYTE: ("B",), SHORT: ("H",), WORD: ("I", "L"), SYMBOL: ("q", "Q", "l", "L", "n", "N"), NUMBER: ("d",)}
 _FLOAT = frozenset((float,))
+#: numpy's kinds of numbers that ``float`` takes, but that aren't real numbers: complex ones, times and texts.
+_NO_REAL_KINDS = frozenset("cmMSUV")
 #: The greatest number of symbols of a list. These symbols would take 2^51 bytes.
 _MOST = 1 << 48
 
@@ -78,6 +80,8 @@ def real(number: Any) -> float:
     unmasked(number)
     if issubclass(kind, (str, bytes, bytearray)) or not (hasattr(kind, "__float__") or hasattr(kind, "__index__")):
         raise TypeError(f"expected a number, got {kind.__name__}")
+    if getattr(getattr(number, "dtype", None), "kind", "f") in _NO_REAL_KINDS:
+        raise TypeError(f"expected a real number, got {number.dtype}")
     try:
         return float(number)
     except OverflowError:

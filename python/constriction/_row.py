@@ -9,7 +9,9 @@ from struct import Struct
 from struct import error as OutOfRange
 from typing import Any
 
+from . import _buffers
 from ._buffers import NUMBER, room, seen_numpy
+from ._rounded import FLOATS
 from ._sizes import Size
 
 __all__ = [
@@ -47,19 +49,38 @@ def lent_for_good(memory: Any) -> tuple[Any, Any]:
 class _Floats:
     """Memory for a row of floats. ``width`` is the number of floats."""
 
+    #: The memory as an array of numpy, or None before the first row in such an array.
     _seen: Any = None
+    #: The model of the last row that was a numpy array, or None, and the form of this model, without a row.
+    of: Any = None
+    _order: Any = None
+    #: The C function that takes the floats, with its arguments.
+    _share: Any
 
     def __init__(self, width: int) -> None:
-        self.width, self._floats = width, room(NUMBER, width, array)
+        self.width, self._shape, self._floats = width, (width,), room(NUMBER, width, array)
 
-    def _put(self, row: Any) -> None:
-        """Copies a row of floats to this memory: an array of floats, or a numpy array."""
+    def take_floats(self, row: Any, of: Any, form: int) -> int:
+        """Takes a row of floats for a model: an array of floats, or a numpy array. Returns the result of the C function."""
         if type(row) is array:
             self._floats[:] = row
-            return
-        if self._seen is None:
-            self._seen = seen_numpy().frombuffer(self._floats, dtype="float64")
+        else:
+            if self._seen is None:
+                self._seen = seen_numpy().frombuffer(self._floats, dtype="float64")
+            self._seen[...] = row
+            self._order, self.of = (form, None, None), of
+        refused: int = self._share()
+        return refused
+
+    def take_again(self, given: tuple[Any, ...]) -> Any:
+        """Takes a row for the same model, if it is a numpy array like the last one. Returns the form, or otherwise None."""
+        row = given[0]
+        if type(row) is not _buffers.array_class or row.shape != self._shape or row.dtype.char not in FLOATS:
+            return None
+        if len(given) > 1:
+            return None
         self._seen[...] = row
+        return None if self._share() else self._order
 
 
 class Row(_Floats):
@@ -76,7 +97,7 @@ class Row(_Floats):
         super().__init__(width)
         self._size, self._weights = size, room(size.code, width, array)
         self.place = self._weights.buffer_info()[0]
-        self._share_floats = self._sharing("weights_of_floats", self._floats)
+        self._share = self._sharing("weights_of_floats", self._floats)
 
     def _sharing(self, name: str, numbers: array[Any]) -> Any:
         """Returns a C function that computes the weights of numbers, with its arguments."""
@@ -91,15 +112,6 @@ class Row(_Floats):
             self._counts = memory
         self._counts[:] = counts
         refused: int = self._share_counts()
-        return refused
-
-    def take_floats(self, row: Any) -> int:
-        """Computes the weights of a row of floats. Returns the result of the C function."""
-        if self._seen is None or type(row) is array:
-            self._put(row)
-        else:
-            self._seen[...] = row
-        refused: int = self._share_floats()
         return refused
 
 
@@ -117,13 +129,7 @@ class QuickRow(_Floats):
         self._counts, count = room("I", width, array), count_as_argument(width)
         self.place = self._counts.buffer_info()[0]
         lists = memory_of(self._floats), count, count, memory_of(self._counts), count
-        self._count = partial(size.short_function("counts_of_floats"), *lists)
-
-    def take_floats(self, row: Any) -> int:
-        """Computes the counts of a row of floats. Returns the result of the C function."""
-        self._put(row)
-        refused: int = self._count()
-        return refused
+        self._share = partial(size.short_function("counts_of_floats"), *lists)
 
 
 class Components:

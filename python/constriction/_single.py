@@ -133,7 +133,11 @@ class Lane:
                 coder._busy = True
                 if self.size is not LARGE:
                     model = model.at(self.size)
-                order = model.alone_by(given) if given else model._often or model.alone()
+                if given:
+                    row = self._taken
+                    order = row is not None and model is row.of and row.take_again(given) or model.alone_by(given)
+                else:
+                    order = model._often or model.alone()
                 if order is None:
                     return False
                 form, first, second = order
@@ -150,7 +154,9 @@ class Lane:
                     interval[1] = first[place + 1] - left
                 else:
                     self._place[0] = place
-                    if self._take(form, model, first, second):
+                    if form == UNITS and model is self._model:
+                        self._location.value, self._scale.value = first, second
+                    elif first is not None and self._take(form, model, first, second):
                         return False
                 encode = self._encoders[form] or self._bind(form, True)
                 if encode():
@@ -169,7 +175,11 @@ class Lane:
                 coder._busy = True
                 if self.size is not LARGE:
                     model = model.at(self.size)
-                order = model.alone_by(given) if given else model._often or model.alone()
+                if given:
+                    row = self._taken
+                    order = row is not None and model is row.of and row.take_again(given) or model.alone_by(given)
+                else:
+                    order = model._often or model.alone()
                 if order is None:
                     return None
                 form, first, second = order
@@ -184,7 +194,9 @@ class Lane:
                     three, left, end = self._three, first[place - 1], first[place]
                     three[0], three[1], three[2] = left, end - left, first[-1] - end
                     place -= 2
-                elif self._take(form, model, first, second):
+                elif form == UNITS and model is self._model:
+                    self._location.value, self._scale.value = first, second
+                elif first is not None and self._take(form, model, first, second):
                     return None
                 decode = self._decoders[form] or self._bind(form, False)
                 if decode():
@@ -198,16 +210,15 @@ class Lane:
     def _take(self, form: int, model: Any, first: Any, second: Any) -> int:
         """Takes the parameters of a symbol's model. Returns 0, or another number if they are refused."""
         if form == UNITS:
-            if model is not self._model:
-                self._take_family(model, model)
+            self._take_family(model, model)
             self._location.value, self._scale.value = first, second
             return 0
         if form == MIXED:
-            return self._take_components(model, first, second)
+            components = self._components
+            if components is None or components.width != second or model is not self._model:
+                components = self._take_components(model, second)
+            return components.take(first)
         width, row = len(first), self._taken
-        if form == FLOATS and row is not None and row.width == width and not row.is_quick:
-            refused: int = row.take_floats(first)
-            return refused
         if width > _MOST_WEIGHTS:
             return 1
         if form == ROW or form == COUNTS:
@@ -216,7 +227,7 @@ class Lane:
             return 0
         if row is None or row.width != width or row.is_quick is not (form == QUICK):
             row = self._take_width(width, form == QUICK)
-        refused = row.take_counts(first) if form == SHARED else row.take_floats(first)
+        refused: int = row.take_counts(first) if form == SHARED else row.take_floats(first, model, form)
         return refused
 
     def _take_width(self, width: int, is_quick: bool) -> Any:
@@ -236,8 +247,8 @@ class Lane:
         self._family.value, self._least.value, self._greatest.value = of._family, of._least, greatest
         self._model = model
 
-    def _take_components(self, model: Any, numbers: list[int], width: int) -> int:
-        """Takes components. Returns 1 if a number doesn't fit its type, and otherwise 0."""
+    def _take_components(self, model: Any, width: int) -> Components:
+        """Takes the family of a mixture, and the memory for so many components."""
         if model is not self._model:
             self._take_family(model, model._components)
         components = self._components
@@ -248,4 +259,4 @@ class Lane:
             for place, found in zip(places, components.places):
                 place.value = found
             self._components = components
-        return components.take(numbers)
+        return components

@@ -14,8 +14,8 @@ from ._sizes import Size
 from .errors import WrongWeightsError, shown
 
 __all__ = [
-    "FARTHEST", "MOST_WEIGHT", "NARROWEST", "SHARES", "UNITS_OF_ONE", "WIDEST", "component_weights_of", "counts_of_wholes", "halved", "locations_of",
-    "moved", "parts_of", "quick_units_of", "scales_of", "unit_of", "units_of", "wrong_probabilities", "wrong_row",
+    "FARTHEST", "MOST_WEIGHT", "NARROWEST", "SHARES", "UNITS_OF_ONE", "WIDEST", "component_weights_of", "components_of", "counts_of_wholes", "halved", "locations_of",
+    "moved", "parts_of", "quick_units_of", "scales_of", "unit_of", "wrong_probabilities", "wrong_row",
 ]  # fmt: skip
 
 #: The number of units in a location or a scale of 1.
@@ -155,21 +155,36 @@ def quick_units_of(floats: Any, least: float, greatest: float, kind: str) -> Any
     return seen_numpy().rint(table, table).astype(kind)
 
 
-def units_of(floats: Any, unit: float, origin: float = 0.0) -> list[int] | None:
-    """Returns a few floats minus ``origin``, in units, rounded like ``locations_of``, ``scales_of`` and the like.
-
-    Returns None if one isn't finite, or isn't a plain number. The result doesn't have the limits of those functions. A C
-    function refuses a scale of 0, and takes locations past their limit for the limit.
-    """
+def _plain(floats: Any) -> Any:
+    """Returns a list of floats, or None if ``floats`` isn't a list, a tuple or an array."""
     kind = type(floats)
-    if kind is not list and kind is not tuple:
-        if not hasattr(floats, "tolist"):
-            return None
-        floats = floats.tolist()
+    if kind is list or kind is tuple:
+        return floats
+    return floats.tolist() if hasattr(floats, "tolist") else None
+
+
+def components_of(given: tuple[Any, ...], origin: float = 0.0) -> tuple[list[int], int] | None:
+    """Returns a few weights, locations minus ``origin``, and scales, in units and in one list, and the number of each.
+
+    They are rounded like ``component_weights_of``, ``locations_of`` and ``scales_of`` do it, but without the limits. A C
+    function refuses a scale of 0, and takes locations past their limit for the limit. Returns None if a weight is
+    negative, if a number isn't finite or isn't a plain number, or if the lengths differ.
+    """
+    weights, locations, scales = given
+    if type(weights) is type(locations) is type(scales) is _buffers.array_class:
+        weights, locations, scales = weights.tolist(), locations.tolist(), scales.tolist()
+    else:
+        weights, locations, scales = map(_plain, given)
     try:
+        width = len(weights)
+        if width != len(locations) or width != len(scales):
+            return None
         if origin:
-            floats = [it - origin for it in floats]
-        return [_nearest(it * unit) for it in floats]
+            locations = [it - origin for it in locations]
+        numbers = [_nearest(it * SHARES) for it in weights]
+        numbers += [_nearest(it * UNITS_OF_ONE) for it in locations]
+        numbers += [_nearest(it * UNITS_OF_ONE) for it in scales]
+        return None if not width or min(weights) < 0 else (numbers, width)
     except (TypeError, ValueError, OverflowError):
         return None
 

@@ -4,8 +4,8 @@ from __future__ import annotations
 
 from array import array
 from collections.abc import Iterable, Iterator
-from ctypes import byref, c_size_t, sizeof
-from typing import Any, NamedTuple, SupportsIndex, TypeVar
+from ctypes import byref, c_size_t
+from typing import Any, SupportsIndex, TypeVar
 
 from .. import _buffers, errors
 from .._answers import AS_USUAL, shifted
@@ -19,28 +19,15 @@ from .._shapes import Shape, aligned, shape_of
 from .._sizes import LARGE, SMALL, Size
 from .._words import swapped
 from ..errors import ImpossibleSymbolError, NoSpaceError, Refusal, WrongLengthError, impossible_in_lane
+from ._batch import LENGTH, Batch, State
 from .model import Model
 
 __all__ = ["AnsCoders", "SmallAnsCoders"]
 
 Self = TypeVar("Self", bound="AnsCoders")
-#: The type of C's numbers of words.
-_LENGTH = "Q" if sizeof(c_size_t) == 8 else "I"
 
 
-class _State(NamedTuple):
-    """The heads, a row of ``width`` words for each coder, and the number of words that each coder has in use.
-
-    A call doesn't change heads and lengths, but makes new lists of them. It may change words that aren't in use.
-    """
-
-    heads: array[int]
-    words: Any
-    width: int
-    lens: array[int]
-
-
-def _widened(state: _State, width: int, size: Size) -> _State:
+def _widened(state: State, width: int, size: Size) -> State:
     """Returns an equal state with rows of ``width`` words."""
     words = room(size.code, len(state.heads) * width, OWN)
     new, old = memoryview(words), memoryview(state.words)
@@ -106,8 +93,8 @@ class AnsCoders(Coder):
         """Creates ``coders`` empty coders."""
         count = count_of(coders)
         size = self._size
-        heads, lens = array(size.code_of_states, (0,)) * count, array(_LENGTH, (0,)) * count
-        self._begin(_State(heads, room(size.code, 0, OWN), 0, lens))
+        heads, lens = array(size.code_of_states, (0,)) * count, array(LENGTH, (0,)) * count
+        self._begin(State(heads, room(size.code, 0, OWN), 0, lens))
 
     @classmethod
     def from_compressed(cls: type[Self], compressed: Iterable[List]) -> Self:
@@ -131,7 +118,7 @@ class AnsCoders(Coder):
             part = memoryview(state.words.memory)[: state.words.length]
             memoryview(words)[j * width : j * width + len(part)] = part
         heads = array(cls._size.code_of_states, (state.head for state in states))
-        it._state = _State(heads, words, width, array(_LENGTH, (state.words.length for state in states)))
+        it._state = State(heads, words, width, array(LENGTH, (state.words.length for state in states)))
         return it
 
     def encode_reverse(self, symbols: Any, model: Model, *parameters: Parameter) -> None:
@@ -143,9 +130,24 @@ class AnsCoders(Coder):
         Raises the exceptions of :meth:`AnsCoder.encode_reverse`, which name the symbol, its place in the row and the
         coder. After an error no coder is changed.
         """
+        if type(symbols) is _buffers.array_class:
+            if (self._lane or self._made_lane()).encode(self, symbols, model, parameters):
+                return
         self._changed(lambda state: (self._encoded(state, symbols, model, parameters), None))
 
-    def _encoded(self, state: _State, symbols: Any, model: Model, given: tuple[Any, ...]) -> _State:
+    def _made_lane(self) -> Any:
+        self._lane: Any = Batch(self._size, len(self))
+        return self._lane
+
+    def _copied(self) -> State:
+        """Returns the state at one time, with heads and lengths that no later call changes. Doesn't wait for a call."""
+        while True:
+            state: State = self._held
+            copied = state._replace(heads=state.heads[:], lens=state.lens[:])
+            if self._held is state:  # A call writes over heads and lengths only after another has replaced the state.
+                return copied
+
+    def _encoded(self, state: State, symbols: Any, model: Model, given: tuple[Any, ...]) -> State:
         if not isinstance(model, Model):
             model_wanted(model, symbols)
         model, coders = model.at(self._size), len(state.heads)
@@ -228,7 +230,7 @@ class AnsCoders(Coder):
             weights += some
         return (*listed(weights), width)
 
-    def _encode(self, kind: str, state: _State, count: int, arguments: tuple[Any, ...]) -> _State:
+    def _encode(self, kind: str, state: State, count: int, arguments: tuple[Any, ...]) -> State:
         coders = len(state.heads)
         while True:
             heads, lens, needed = state.heads[:], state.lens[:], c_size_t(0)
@@ -238,7 +240,7 @@ class AnsCoders(Coder):
             except NoSpaceError:
                 state = _widened(state, max(needed.value, 2 * state.width, 4), self._size)
                 continue
-            return _State(heads, state.words, state.width, lens)
+            return State(heads, state.words, state.width, lens)
 
     def decode(self, model: Model, *parameters: Any, amt: SupportsIndex | None = None) -> Answer:
         """Decodes a symbol from each coder, ``amt`` symbols from each, or one for each set of parameters.
@@ -247,6 +249,10 @@ class AnsCoders(Coder):
         or ``(n, T)``, and the answer has this shape. Without numpy the answer for ``(n, T)`` is a flat list of ``n``
         rows.
         """
+        if amt is None and _buffers.array_class is not None and len(parameters) != 1:
+            symbols: Any = (self._lane or self._made_lane()).decode(self, model, parameters)
+            if symbols is not None:
+                return symbols  # type: ignore[no-any-return]
         if len(parameters) == 1 and amt is None and isinstance(model, Model) and not model.missing:
             # A model of a function may have parameters or none. A single whole number is then a number of symbols.
             if model.complete or is_whole(parameters[0]):
@@ -255,7 +261,7 @@ class AnsCoders(Coder):
             raise TypeError("expected parameters or a number of symbols, got both")
         return self._changed(lambda state: self._decoded(state, model, parameters, amt))  # type: ignore[no-any-return]
 
-    def _decoded(self, state: _State, model: Model, given: tuple[Any, ...], amt: Any) -> tuple[_State, Any]:
+    def _decoded(self, state: State, model: Model, given: tuple[Any, ...], amt: Any) -> tuple[State, Any]:
         if not isinstance(model, Model):
             model_wanted(model)
         model, coders = model.at(self._size), len(state.heads)
@@ -278,7 +284,7 @@ class AnsCoders(Coder):
             return state, symbols if len(shape) == 1 else symbols.reshape(shape)
         return state, AS_USUAL.given(symbols, shape if numpy_shaped(symbols) else shape[:1])
 
-    def _decoded_by(self, state: _State, model: Model, given: Any, shape: Shape) -> tuple[_State, Any]:
+    def _decoded_by(self, state: State, model: Model, given: Any, shape: Shape) -> tuple[State, Any]:
         """Returns the state after a decode of a symbol for each set of parameters, and the symbols."""
         count = shape[0] * (shape[1] if len(shape) == 2 else 1)
         if model.has_rows:
@@ -292,7 +298,7 @@ class AnsCoders(Coder):
             return self._decode(located.form, state, (*models, *listed(symbols))), symbols
         return self._decoded_one_by_one(state, model, given, count)
 
-    def _decoded_one_by_one(self, state: _State, model: Model, given: Any, count: int) -> tuple[_State, Any]:
+    def _decoded_one_by_one(self, state: State, model: Model, given: Any, count: int) -> tuple[State, Any]:
         """Does the same for models that are functions of Python: one symbol of each coder at a time."""
         sets, coders = model.parameters(given), len(state.heads)
         symbols, time = room(SYMBOL, count, ANSWER), count // max(coders, 1)
@@ -308,11 +314,11 @@ class AnsCoders(Coder):
                 symbols[j * time + t] = first[j] + some[j] - 1
         return state, symbols
 
-    def _decode(self, kind: str, state: _State, arguments: tuple[Any, ...]) -> _State:
+    def _decode(self, kind: str, state: State, arguments: tuple[Any, ...]) -> State:
         heads, lens = state.heads[:], state.lens[:]
         lead = *heads.buffer_info(), lent(state.words), len(heads) * state.width, *lens.buffer_info()
         self._size.function(f"ans_lanes_decode{kind}")(*lead, *arguments)
-        return _State(heads, state.words, state.width, lens)
+        return State(heads, state.words, state.width, lens)
 
     def __len__(self) -> int:
         """Returns the number of coders."""
@@ -336,7 +342,7 @@ class AnsCoders(Coder):
         it._state = it._unplain((data, head, len(data) // (self._size.bits // 8)))
         return it
 
-    def _plain_lane(self, state: _State, j: int) -> tuple[Any, ...]:
+    def _plain_lane(self, state: State, j: int) -> tuple[Any, ...]:
         """Returns the plain state of an :class:`AnsCoder` with the head and the words of coder ``j``."""
         start, length = j * state.width, state.lens[j]
         part = array(self._size.code, memoryview(state.words)[start : start + length].tobytes())
@@ -349,31 +355,31 @@ class AnsCoders(Coder):
 
     def num_words(self) -> int:
         """Returns the number of words that ``get_compressed`` returns, of all coders together."""
-        state: _State = self._state
+        state = self._copied()
         return sum(state.lens) + sum((it.bit_length() + self._size.bits - 1) // self._size.bits for it in state.heads)
 
     def is_empty(self) -> bool:
         """Returns whether no coder has words, and each head is 0."""
-        state: _State = self._state
+        state = self._copied()
         return not any(state.heads) and not any(state.lens)
 
     def clear(self) -> None:
         """Removes all symbols of all coders."""
 
-        def cleared(state: _State) -> tuple[_State, None]:
+        def cleared(state: State) -> tuple[State, None]:
             coders = len(state.heads)
-            heads, lens = array(self._size.code_of_states, (0,)) * coders, array(_LENGTH, (0,)) * coders
+            heads, lens = array(self._size.code_of_states, (0,)) * coders, array(LENGTH, (0,)) * coders
             return state._replace(heads=heads, lens=lens), None
 
         self._changed(cleared)
 
-    def _said(self, state: _State) -> str:
-        return f"{len(state.heads)} coders with {sum(state.lens)} words"
+    def _said(self, state: State) -> str:
+        return f"{len(state.heads)} coders with {sum(self._copied().lens)} words"
 
-    def _plain(self, state: _State) -> tuple[Any, ...]:
+    def _plain(self, state: State) -> tuple[Any, ...]:
         return tuple(self._plain_lane(state, j) for j in range(len(state.heads)))
 
-    def _unplain(self, plain: tuple[Any, ...]) -> _State:
+    def _unplain(self, plain: tuple[Any, ...]) -> State:
         size = self._size
         lanes = [array(size.code, data) for data, _ in plain]
         width = max(map(len, lanes), default=0)
@@ -381,7 +387,7 @@ class AnsCoders(Coder):
         for j, lane in enumerate(lanes):
             memoryview(words)[j * width : j * width + len(lane)] = memoryview(swapped(lane))
         heads = array(size.code_of_states, (head for _, head in plain))
-        return _State(heads, words, width, array(_LENGTH, map(len, lanes)))
+        return State(heads, words, width, array(LENGTH, map(len, lanes)))
 
 
 def numpy_shaped(symbols: Any) -> bool:

@@ -9,7 +9,7 @@ from typing import Any, NamedTuple
 
 from ..._buffers import lent
 from ..._numbers import grid_of
-from ..._units import SHARES, UNITS_OF_ONE, component_weights_of, locations_of, moved, scales_of, units_of, wrong_row
+from ..._units import component_weights_of, components_of, locations_of, moved, scales_of, wrong_row
 from ...errors import Refusal, WrongLengthError, WrongWeightsError
 from ._base import MIXED, Model, shown_range
 from ._quantized import _Quantized
@@ -101,15 +101,8 @@ class QuantizedMixture(Model):
     def alone_by(self, given: tuple[Any, ...]) -> tuple[int, Any, Any] | None:
         if len(given) != 3:
             return None
-        weights = units_of(given[0], SHARES)
-        locations = units_of(given[1], UNITS_OF_ONE, self._components._origin)
-        scales = units_of(given[2], UNITS_OF_ONE)
-        if not weights or locations is None or scales is None or not len(weights) == len(locations) == len(scales):
-            return None
-        least = min(weights)
-        if least < 0 or not least and min(given[0]) < 0:
-            return None
-        return MIXED, weights + locations + scales, len(weights)
+        found = components_of(given, self._components._origin)
+        return None if found is None else (MIXED, *found)
 
     def explained(self, refused: Refusal, given: Sequence[Any]) -> Refusal:
         """Returns the exception with a text that names the symbol whose weights have a wrong sum."""
