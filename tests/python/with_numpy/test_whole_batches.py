@@ -66,7 +66,9 @@ class Batches(unittest.TestCase):
                     given: tuple[Any, ...] = ()
                     if model.missing:
                         means = dice.normal(0, 30, count).astype(("float64", "float32", ">f8")[step % 3])
-                        stds = numpy.exp(dice.normal(0, 3, count)).astype(("float32", "float64")[step % 2])
+                        stds = (
+                            numpy.exp(dice.normal(0, 3, count)).clip(0, 60000).astype(("float32", "float64")[step % 2])
+                        )
                         given = means, (stds if step % 4 else float(stds[0]))
                     kind = numpy.dtype(TYPES[dice.integers(len(TYPES))])
                     least = max(model.first, numpy.iinfo(kind).min)
