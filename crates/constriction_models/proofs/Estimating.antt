@@ -159,9 +159,9 @@ estimates_rounded xs es ws limit mass rest all bound lift total some any parts e
     let long : length es ≡ length xs = ap length es_is ∙ length-map xs (estimate limit mass rest) in
     are_rounded xs ws limit mass rest all bound some any (ap length ws_is ∙ (length-map es (rounded lift) ∙ long)) (ap sum ws_is ∙ (sum_of_map (rounded lift) es ∙ (sym total_is ∙ all_is)))
     (λ k h.
-        let here : slice_index es k ≡ estimate limit mass rest (slice_index xs k) = ap (λ l. slice_index l k) es_is ∙ get_or-map (estimate limit mass rest) xs k 0 0 h in
-        let made : slice_index ws k ≡ rounded lift (slice_index es k) = ap (λ l. slice_index l k) ws_is ∙ get_or-map (rounded lift) es k 0 0 (omega (arith, h, long)) in
-        made ∙ (ap (rounded lift) here ∙ rounded_is limit mass rest bound lift (slice_index xs k) some parts (words k) (rw here at (clear k (omega (arith, h, long))))))
+    let here : slice_index es k ≡ estimate limit mass rest (slice_index xs k) = ap (λ l. slice_index l k) es_is ∙ get_or-map (estimate limit mass rest) xs k 0 0 h in
+    let made : slice_index ws k ≡ rounded lift (slice_index es k) = ap (λ l. slice_index l k) ws_is ∙ get_or-map (rounded lift) es k 0 0 (omega (arith, h, long)) in
+    made ∙ (ap (rounded lift) here ∙ rounded_is limit mass rest bound lift (slice_index xs k) some parts (words k) (rw here at (clear k (omega (arith, h, long))))))
 
 pub estimates_fit : (xs es : List ℕ) (limit mass rest : ℕ) → es ≡ map (estimate limit mass rest) xs → sum_by (kept limit) xs ≤ rest → mass ≤ 2147483648 → (k : ℕ) → k < length es → slice_index es k ≤ 9223372041149743104
 estimates_fit xs es limit mass rest es_is within small k h =

@@ -499,3 +499,33 @@ is_none xs most is h = no_units xs (sym is ∙ h)
 
 pub is_some : (xs : List ℕ) (most : ℕ) → most ≡ greatest_bits xs → 0 < most → 0 < greatest_units xs
 is_some xs most is h = some_units xs (omega (arith, is, h))
+
+-- ---- a table of powers of two
+unfoldable pub falling : ℕ → ℕ → List ℕ
+falling zero m = []
+falling (suc n) m = 2 ^ m ∷ falling n (m - 1)
+
+pub falling_at : (n m k : ℕ) → k < n → get_or (falling n m) k 0 ≡ 2 ^ (m - k)
+unfolding falling
+falling_at zero m k h = absurd (omega arith)
+falling_at (suc n) m zero h = ap (λ (e : ℕ). 2 ^ e) (omega arith)
+falling_at (suc n) m (suc k) h = falling_at n (m - 1) k (omega arith) ∙ ap (λ (e : ℕ). 2 ^ e) (omega arith)
+
+-- a product in place of a shift
+pub nearest_product : (n t h product : ℕ) → t ≤ 63 → h ≡ 2 ^ (63 - t) → product ≡ 2 * n * h → (product + 9223372036854775807 + product / 18446744073709551616 % 2) / 18446744073709551616 ≡ nearest n (2 ^ t)
+nearest_product n t h product few is product_is =
+    let d : ℕ = 2 ^ t in
+    let some : 0 < h = rw is (pow_pos (63 - t)) in
+    let top : t + (63 - t) ≡ 63 = omega arith in
+    let all : d * h ≡ 9223372036854775808 = ap (λ (x : ℕ). d * x) is ∙ (sym (pow-add 2 t (63 - t)) ∙ ap (λ (e : ℕ). 2 ^ e) top) in
+    let scaled : nearest (n * h) 9223372036854775808 ≡ nearest n d = ap (nearest (n * h)) (sym all) ∙ nearest_scaled n d h some (pow_pos t) in
+    let twice : product ≡ 2 * (n * h) = product_is ∙ omega arith in
+    rw (← scaled) (rw (← nearest_sum (n * h) 9223372036854775808 (omega arith)) (omega (arith, twice)))
+
+-- the sign of a float that is at most a finite one is that of negative zero, if any
+pub sign_cleared : (most bits lift rise float : ℕ) → IsScale most bits lift rise → float_bits float ≤ most → float % 9223372036854775808 ≡ float_bits float
+unfolding float_bits
+sign_cleared most bits lift rise float s within = cleared s.finite within
+  where
+    cleared : most < 2047 * 2 ^ 52 → float_bits float ≤ most → float % 9223372036854775808 ≡ float_bits float
+    cleared finite low = grind (arith, nat_tests)

@@ -6,7 +6,7 @@
 //! - `counts_of_floats` computes the counts for [`weights_of_counts`](crate::counts::weights_of_counts).
 //! - `put_quick_counts` computes the counts for [`CategoricalCounts`](crate::categorical::CategoricalCounts).
 
-ghost use Rattle.std.specs.Prelude.{◌≡◌, ℕ, ◌*◌, ◌^◌, ◌<◌, ◌≤◌, ◌↔◌, true, false, length, IfOk, IfErr, IsErrOf};
+ghost use Rattle.std.specs.Prelude.{◌≡◌, ℕ, ◌-◌, ◌*◌, ◌^◌, ◌<◌, ◌≤◌, ◌↔◌, true, false, length, IfOk, IfErr, IsErrOf};
 ghost use Rattle.std.specs.List.{list_all, sum};
 ghost use Rattle.constriction_models.specs.Categorical.{MakeCategorical};
 ghost use Rattle.constriction_models.specs.Floats.{float_bits, is_probability, significand, exponent, units, nearest};
@@ -25,6 +25,27 @@ const INFINITY: u64 = 9218868437227405312;
 
 /// The bits of negative zero.
 const NEGATIVE_ZERO: u64 = 9223372036854775808;
+
+/// `2^(63 - places)` for each number of places from 0 to 63.
+#[rattlefmt::skip]
+static POWERS: [u64; 64] = [
+    0x8000000000000000, 0x4000000000000000, 0x2000000000000000, 0x1000000000000000,
+    0x0800000000000000, 0x0400000000000000, 0x0200000000000000, 0x0100000000000000,
+    0x0080000000000000, 0x0040000000000000, 0x0020000000000000, 0x0010000000000000,
+    0x0008000000000000, 0x0004000000000000, 0x0002000000000000, 0x0001000000000000,
+    0x0000800000000000, 0x0000400000000000, 0x0000200000000000, 0x0000100000000000,
+    0x0000080000000000, 0x0000040000000000, 0x0000020000000000, 0x0000010000000000,
+    0x0000008000000000, 0x0000004000000000, 0x0000002000000000, 0x0000001000000000,
+    0x0000000800000000, 0x0000000400000000, 0x0000000200000000, 0x0000000100000000,
+    0x0000000080000000, 0x0000000040000000, 0x0000000020000000, 0x0000000010000000,
+    0x0000000008000000, 0x0000000004000000, 0x0000000002000000, 0x0000000001000000,
+    0x0000000000800000, 0x0000000000400000, 0x0000000000200000, 0x0000000000100000,
+    0x0000000000080000, 0x0000000000040000, 0x0000000000020000, 0x0000000000010000,
+    0x0000000000008000, 0x0000000000004000, 0x0000000000002000, 0x0000000000001000,
+    0x0000000000000800, 0x0000000000000400, 0x0000000000000200, 0x0000000000000100,
+    0x0000000000000080, 0x0000000000000040, 0x0000000000000020, 0x0000000000000010,
+    0x0000000000000008, 0x0000000000000004, 0x0000000000000002, 0x0000000000000001,
+];
 
 /// The error of computing counts from floats.
 ///
@@ -97,7 +118,7 @@ impl Scale {
         ensures count { result ≡ float_count (binary_length 2098 (units self.now.most)) self.now.bits float }
         ensures fits { result ≤ 2 ^ self.now.bits }
     {
-        let bits = clear_zero_sign(float);
+        let bits = float % NEGATIVE_ZERO;
         let lifted = read_significand(bits) << self.lift;
         let places = (self.rise - read_exponent(bits)).min(63);
         shift_to_nearest(lifted, places)
@@ -158,15 +179,26 @@ fn read_exponent(bits: u64) -> u64
 
 /// Returns `number / 2^places`, rounded to the nearest whole number, half to even.
 ///
-/// The caller proves that the number is below `2^62`.
+/// The caller proves that the number is below `2^62`. A product moves the number down: on x86-64, this takes fewer
+/// instructions than the shifts.
 #[inline]
 fn shift_to_nearest(number: u64, places: u64) -> u64
     requires small { number < 2 ^ 62 }
     requires few { places ≤ 63 }
     ensures { result ≡ nearest number (2 ^ places) }
 {
-    let odd = (number >> places) % 2;
-    ((2 * number + ((1u64 << places) - 1) + odd) >> places) / 2
+    let product = (2 * number) as u128 * falling_power(places) as u128;
+    let odd = (product >> 64) % 2;
+    ((product + 0x7fff_ffff_ffff_ffff + odd) >> 64) as u64
+}
+
+/// Returns `2^(63 - places)`, from a table. The caller proves that `places` is at most 63.
+#[inline]
+fn falling_power(places: u64) -> u64
+    requires { places ≤ 63 }
+    ensures { result ≡ 2 ^ (63 - places) }
+{
+    POWERS[places as usize]
 }
 
 /// Returns the bits of the greatest float, or 0 if there are no floats.
