@@ -24,6 +24,8 @@ const ONE: u64 = 4294967296;
 struct Estimates {
     shares: Vec<u64>,
     bucket: u64,
+    /// The number of fractions in the bucket.
+    room: usize,
     wanted: u64,
 }
 
@@ -77,34 +79,40 @@ impl Share {
         let (bucket, wanted) = bucket_reaching(&held, all.wrapping_sub(total));
         Ok(Estimates {
             shares,
-            bucket,
+            bucket: bucket as u64,
+            room: held[bucket] as usize,
             wanted,
         })
     }
 
-    /// Returns the weights if estimates of the shares decide them, and otherwise `None`.
+    /// Returns the weights if estimates of the shares decide them, and the bucket of the smallest fraction to round up
+    /// with the number of fractions in it.
     ///
-    /// Estimates don't decide between equal remainders. The call returns `Err(AllocError)` if there is no memory.
+    /// Estimates don't decide between equal remainders. The weights are `None` then. If no estimates were made, the
+    /// bucket is `None` too. The call returns `Err(AllocError)` if there is no memory.
     pub(super) fn round_estimates(
         &self,
         alloc: Global,
         counts: &[u64],
         all: u64,
-    ) -> Result<Option<Vec<u32>>, AllocError>
+    ) -> Result<(Option<Vec<u32>>, Option<(u64, usize)>), AllocError>
         requires { sum_by (kept self.now.limit) counts.now ≤ self.now.rest }
-        ensures { IfOk result (λ found. IfSome found
+        ensures { IfOk result (λ found. IfSome found.0
             (λ w. AreRounded counts.now self.now.limit self.now.mass self.now.rest all w.items)) }
     {
         if self.rate > 0xffff_ffff_ffff_ffff || counts.len() > 0x7fff_ffff {
-            return Ok(None);
+            return Ok((None, None));
         }
         let estimates = self.estimates(alloc, counts, self.rate as u64, all)?;
         let bound = find_bound(alloc, &estimates)?;
+        if bound == 0 {
+            return Ok((None, Some((estimates.bucket, estimates.room))));
+        }
         let made = round_all(alloc, &estimates.shares, ONE - bound)?;
         if made.clear && made.total == all {
-            return Ok(Some(made.weights));
+            return Ok((Some(made.weights), None));
         }
-        Ok(None)
+        Ok((None, Some((estimates.bucket, estimates.room))))
     }
 }
 
@@ -112,11 +120,14 @@ impl Share {
 /// of the `count` largest fractions are in this bucket.
 ///
 /// If all buckets together hold fewer than `count` fractions, the call returns bucket 0.
-fn bucket_reaching(held: &[u64], count: u64) -> (u64, u64) {
+fn bucket_reaching(held: &[u64], count: u64) -> (usize, u64)
+    requires { 0 < length held.now }
+    ensures { result.0 < length held.now }
+{
     let mut wanted = count;
     for bucket in (0..held.len()).rev() {
         if held[bucket] >= wanted {
-            return (bucket as u64, wanted);
+            return (bucket, wanted);
         }
         wanted -= held[bucket];
     }
@@ -124,13 +135,18 @@ fn bucket_reaching(held: &[u64], count: u64) -> (u64, u64) {
 }
 
 /// Returns the smallest fraction to round up, or 1 (in the unit of the estimates) if no fraction is to be rounded up.
+///
+/// If equal fractions are on both sides, or the bucket has so many fractions that this is likely, returns 0.
 fn find_bound(alloc: Global, estimates: &Estimates) -> Result<u64, AllocError>
-    ensures { IfOk result (λ bound. (1 ≤ bound) × (bound ≤ 2 ^ 32)) }
+    ensures { IfOk result (λ bound. bound ≤ 2 ^ 32) }
 {
     if estimates.wanted == 0 {
         return Ok(ONE);
     }
-    let mut near = Vec::new(alloc);
+    if estimates.room > estimates.shares.len() / 64 + 4 {
+        return Ok(0);
+    }
+    let mut near = Vec::with_capacity(alloc, estimates.room)?;
     for share in &estimates.shares {
         if (*share >> 24) % 256 == estimates.bucket {
             near.push((*share % ONE) as u32)?;
@@ -139,16 +155,21 @@ fn find_bound(alloc: Global, estimates: &Estimates) -> Result<u64, AllocError>
     Ok(largest(&mut near, estimates.wanted))
 }
 
-/// Returns the smallest of the `count` largest fractions, but at least 1. If `count` exceeds the number of fractions,
-/// returns 1.
+/// Returns the smallest of the `count` largest fractions, but at least 1. If another fraction is equal, or `count`
+/// isn't from 1 to the number of fractions, returns 0.
 fn largest(fractions: &mut [u32], count: u64) -> u64
-    ensures { (1 ≤ result) × (result ≤ 2 ^ 32) }
+    ensures { result ≤ 2 ^ 32 }
 {
     if count == 0 || count > fractions.len() as u64 {
-        return 1;
+        return 0;
     }
     let first = fractions.len() - count as usize;
-    let (_, fraction, _) = fractions.select_nth_unstable(first);
+    let (smaller, fraction, _) = fractions.select_nth_unstable(first);
+    for other in smaller {
+        if *other == *fraction {
+            return 0;
+        }
+    }
     (*fraction as u64).max(1)
 }
 

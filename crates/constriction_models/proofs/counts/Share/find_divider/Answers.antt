@@ -12,21 +12,21 @@ returns-then-left-eq0 c =
 pub returns-then-left-near-clause-divides : goal.returns-then-left-near-clause-divides
 returns-then-left-near-clause-divides c =
     let s = c.args.self.now in
-    let b = c.bucket-low.ensures in
+    let b = c.range-low.ensures in
     let near = c.in_ok-near.near in
-    let are : AreBetween c.bucket-low.result.0 c.bucket-low.result.1 c.args.overs.now near.measures.items = are_between c.args.overs.now near.measures.items c.bucket-low.result.0 c.bucket-low.result.1 near.above c.in_ok-near.ensures.above c.in_ok-near.ensures.count c.in_ok-near.ensures.parts in
+    let are : AreBetween c.range-low.result.0 c.range-low.result.1 c.args.overs.now near.measures.items = are_between c.args.overs.now near.measures.items c.range-low.result.0 c.range-low.result.1 near.above c.in_ok-near.ensures.above c.in_ok-near.ensures.count c.in_ok-near.ensures.parts in
     let long : c.args.left ≤ near.above + length near.measures.items = grind (arith, common_steps) in
-    let d = divider_in c.args.overs.now near.measures.items s.rest c.bucket-low.result.0 c.bucket-low.result.1 c.args.left near.above c.divider.result.least c.divider.result.ties b.0 b.1 b.2 are c.in_ok-near.ensures.above c.if-near-left.true long c.divider.ensures.enough c.divider.ensures.tied c.divider.ensures.tie in
+    let d = divider_in c.args.overs.now near.measures.items s.rest c.range-low.result.0 c.range-low.result.1 c.args.left near.above c.divider.result.least c.divider.result.ties b.0 b.1 b.2 are c.in_ok-near.ensures.above c.if-near-left.true long c.divider.ensures.enough c.divider.ensures.tied c.divider.ensures.tie in
     d.separates
 
 pub returns-then-left-near-clause-tie : goal.returns-then-left-near-clause-tie
 returns-then-left-near-clause-tie c =
     let s = c.args.self.now in
-    let b = c.bucket-low.ensures in
+    let b = c.range-low.ensures in
     let near = c.in_ok-near.near in
-    let are : AreBetween c.bucket-low.result.0 c.bucket-low.result.1 c.args.overs.now near.measures.items = are_between c.args.overs.now near.measures.items c.bucket-low.result.0 c.bucket-low.result.1 near.above c.in_ok-near.ensures.above c.in_ok-near.ensures.count c.in_ok-near.ensures.parts in
+    let are : AreBetween c.range-low.result.0 c.range-low.result.1 c.args.overs.now near.measures.items = are_between c.args.overs.now near.measures.items c.range-low.result.0 c.range-low.result.1 near.above c.in_ok-near.ensures.above c.in_ok-near.ensures.count c.in_ok-near.ensures.parts in
     let long : c.args.left ≤ near.above + length near.measures.items = grind (arith, common_steps) in
-    let d = divider_in c.args.overs.now near.measures.items s.rest c.bucket-low.result.0 c.bucket-low.result.1 c.args.left near.above c.divider.result.least c.divider.result.ties b.0 b.1 b.2 are c.in_ok-near.ensures.above c.if-near-left.true long c.divider.ensures.enough c.divider.ensures.tied c.divider.ensures.tie in
+    let d = divider_in c.args.overs.now near.measures.items s.rest c.range-low.result.0 c.range-low.result.1 c.args.left near.above c.divider.result.least c.divider.result.ties b.0 b.1 b.2 are c.in_ok-near.ensures.above c.if-near-left.true long c.divider.ensures.enough c.divider.ensures.tied c.divider.ensures.tie in
     d.tied
 
 pub divider-requires-2-clause-above : goal.divider-requires-2-clause-above

@@ -13,4 +13,4 @@ returns-then-made-all c =
     let s = c.args.self.now in
     let made = c.in_ok-made.made in
     let is = c.in_ok-made.ensures in
-    estimates_rounded c.args.counts.now c.deref.result.now made.weights.items s.limit s.mass s.rest c.args.all c.in_ok-bound.bound (4294967296 - c.in_ok-bound.bound) made.total s.some c.in_ok-bound.ensures.0 (omega (arith, c.in_ok-bound.ensures.1)) (c.deref.ensures.value ∙ c.in_ok-estimates.ensures) is.weights is.total c.if-made-all.true (is.clear c.if-made.true) (λ k. omega (arith, c.type_inv.counts k))
+    estimates_rounded c.args.counts.now c.deref.result.now made.weights.items s.limit s.mass s.rest c.args.all c.in_ok-bound.bound (4294967296 - c.in_ok-bound.bound) made.total s.some (omega (arith, c.if-bound-eq0.false)) (omega (arith, c.in_ok-bound.ensures)) (c.deref.ensures.value ∙ c.in_ok-estimates.ensures) is.weights is.total c.if-made-all.true (is.clear c.if-made.true) (λ k. omega (arith, c.type_inv.counts k))
