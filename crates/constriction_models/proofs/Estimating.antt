@@ -1,4 +1,4 @@
--- Shares rounded by estimates are rounded as the remainders want.
+-- Shares rounded_share by estimates are rounded_share as the remainders want.
 use Rattle.std.specs.Prelude.{◌≡◌, ℕ, ◌+◌, ◌-◌, ◌*◌, ◌/◌, ◌%◌, ◌<◌, ◌≤◌, List, [], ◌∷◌, length, slice_index, map, take, cond, nat_le, nat_eq, IsTrue, Bool, true, false}
 use Rattle.std.proofs.Math.Bool.{◌&&◌, not}
 use Rattle.std.specs.List.{sum_by, sum}
@@ -9,7 +9,7 @@ use Rattle.std.proofs.lemmas.Bool.Decides.{nat_tests}
 use Rattle.std.proofs.lemmas.Nat.{mod_below, div-add-mod'}
 use Rattle.std.proofs.lemmas.List.Sums.{sum_by-cons, get_or-le-sum_by, sum_by_more_le}
 use Rattle.std.proofs.lemmas.List.{get_or-map, length-map}
-use Rattle.constriction_models.specs.Counts.{raised, kept, whole, over, some_over, estimate, rounded, AreRounded}
+use Rattle.constriction_models.specs.Counts.{raised, kept, whole, over, some_over, share_estimate, rounded_share, AreRounded}
 use Rattle.constriction_models.proofs.Sharing.{some_over_yes, divided_whole, divided_over, raised_few, kept_le, sum_within}
 use Rattle.constriction_models.proofs.Dividing.{IsNear, is_near, near_fits}
 
@@ -28,11 +28,11 @@ stays_clear xs lift i clear before h =
     let is = both clear _ h in
     below_more (λ k. (slice_index xs k + lift) % 4294967296 < 4294967295) i (before is.0) (is_clear ((slice_index xs i + lift) % 4294967296) (omega arith) is.1)
 
-pub total_fits : (xs : List ℕ) (lift i : ℕ) → lift < 4294967296 → ((k : ℕ) → k < length xs → slice_index xs k ≤ 9223372041149743104) → length xs < 2147483648 → i < length xs → sum_by (rounded lift) (take i xs) + rounded lift (slice_index xs i) < 18446744073709551616
-unfolding rounded
+pub total_fits : (xs : List ℕ) (lift i : ℕ) → lift < 4294967296 → ((k : ℕ) → k < length xs → slice_index xs k ≤ 9223372041149743104) → length xs < 2147483648 → i < length xs → sum_by (rounded_share lift) (take i xs) + rounded_share lift (slice_index xs i) < 18446744073709551616
+unfolding rounded_share
 total_fits xs lift i low fit short inside =
-    let all : sum_by (rounded lift) xs ≤ length xs * 4294967295 = sum_within (rounded lift) 4294967295 xs (λ k h. omega (arith, fit k h, low)) in
-    omega (arith, sum_by_more_le (rounded lift) xs i 0 inside, all, short)
+    let all : sum_by (rounded_share lift) xs ≤ length xs * 4294967295 = sum_within (rounded_share lift) 4294967295 xs (λ k h. omega (arith, fit k h, low)) in
+    omega (arith, sum_by_more_le (rounded_share lift) xs i 0 inside, all, short)
 
 -- ---- the fractions that reach the bound
 -- 1 if the fraction of a count's share is at least `bound` in units of 2^-32
@@ -64,14 +64,14 @@ between w q rest r b some low fits from below = (above, under)
         let least : q * rest < (w + 1) * rest = omega (arith, below, fits) in
         omega (arith, lt_of_mul-lt-mul_right rest most, lt_of_mul-lt-mul_right rest least)
 
--- ---- one estimate
+-- ---- one share_estimate
 estimate_near : (c mass rest rate : ℕ) → 0 < rest → c < 18446744073709551616 → rate ≡ mass * 79228162514264337593543950336 / rest → IsNear c (mass * 4294967296) rest (c * rate / 18446744073709551616)
 estimate_near c mass rest rate some fits rate_is =
     let unit : mass * 79228162514264337593543950336 ≡ mass * 4294967296 * 18446744073709551616 = omega arith in
     is_near 18446744073709551616 c (mass * 4294967296) rest rate (c * rate / 18446744073709551616) some (omega arith) (omega (arith, fits)) (rate_is ∙ ap (λ x. x / rest) unit) refl
 
-pub estimate_of : (limit mass rest c part few rate : ℕ) → part ≡ kept limit c → few ≡ raised limit c → rate ≡ mass * 79228162514264337593543950336 / rest → part * rate / 18446744073709551616 + few * 4294967296 ≡ estimate limit mass rest c
-unfolding estimate
+pub estimate_of : (limit mass rest c part few rate : ℕ) → part ≡ kept limit c → few ≡ raised limit c → rate ≡ mass * 79228162514264337593543950336 / rest → part * rate / 18446744073709551616 + few * 4294967296 ≡ share_estimate limit mass rest c
+unfolding share_estimate
 estimate_of limit mass rest c part few rate part_is few_is rate_is = rw (part_is, few_is, rate_is) refl
 
 pub product_fits : (c mass rest rate : ℕ) → c ≤ rest → rate ≡ mass * 79228162514264337593543950336 / rest → mass ≤ 2147483648 → c * rate / 18446744073709551616 ≤ 9223372036854775808
@@ -79,12 +79,12 @@ product_fits c mass rest rate within rate_is small =
     let unit : mass * 79228162514264337593543950336 ≡ mass * 4294967296 * 18446744073709551616 = omega arith in
     omega (arith, small, near_fits 18446744073709551616 c (mass * 4294967296) rest rate (c * rate / 18446744073709551616) (omega arith) within (rate_is ∙ ap (λ x. x / rest) unit) refl)
 
-pub estimate_fits : (limit mass rest c : ℕ) → kept limit c ≤ rest → mass ≤ 2147483648 → estimate limit mass rest c ≤ 9223372041149743104
+pub estimate_fits : (limit mass rest c : ℕ) → kept limit c ≤ rest → mass ≤ 2147483648 → share_estimate limit mass rest c ≤ 9223372041149743104
 estimate_fits limit mass rest c within small =
     let rate : ℕ = mass * 79228162514264337593543950336 / rest in
     omega (arith, sym (estimate_of limit mass rest c (kept limit c) (raised limit c) rate refl refl refl), product_fits (kept limit c) mass rest rate within refl small, raised_few limit c)
 
--- the quotient of an estimate and a lift, where nothing is just below the bound
+-- the quotient of an share_estimate and a lift, where nothing is just below the bound
 kept_rounded : (k mass rest f lift bound : ℕ) → 0 < rest → bound + lift ≡ 4294967296 → IsNear k (mass * 4294967296) rest f → (f + lift) % 4294967296 < 4294967295
     → (bound * rest ≤ k * mass % rest * 4294967296 → (f + lift) / 4294967296 ≡ k * mass / rest + 1) × (k * mass % rest * 4294967296 < bound * rest → (f + lift) / 4294967296 ≡ k * mass / rest)
 kept_rounded k mass rest f lift bound some parts near clear =
@@ -99,17 +99,17 @@ kept_rounded k mass rest f lift bound some parts near clear =
     let room : (l + 2) * rest ≤ 4294967296 * rest = mul-le-mul_right rest (omega (arith, clear)) in
     between w q rest r (bound * rest) some (mod_below (k * mass) rest some) (omega (arith, one)) (omega (arith, shared, all, one, near.low)) (omega (arith, shared, all, one, near.high, room))
 
-pub rounded_is : (limit mass rest bound lift c : ℕ) → 0 < rest → bound + lift ≡ 4294967296 → c < 18446744073709551616 → (estimate limit mass rest c + lift) % 4294967296 < 4294967295 → rounded lift (estimate limit mass rest c) ≡ whole limit mass rest c + up limit mass rest bound c
-unfolding rounded
+pub rounded_is : (limit mass rest bound lift c : ℕ) → 0 < rest → bound + lift ≡ 4294967296 → c < 18446744073709551616 → (share_estimate limit mass rest c + lift) % 4294967296 < 4294967295 → rounded_share lift (share_estimate limit mass rest c) ≡ whole limit mass rest c + up limit mass rest bound c
+unfolding rounded_share
 rounded_is limit mass rest bound lift c some parts fits clear =
     let rate : ℕ = mass * 79228162514264337593543950336 / rest in
     let k : ℕ = kept limit c in
     let f : ℕ = k * rate / 18446744073709551616 in
     let e = estimate_of limit mass rest c k (raised limit c) rate refl refl refl in
-    let is : f + raised limit c * 4294967296 ≡ estimate limit mass rest c = e in
+    let is : f + raised limit c * 4294967296 ≡ share_estimate limit mass rest c = e in
     let near : IsNear k (mass * 4294967296) rest f = estimate_near k mass rest rate some (omega (arith, kept_le limit c, fits)) refl in
     let made = kept_rounded k mass rest f lift bound some parts near (omega (arith, is, clear)) in
-    let lifted : (estimate limit mass rest c + lift) / 4294967296 ≡ raised limit c + (f + lift) / 4294967296 = omega (arith, is) in
+    let lifted : (share_estimate limit mass rest c + lift) / 4294967296 ≡ raised limit c + (f + lift) / 4294967296 = omega (arith, is) in
     let wholes = divided_whole limit mass rest c k (raised limit c) (k * mass / rest) some refl refl refl in
     let overs = divided_over limit mass rest c k (k * mass % rest) some refl refl in
     elim (cases_lt (over limit mass rest c * 4294967296) (bound * rest)) [
@@ -153,22 +153,22 @@ sum_of_map : (f : ℕ → ℕ) (xs : List ℕ) → sum (map f xs) ≡ sum_by f x
 sum_of_map f [] = refl
 sum_of_map f (x ∷ xs) = omega (arith, sum_by-cons (λ (y : ℕ). y) (f x) (map f xs), sum_by-cons f x xs, sum_of_map f xs)
 
-pub estimates_rounded : (xs es ws : List ℕ) (limit mass rest all bound lift total : ℕ) → 0 < rest → 1 ≤ bound → bound + lift ≡ 4294967296 → es ≡ map (estimate limit mass rest) xs → ws ≡ map (rounded lift) es → total ≡ sum_by (rounded lift) es → total ≡ all
+pub estimates_rounded : (xs es ws : List ℕ) (limit mass rest all bound lift total : ℕ) → 0 < rest → 1 ≤ bound → bound + lift ≡ 4294967296 → es ≡ map (share_estimate limit mass rest) xs → ws ≡ map (rounded_share lift) es → total ≡ sum_by (rounded_share lift) es → total ≡ all
     → ((k : ℕ) → k < length es → (slice_index es k + lift) % 4294967296 < 4294967295) → ((k : ℕ) → slice_index xs k < 18446744073709551616) → AreRounded xs limit mass rest all ws
 estimates_rounded xs es ws limit mass rest all bound lift total some any parts es_is ws_is total_is all_is clear words =
-    let long : length es ≡ length xs = ap length es_is ∙ length-map xs (estimate limit mass rest) in
-    are_rounded xs ws limit mass rest all bound some any (ap length ws_is ∙ (length-map es (rounded lift) ∙ long)) (ap sum ws_is ∙ (sum_of_map (rounded lift) es ∙ (sym total_is ∙ all_is)))
+    let long : length es ≡ length xs = ap length es_is ∙ length-map xs (share_estimate limit mass rest) in
+    are_rounded xs ws limit mass rest all bound some any (ap length ws_is ∙ (length-map es (rounded_share lift) ∙ long)) (ap sum ws_is ∙ (sum_of_map (rounded_share lift) es ∙ (sym total_is ∙ all_is)))
     (λ k h.
-    let here : slice_index es k ≡ estimate limit mass rest (slice_index xs k) = ap (λ l. slice_index l k) es_is ∙ get_or-map (estimate limit mass rest) xs k 0 0 h in
-    let made : slice_index ws k ≡ rounded lift (slice_index es k) = ap (λ l. slice_index l k) ws_is ∙ get_or-map (rounded lift) es k 0 0 (omega (arith, h, long)) in
-    made ∙ (ap (rounded lift) here ∙ rounded_is limit mass rest bound lift (slice_index xs k) some parts (words k) (rw here at (clear k (omega (arith, h, long))))))
+    let here : slice_index es k ≡ share_estimate limit mass rest (slice_index xs k) = ap (λ l. slice_index l k) es_is ∙ get_or-map (share_estimate limit mass rest) xs k 0 0 h in
+    let made : slice_index ws k ≡ rounded_share lift (slice_index es k) = ap (λ l. slice_index l k) ws_is ∙ get_or-map (rounded_share lift) es k 0 0 (omega (arith, h, long)) in
+    made ∙ (ap (rounded_share lift) here ∙ rounded_is limit mass rest bound lift (slice_index xs k) some parts (words k) (rw here at (clear k (omega (arith, h, long))))))
 
-pub estimates_fit : (xs es : List ℕ) (limit mass rest : ℕ) → es ≡ map (estimate limit mass rest) xs → sum_by (kept limit) xs ≤ rest → mass ≤ 2147483648 → (k : ℕ) → k < length es → slice_index es k ≤ 9223372041149743104
+pub estimates_fit : (xs es : List ℕ) (limit mass rest : ℕ) → es ≡ map (share_estimate limit mass rest) xs → sum_by (kept limit) xs ≤ rest → mass ≤ 2147483648 → (k : ℕ) → k < length es → slice_index es k ≤ 9223372041149743104
 estimates_fit xs es limit mass rest es_is within small k h =
-    let inside : k < length xs = omega (arith, h, ap length es_is, length-map xs (estimate limit mass rest)) in
-    let here : slice_index es k ≡ estimate limit mass rest (slice_index xs k) = ap (λ l. slice_index l k) es_is ∙ get_or-map (estimate limit mass rest) xs k 0 0 inside in
+    let inside : k < length xs = omega (arith, h, ap length es_is, length-map xs (share_estimate limit mass rest)) in
+    let here : slice_index es k ≡ share_estimate limit mass rest (slice_index xs k) = ap (λ l. slice_index l k) es_is ∙ get_or-map (share_estimate limit mass rest) xs k 0 0 inside in
     omega (arith, here, estimate_fits limit mass rest (slice_index xs k) (omega (arith, get_or-le-sum_by (kept limit) xs k 0 inside, within)) small)
 
-pub rounded_here : (lift share : ℕ) → (share + lift) / 4294967296 ≡ rounded lift share
-unfolding rounded
+pub rounded_here : (lift share : ℕ) → (share + lift) / 4294967296 ≡ rounded_share lift share
+unfolding rounded_share
 rounded_here lift share = refl

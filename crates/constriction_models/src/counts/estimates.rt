@@ -1,4 +1,4 @@
-//! Rounds shares by estimates of the shares, for `weights_of_counts`.
+//! Rounds shares by estimates, for `weights_of_counts`.
 //!
 //! An estimate is a whole number in units of `2^-32`, less than two units below the share. One product gives it.
 //! A bound divides the fractions of the estimates: the fractions that reach the bound are rounded up. If no fraction
@@ -8,7 +8,7 @@
 ghost use Rattle.std.specs.Prelude.{◌≡◌, ℕ, ◌+◌, ◌*◌, ◌/◌, ◌%◌, ◌^◌, ◌<◌, ◌≤◌, length, map, slice_index};
 ghost use Rattle.std.specs.Prelude.{IfOk, IfSome, IsTrue};
 ghost use Rattle.std.specs.List.{sum_by};
-ghost use Rattle.constriction_models.specs.Counts.{kept, estimate, rounded, AreRounded};
+ghost use Rattle.constriction_models.specs.Counts.{kept, share_estimate, rounded_share, AreRounded};
 
 use super::{Share, keep_from_limit, raise_below_limit};
 use std::alloc::{AllocError, Global};
@@ -47,7 +47,7 @@ impl Share {
     fn estimate(&self, count: u64, rate: u64) -> u64
         requires within { kept self.now.limit count ≤ self.now.rest }
         requires rated { rate ≡ self.now.rate }
-        ensures { result ≡ estimate self.now.limit self.now.mass self.now.rest count }
+        ensures { result ≡ share_estimate self.now.limit self.now.mass self.now.rest count }
     {
         let product = keep_from_limit(count, self.limit) as u128 * rate as u128;
         ((product >> 64) as u64) + raise_below_limit(count, self.limit) * ONE
@@ -64,7 +64,7 @@ impl Share {
         requires kept { sum_by (kept self.now.limit) counts.now ≤ self.now.rest }
         requires rated { rate ≡ self.now.rate }
         ensures { IfOk result
-            (λ e. e.shares.items ≡ map (estimate self.now.limit self.now.mass self.now.rest) counts.now) }
+            (λ e. e.shares.items ≡ map (share_estimate self.now.limit self.now.mass self.now.rest) counts.now) }
     {
         let mut shares = Vec::with_capacity(alloc, counts.len())?;
         let mut held = [0u64; 256];
@@ -175,11 +175,11 @@ fn largest(fractions: &mut [u32], count: u64) -> u64
 
 /// Rounds each estimate up if its fraction is at least `ONE - lift`, and down otherwise.
 fn round_all(alloc: Global, shares: &[u64], lift: u64) -> Result<Rounded, AllocError>
-    requires lift { lift < 2 ^ 32 }
+    requires small { lift < 2 ^ 32 }
     requires fit { (k : ℕ) → k < length shares.now → slice_index shares.now k ≤ 2 ^ 63 + 2 ^ 32 }
     requires short { length shares.now < 2 ^ 31 }
-    ensures weights { IfOk result (λ r. r.weights.items ≡ map (rounded lift) shares.now) }
-    ensures total { IfOk result (λ r. r.total ≡ sum_by (rounded lift) shares.now) }
+    ensures weights { IfOk result (λ r. r.weights.items ≡ map (rounded_share lift) shares.now) }
+    ensures total { IfOk result (λ r. r.total ≡ sum_by (rounded_share lift) shares.now) }
     ensures clear { IfOk result (λ r. IsTrue r.clear
         → (k : ℕ) → k < length shares.now → (slice_index shares.now k + lift) % 2 ^ 32 < 4294967295) }
 {
