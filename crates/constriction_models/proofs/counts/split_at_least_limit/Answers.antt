@@ -2,7 +2,7 @@ use Rattle.std.specs.Prelude.{◌≡◌, ℕ, ◌+◌, ◌-◌, ◌*◌, ◌/◌
 use Rattle.std.specs.List.{sum_by}
 use Rattle.std.proofs.Common.{refl, sym, arith}
 use Rattle.constriction_models.proofs.Sharing.{within_most, most_positive, one_raises_none, rounded_up, rounded_least, next_fair, other_reaches}
-use Rattle.constriction_models.specs.Counts.{positive, raised, kept, IsGreatest, IsLimit, IsSplit}
+use Rattle.constriction_models.specs.Counts.{positive, kept, IsGreatest, IsLimit, IsSplit}
 use Rattle.std.proofs.Math.Nat.{mul-le-mul_right}
 use Rattle.constriction_models.proofs.counts.split_at_least_limit.Goals as goal
 

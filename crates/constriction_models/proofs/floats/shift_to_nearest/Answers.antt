@@ -1,4 +1,4 @@
-use Rattle.std.proofs.Common.{refl, arith}
+use Rattle.std.proofs.Common.{refl}
 use Rattle.constriction_models.proofs.Floating.{nearest_product}
 use Rattle.constriction_models.proofs.floats.shift_to_nearest.Goals as goal
 

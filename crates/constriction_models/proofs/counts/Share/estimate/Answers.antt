@@ -1,4 +1,4 @@
-use Rattle.std.proofs.Common.{◌≤◌, ◌≡◌, ◌*◌, ◌/◌, ◌∙◌, arith}
+use Rattle.std.proofs.Common.{◌≤◌, ◌∙◌, arith}
 use Rattle.constriction_models.proofs.Sharing.{raised_few}
 use Rattle.constriction_models.proofs.Estimating.{estimate_of, product_fits}
 use Rattle.constriction_models.proofs.counts.Share.estimate.Goals as goal

@@ -1,4 +1,4 @@
-use Rattle.std.specs.Prelude.{◌≡◌, ◌+◌, ◌-◌}
+use Rattle.std.specs.Prelude.{◌-◌}
 use Rattle.std.proofs.Common.{◌∙◌, arith}
 use Rattle.constriction_models.proofs.Estimating.{estimates_fit, estimates_rounded}
 use Rattle.constriction_models.proofs.counts.Share.round_estimates.Goals as goal
