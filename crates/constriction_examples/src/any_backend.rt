@@ -83,11 +83,11 @@ fn encoded(
 /// The first count comes from the encoder's position: the words written and pending before the seal. The second count
 /// is the field `written` of the backend: the words written, including the seal.
 fn show_counts(rt: &impl Print, encoder: RangeEncoder<u32, u64, Counted<Vec<u32>>>) -> Result<()> {
-    match place(&encoder) {
-        Some((words, _)) => println!(rt; "{words}")?, // 2
-        None => bail!("more words than a usize can count"),
-    }
+    let Some((words, _)) = place(&encoder) else {
+        bail!("more words than a usize can count");
+    };
     let written = encoder.into_compressed()?.written;
+    println!(rt; "{words}")?; // 2
     println!(rt; "{written}")?; // 3
     Ok(())
 }

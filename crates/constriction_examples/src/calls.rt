@@ -8,28 +8,42 @@ pub mod queue;
 pub mod stack;
 pub mod symbol;
 
-use anyhow::Result;
+use anyhow::{Result, bail};
 use constriction::WordOf;
 use constriction::stream::Decode;
 use constriction::stream::model::WeightTable;
 use std::alloc::Global;
-use std::error::Error;
 use std::fmt::Display;
 use std::iter;
 
-/// Prints a decoded symbol. Returns the error if the decode failed.
-fn show<Symbol: Display + Drop, E: Error>(
-    rt: &impl Print,
-    symbol: Result<Symbol, E>,
-) -> Result<()> {
-    let symbol = symbol?;
+/// Prints a decoded symbol. Fails if the decode failed.
+fn show<Symbol: Display + Drop, E: Drop>(rt: &impl Print, symbol: Result<Symbol, E>) -> Result<()> {
+    let Ok(symbol) = symbol else {
+        bail!("no symbol was decoded");
+    };
     println!(rt; "{symbol}")?;
     Ok(())
 }
 
-/// Decodes `count` symbols with one model, then two symbols each with its own model, and prints all of them.
+/// Decodes one symbol, and prints it.
 ///
 /// The function is generic over decoders, so its proof is made once for all of them.
+fn take_one<Coder: Decode<24>>(
+    rt: &impl Print,
+    coder: &mut Coder,
+    table: &WeightTable<u32, 24>,
+) -> Result<()>
+where
+    u32: WordOf<Coder::Word>,
+    Coder::FrontendError: Drop,
+    Coder::BackendError: Drop,
+{
+    show(rt, coder.decode_symbol(table))
+}
+
+/// Decodes `count` symbols with one model, then two symbols each with its own model, and prints all of them.
+///
+/// The function is generic over decoders, as [`take_one`] is.
 fn take<Coder: Decode<24>>(
     rt: &impl Print,
     coder: &mut Coder,
@@ -38,8 +52,8 @@ fn take<Coder: Decode<24>>(
 ) -> Result<()>
 where
     u32: WordOf<Coder::Word>,
-    Coder::FrontendError: Error,
-    Coder::BackendError: Error,
+    Coder::FrontendError: Drop,
+    Coder::BackendError: Drop,
 {
     for symbol in coder.decode_iid_symbols(count, table) {
         show(rt, symbol)?;

@@ -13,7 +13,8 @@
 //! law `symbols_are_isolated` of `constriction::laws::chain::isolation` says that the chain coder's later symbols stay
 //! the same for any words and any models.
 
-use anyhow::{Result, bail};
+use anyhow::{Context, Result, bail};
+use constriction::WordOf;
 use constriction::stream::Decode;
 use constriction::stream::chain::SmallChainCoder;
 use constriction::stream::model::WeightTable;
@@ -34,17 +35,34 @@ const LATER: usize = 7;
 /// The first symbol, and the later symbols.
 type Symbols = (usize, Vec<usize>);
 
+/// Decodes a symbol with `first`, and then one with each table of `later`.
+///
+/// The function is generic over decoders, so its proof is made once for both coders.
+fn decode<Coder: Decode<12>>(
+    alloc: Global,
+    coder: &mut Coder,
+    first: &Table,
+    later: &[Table],
+) -> Result<Symbols>
+where
+    u16: WordOf<Coder::Word>,
+    Coder::FrontendError: Drop,
+    Coder::BackendError: Drop,
+{
+    let symbol = coder.decode_symbol(first).ok().context("no symbol")?;
+    let mut rest = Vec::new(alloc);
+    'later: for table in later {
+        rest.push(coder.decode_symbol(table).ok().context("no symbol")?)?;
+    }
+    Ok((symbol, rest))
+}
+
 /// Decodes symbols from [`WORDS`] with a stack coder. `first` is the first symbol's model, and `later` has the others.
 fn by_stack(alloc: Global, first: &Table, later: &[Table]) -> Result<Symbols> {
     let Ok(mut coder) = SmallAnsCoder::from_compressed(WORDS.to_vec(alloc)?) else {
         bail!("no coder exports words that end with a zero word");
     };
-    let symbol = coder.decode_symbol(first)?;
-    let mut rest = Vec::new(alloc);
-    'later: for table in later {
-        rest.push(coder.decode_symbol(table)?)?;
-    }
-    Ok((symbol, rest))
+    decode(alloc, &mut coder, first, later)
 }
 
 /// Decodes symbols from [`WORDS`] with a chain coder. `first` is the first symbol's model, and `later` has the others.
@@ -52,12 +70,7 @@ fn by_chain(alloc: Global, first: &Table, later: &[Table]) -> Result<Symbols> {
     let Ok(mut coder) = SmallChainCoder::from_compressed(alloc, WORDS.to_vec(alloc)?) else {
         bail!("too few words, or a zero word at the end");
     };
-    let symbol = coder.decode_symbol(first)?;
-    let mut rest = Vec::new(alloc);
-    'later: for table in later {
-        rest.push(coder.decode_symbol(table)?)?;
-    }
-    Ok((symbol, rest))
+    decode(alloc, &mut coder, first, later)
 }
 
 /// Prints a coder's name, and the symbols that the coder decoded with each of the two models for the first symbol.

@@ -4,14 +4,13 @@
 //! as an argument doesn't know how many words are pending. `symbols_left` returns how many symbols the encoder can
 //! still encode.
 
-use super::show;
+use super::{take, take_one};
 use anyhow::{Result, bail};
 use constriction::stream::model::WeightTable;
 use constriction::stream::queue::{DefaultRangeDecoder, DefaultRangeEncoder, RangeCoderState};
 use constriction::stream::{Decode, Encode};
 use constriction::{Pos, Seek};
 use std::alloc::Global;
-use std::iter;
 
 type Table = WeightTable<u32, 24>;
 
@@ -27,36 +26,24 @@ fn put(encoder: &mut DefaultRangeEncoder, table: &Table) -> Result<()> {
     Ok(())
 }
 
-/// Decodes two symbols with one model, and prints them.
-fn take(rt: &impl Print, decoder: &mut DefaultRangeDecoder, table: &Table) -> Result<()> {
-    for symbol in decoder.decode_iid_symbols(2, table) {
-        show(rt, symbol)?;
-    }
-    Ok(())
-}
-
-/// Decodes one symbol with its own model, and prints it.
-fn take_next(rt: &impl Print, decoder: &mut DefaultRangeDecoder, table: &Table) -> Result<()> {
-    for symbol in decoder.decode_symbols(iter::repeat_n(table, 1)) {
-        show(rt, symbol)?;
-    }
-    Ok(())
+/// Returns whether a guard lends no words. The encoder is unchanged.
+fn lends_nothing(encoder: &mut DefaultRangeEncoder) -> Result<bool> {
+    let Ok(guard) = encoder.get_compressed() else {
+        bail!("no memory for the words");
+    };
+    Ok(guard.words().is_empty())
 }
 
 /// Prints whether a guard lends no words, and the first symbol that a decoder over the encoder's words returns.
 ///
 /// The encoder is unchanged.
 fn look(rt: &impl Print, encoder: &mut DefaultRangeEncoder, table: &Table) -> Result<()> {
-    {
-        let Ok(guard) = encoder.get_compressed() else {
-            bail!("no memory for the words");
-        };
-        println!(rt; "{}", guard.words().is_empty())?;
-    }
+    let nothing = lends_nothing(encoder)?;
+    println!(rt; "{nothing}")?;
     let Ok(mut decoder) = encoder.decoder() else {
         bail!("no memory for the words");
     };
-    show(rt, decoder.decode_symbol(table))
+    take_one(rt, &mut decoder, table)
 }
 
 /// Encodes four symbols. Returns the words, and the position of the third symbol.
@@ -86,12 +73,11 @@ fn take_twice(
     position: Position,
     table: &Table,
 ) -> Result<()> {
-    take(rt, decoder, table)?;
-    take_next(rt, decoder, table)?;
+    take(rt, decoder, 1, table)?;
     if decoder.seek(position).is_err() {
         bail!("no position of these words");
     }
-    take(rt, decoder, table)?;
+    take(rt, decoder, 0, table)?;
     if !Decode::<24>::maybe_exhausted(decoder) {
         bail!("words are left");
     }

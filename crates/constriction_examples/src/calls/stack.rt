@@ -1,6 +1,6 @@
 //! Calls of the stack coder with concrete types: words of 32 or 16 bits, and tables of weights.
 
-use super::{show, take};
+use super::{show, take, take_one};
 use crate::uses::words_so_far;
 use anyhow::{Result, bail};
 use constriction::stream::model::WeightTable;
@@ -11,6 +11,8 @@ use std::alloc::Global;
 use std::iter;
 
 type Table = WeightTable<u32, 24>;
+
+type SmallTable = WeightTable<u16, 12>;
 
 /// Encodes lists of symbols, each list from its last symbol to its first.
 ///
@@ -53,7 +55,7 @@ fn seek(rt: &impl Print, coder: &mut DefaultAnsCoder, table: &Table) -> Result<(
     if decoder.seek(position).is_err() {
         bail!("no position of these words");
     }
-    show(rt, decoder.decode_symbol(table))
+    take_one(rt, &mut decoder, table)
 }
 
 /// Prints whether a coder's head is above 0, whether the coder is empty, and whether two ways to export words agree.
@@ -73,8 +75,8 @@ fn look(rt: &impl Print, alloc: Global, coder: &mut DefaultAnsCoder) -> Result<(
 
 /// Decodes a symbol with a decoder that borrows a coder, and one with a decoder made from the coder. Prints both.
 fn hand_on(rt: &impl Print, coder: DefaultAnsCoder, table: &Table) -> Result<()> {
-    show(rt, coder.as_decoder().decode_symbol(table))?;
-    show(rt, coder.into_decoder().decode_symbol(table))
+    take_one(rt, &mut coder.as_decoder(), table)?;
+    take_one(rt, &mut coder.into_decoder(), table)
 }
 
 /// Decodes a symbol with a coder that borrows a list of words, and prints the symbol.
@@ -83,17 +85,30 @@ fn borrow(rt: &impl Print, table: &Table) -> Result<()> {
     let Ok(mut borrowed) = DefaultAnsCoder::from_compressed_slice(words.as_slice()) else {
         bail!("no coder exports words that end with a zero word");
     };
-    show(rt, borrowed.decode_symbol(table))
+    take_one(rt, &mut borrowed, table)
+}
+
+/// Encodes a symbol with a coder of 16-bit words, and decodes it again.
+fn exchange(coder: &mut SmallAnsCoder, table: &SmallTable) -> Result<usize> {
+    if coder.encode_symbol(&1, table).is_err() {
+        bail!("no memory for the words");
+    }
+    let Ok(symbol) = coder.decode_symbol(table) else {
+        bail!("no symbol was decoded");
+    };
+    Ok(symbol)
 }
 
 /// Encodes and decodes a symbol with a coder of 16-bit words, and decodes another symbol from the empty coder.
 ///
 /// Prints both symbols, and the size of the empty coder in words and in bits.
 fn small(rt: &impl Print, alloc: Global) -> Result<()> {
-    let table = WeightTable::<u16, 12>::new(alloc, &[4000, 96])?;
+    let table = SmallTable::new(alloc, &[4000, 96])?;
     let mut coder = SmallAnsCoder::new(alloc);
-    coder.encode_symbol(&1, &table)?;
-    let symbol = coder.decode_symbol(&table)?;
+    let symbol = exchange(&mut coder, &table)?;
+    if !coder.sizes_fit() {
+        bail!("too many words");
+    }
     println!(rt; "{symbol} {} {}", coder.num_words(), coder.num_bits())?; // 1 0 0
     show(rt, coder.into_seekable_decoder().decode_symbol(&table)) // 0, since an empty coder returns symbols too
 }

@@ -2,20 +2,38 @@
 
 use super::show;
 use anyhow::{Result, bail};
+use constriction::Semantics;
 use constriction::store::Store;
 use constriction::stream::model::WeightTable;
 use constriction::symbol::exp_golomb::ExpGolomb;
 use constriction::symbol::{DefaultQueueEncoder, DefaultStackCoder, ReadBitStream, WriteBitStream};
 use std::alloc::Global;
 
-/// Encodes two numbers into a queue of bits, and prints the number of words that a guard lends.
-fn put(rt: &impl Print, encoder: &mut DefaultQueueEncoder, golomb: &ExpGolomb<u32>) -> Result<()> {
+/// Decodes `count` numbers, and prints them.
+///
+/// The function is generic over bit coders, so its proof is made once for queues and stacks.
+fn take<S: Semantics, Coder: ReadBitStream<S>>(
+    rt: &impl Print,
+    coder: &mut Coder,
+    count: usize,
+    golomb: &ExpGolomb<u32>,
+) -> Result<()>
+where
+    Coder::ReadError: Drop,
+{
+    for number in coder.decode_iid_symbols(count, golomb) {
+        show(rt, number)?;
+    }
+    Ok(())
+}
+
+/// Encodes two numbers into a queue of bits, and returns the number of words that a guard lends.
+fn put(encoder: &mut DefaultQueueEncoder, golomb: &ExpGolomb<u32>) -> Result<usize> {
     encoder.encode_symbols([(&5u32, golomb), (&7, golomb)])?;
     let Ok(guard) = encoder.get_compressed() else {
         bail!("no memory for the words");
     };
-    println!(rt; "{}", guard.words().len())?;
-    Ok(())
+    Ok(guard.words().len())
 }
 
 /// Encodes two numbers into a queue of bits, decodes them in the same order, and prints them.
@@ -23,12 +41,12 @@ fn put(rt: &impl Print, encoder: &mut DefaultQueueEncoder, golomb: &ExpGolomb<u3
 /// Also prints the number of words that a guard lends.
 fn queue(rt: &impl Print, alloc: Global, golomb: &ExpGolomb<u32>) -> Result<()> {
     let mut encoder = DefaultQueueEncoder::new(alloc);
-    put(rt, &mut encoder, golomb)?;
-    let mut decoder = encoder.into_decoder()?;
-    for number in decoder.decode_iid_symbols(2, golomb) {
-        show(rt, number)?;
-    }
-    Ok(())
+    let words = put(&mut encoder, golomb)?;
+    println!(rt; "{words}")?;
+    let Ok(mut decoder) = encoder.into_decoder() else {
+        bail!("no memory for the words");
+    };
+    take(rt, &mut decoder, 2, golomb)
 }
 
 /// Encodes three numbers onto a stack of bits, decodes them, and prints them. The number encoded last is decoded first.
@@ -36,17 +54,23 @@ fn stack(rt: &impl Print, alloc: Global, golomb: &ExpGolomb<u32>) -> Result<()> 
     let mut coder = DefaultStackCoder::new(alloc);
     coder.encode_iid_symbols_reverse([5u32, 7].as_slice(), golomb)?;
     coder.encode_symbol(&0, golomb)?;
-    for number in coder.decode_iid_symbols(3, golomb) {
-        show(rt, number)?;
-    }
-    Ok(())
+    take(rt, &mut coder, 3, golomb)
+}
+
+/// Builds a store of chunks, and looks up the second chunk.
+fn second(
+    alloc: Global,
+    chunks: &[Vec<usize>],
+    table: &WeightTable<u32, 24>,
+) -> Result<Vec<usize>> {
+    let store = Store::<u32, u64, _, 24>::build(alloc, chunks, table)?;
+    Ok(store.chunk(alloc, 1)?)
 }
 
 /// Builds a store of two chunks, looks up the second chunk, and prints its symbols.
 fn store(rt: &impl Print, alloc: Global, table: &WeightTable<u32, 24>) -> Result<()> {
     let chunks = [[2usize, 1].to_vec(alloc)?, [0, 2, 2].to_vec(alloc)?];
-    let store = Store::<u32, u64, _, 24>::build(alloc, chunks.as_slice(), table)?;
-    let chunk = store.chunk(alloc, 1)?;
+    let chunk = second(alloc, chunks.as_slice(), table)?;
     println!(rt; "{chunk:?}")?;
     Ok(())
 }

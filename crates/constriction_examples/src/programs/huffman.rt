@@ -5,18 +5,23 @@ use constriction::symbol::huffman::{DecoderHuffmanTree, EncoderHuffmanTree};
 use constriction::symbol::{DefaultQueueEncoder, ReadBitStream, WriteBitStream};
 use std::alloc::Global;
 
-/// Encodes three symbols with a Huffman tree, decodes them, and prints the symbols decoded.
-pub fn run(rt: &impl Print, alloc: Global) -> Result<()> {
-    // The codewords 00, 01, 11, 100 and 101.
-    let weights = [2u32, 2, 4, 1, 1];
-    let tree = EncoderHuffmanTree::from_probabilities(alloc, weights.as_slice())?;
+/// The weights of the symbols 0 to 4. Their codewords are 00, 01, 11, 100 and 101.
+const WEIGHTS: [u32; 5] = [2, 2, 4, 1, 1];
 
+/// Encodes three symbols with a Huffman tree, and returns the encoder.
+fn encoded(alloc: Global) -> Result<DefaultQueueEncoder> {
+    let tree = EncoderHuffmanTree::from_probabilities(alloc, WEIGHTS.as_slice())?;
     let mut encoder = DefaultQueueEncoder::new(alloc);
     encoder.encode_iid_symbols([3usize, 2, 0].as_slice(), &tree)?;
+    Ok(encoder)
+}
+
+/// Encodes three symbols with a Huffman tree, decodes them, and prints the symbols decoded.
+pub fn run(rt: &impl Print, alloc: Global) -> Result<()> {
+    let mut decoder = encoded(alloc)?.into_decoder()?;
 
     // The decoder builds its tree from the same weights.
-    let tree = DecoderHuffmanTree::from_probabilities(alloc, weights.as_slice())?;
-    let mut decoder = encoder.into_decoder()?;
+    let tree = DecoderHuffmanTree::from_probabilities(alloc, WEIGHTS.as_slice())?;
     for _ in 0..3 {
         let symbol = decoder.decode_symbol(&tree)?;
         println!(rt; "{symbol}")?; // 3, 2, 0
