@@ -102,13 +102,21 @@ fn show_symbols(rt: &impl Print, alloc: Global, table: &WeightTable<u32, 24>) ->
     Ok(())
 }
 
+/// Creates a queue encoder over the backend [`Counted`], encodes two numbers, and returns the encoder.
+fn encoded_bits(
+    alloc: Global,
+    golomb: &ExpGolomb<u32>,
+) -> Result<QueueEncoder<u32, Counted<Vec<u32>>>> {
+    let mut bits = QueueEncoder::<u32, _>::from_compressed(Counted::new(Vec::new(alloc)));
+    bits.encode_iid_symbols([5u32, 7].as_slice(), golomb)?;
+    Ok(bits)
+}
+
 /// Encodes two numbers over the backend [`Counted`], and prints the first number decoded.
 fn show_bits(rt: &impl Print, alloc: Global) -> Result<()> {
     let golomb = ExpGolomb::<u32>::new();
-    let mut bits = QueueEncoder::<u32, _>::from_compressed(Counted::new(Vec::new(alloc)));
-    bits.encode_iid_symbols([5u32, 7].as_slice(), &golomb)?;
-    let number = bits_of(bits)?.decode_symbol(&golomb)?;
-    println!(rt; "{number}")?; // 5
+    let number = bits_of(encoded_bits(alloc, &golomb)?)?.decode_symbol(&golomb);
+    println!(rt; "{}", number?)?; // 5
     Ok(())
 }
 

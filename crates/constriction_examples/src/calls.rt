@@ -1,5 +1,8 @@
 //! The calls of each coder as a program makes them, with concrete types of words, heads and models.
 //!
+//! Decoders are passed to [`take_one`] and [`take`]. These functions are generic over decoders, so their proofs are made
+//! once for all types of decoders.
+//!
 //! The prover finds no proof for certain forms of calls. `docs/CALLING.md` lists these forms, and says what to write in
 //! their place. The functions here use forms that the prover accepts.
 
@@ -17,7 +20,7 @@ use std::fmt::Display;
 use std::iter;
 
 /// Prints a decoded symbol. Fails if the decode failed.
-fn show<Symbol: Display + Drop, E: Drop>(rt: &impl Print, symbol: Result<Symbol, E>) -> Result<()> {
+fn show<Symbol: Display + Copy, E: Drop>(rt: &impl Print, symbol: Result<Symbol, E>) -> Result<()> {
     let Ok(symbol) = symbol else {
         bail!("no symbol was decoded");
     };
@@ -26,8 +29,6 @@ fn show<Symbol: Display + Drop, E: Drop>(rt: &impl Print, symbol: Result<Symbol,
 }
 
 /// Decodes one symbol, and prints it.
-///
-/// The function is generic over decoders, so its proof is made once for all of them.
 fn take_one<Coder: Decode<24>>(
     rt: &impl Print,
     coder: &mut Coder,
@@ -42,8 +43,6 @@ where
 }
 
 /// Decodes `count` symbols with one model, then two symbols each with its own model, and prints all of them.
-///
-/// The function is generic over decoders, as [`take_one`] is.
 fn take<Coder: Decode<24>>(
     rt: &impl Print,
     coder: &mut Coder,

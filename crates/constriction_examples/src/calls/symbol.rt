@@ -63,8 +63,8 @@ fn second(
     chunks: &[Vec<usize>],
     table: &WeightTable<u32, 24>,
 ) -> Result<Vec<usize>> {
-    let store = Store::<u32, u64, _, 24>::build(alloc, chunks, table)?;
-    Ok(store.chunk(alloc, 1)?)
+    let chunk = Store::<u32, u64, _, 24>::build(alloc, chunks, table)?.chunk(alloc, 1);
+    Ok(chunk?)
 }
 
 /// Builds a store of two chunks, looks up the second chunk, and prints its symbols.
