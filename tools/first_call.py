@@ -38,6 +38,7 @@ WEIGHTS = {
     "constriction_cli": 0.6,
     "constriction_inputs": 4.7,
     "constriction_calls": 12.8,
+    "constriction_interleaved": 1.8,
     "constriction_lanes": 2.4,
     "constriction_c": 10.5,
 }

@@ -253,11 +253,11 @@ pub mod stream {
     }
 
     pub mod stack {
+        pub use constriction_interleaved::decoding::decode_lanes;
         pub use constriction_stack::coder::guard::CoderGuard;
         pub use constriction_stack::coder::words::{
             AnsCompressedIter, CompressedDataEndsWithZeroWord,
         };
-        pub use constriction_stack::lanes::decoding::decode_lanes;
         pub use constriction_stack::lanes::steps::{decode_from, encode_onto};
         pub use constriction_stack::{AnsCoder, DefaultAnsCoder, SmallAnsCoder};
     }

@@ -1,8 +1,9 @@
 -- What the calls that decode say, from what each coder decoded.
 use Rattle.std.proofs.Common.{◌≡◌, ◌∙◌, ◌/◌, ◌<◌, ◌≤◌, ℕ, List, Ok, length, get_or, refl, inr, sym, arith}
-use Rattle.constriction_stack.specs.Lanes.{lane, row}
+use Rattle.constriction_interleaved.specs.Rows.{row}
+use Rattle.constriction_stack.specs.Lanes.{lane}
 use Rattle.constriction_stack.specs.Symbols.{DecodesAll}
-use Rattle.constriction_stack.proofs.LaneRows.{row_long}
+use Rattle.constriction_interleaved.proofs.LaneRows.{row_long}
 use Rattle.constriction_inputs.specs.Coded.{AreFit, Coded, items}
 use Rattle.constriction_inputs.proofs.Asking.{fit_then}
 use Rattle.constriction_lanes.specs.LaneCalls.{AreLanes, LanesDecodeList, lanes_of, row_of}

@@ -4,8 +4,8 @@ use Rattle.std.proofs.lemmas.Bool.{cases_lt}
 use Rattle.std.proofs.lemmas.List.{drop-drop, drop-set-lt, get_or-drop, get_or-set_other, get_or-set_same, length-drop, length-take-le}
 use Rattle.std.proofs.lemmas.Slice.{drop-put_mid}
 use borrow.Rule.Slice.PartMut.{put_mid}
-use Rattle.constriction_stack.specs.Lanes.{row}
-use Rattle.constriction_stack.proofs.LaneRows.{row_at, row_before}
+use Rattle.constriction_interleaved.specs.Rows.{row}
+use Rattle.constriction_interleaved.proofs.LaneRows.{row_at, row_before}
 
 -- lists that agree from a place on have the same item there
 pub same_here : {A : Type 0} (j : ℕ) (xs ys : List A) (d : A) → drop j xs ≡ drop j ys → get_or xs j d ≡ get_or ys j d

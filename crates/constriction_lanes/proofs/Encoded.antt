@@ -4,8 +4,8 @@ use Rattle.std.specs.Prelude.{IfErr, OnErr, OnOk}
 use Rattle.std.proofs.lemmas.List.{length-take-le}
 use Rattle.constriction_base.specs.Models.{AreKnown, Item, Knows}
 use Rattle.constriction_base.specs.Steps.{IsSizes}
-use Rattle.constriction_stack.specs.Lanes.{row}
-use Rattle.constriction_stack.proofs.LaneRows.{row_long}
+use Rattle.constriction_interleaved.specs.Rows.{row}
+use Rattle.constriction_interleaved.proofs.LaneRows.{row_long}
 use Rattle.constriction_calls.specs.AnsCalls.{AnsBuffers, IsWithin}
 use Rattle.constriction_inputs.specs.Coded.{AreFit, Coded, items}
 use Rattle.constriction_inputs.specs.Refusals.{NoMemoryOrSpace}

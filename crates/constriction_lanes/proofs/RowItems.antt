@@ -4,7 +4,7 @@ use Rattle.std.proofs.Common.{◌≡◌, ◌∙◌, ℕ, zero, suc, ◌+◌, ◌
 use Rattle.std.specs.List.{AllByRecursion}
 use Rattle.std.proofs.lemmas.List.{drop-drop, drop-map, length-drop, take-append-drop, take-map}
 use Rattle.constriction_base.specs.Models.{Item, Model, item_of, items_of, pairs_of}
-use Rattle.constriction_stack.specs.Lanes.{row}
+use Rattle.constriction_interleaved.specs.Rows.{row}
 use Rattle.constriction_inputs.specs.Items.{HasAt}
 
 -- ---- symbols with one model, and symbols that each have a model

@@ -3,7 +3,8 @@
 use Rattle.std.specs.Prelude.{◌≡◌, ℕ, ◌+◌, ◌*◌, ◌/◌, ◌<◌, ◌≤◌, List, [], Result, Ok, drop, length, reverse, slice_index, slice_index_or, take, OnErr, OnOk}
 use Rattle.constriction_base.specs.Models.{AreKnown, AreModels, Item, pairs_of}
 use Rattle.constriction_stack.specs.Ans.{AnsState}
-use Rattle.constriction_stack.specs.Lanes.{lane, row}
+use Rattle.constriction_interleaved.specs.Rows.{row}
+use Rattle.constriction_stack.specs.Lanes.{lane}
 use Rattle.constriction_stack.specs.Symbols.{DecodesAll, EncodesAll}
 use Rattle.constriction_calls.specs.AnsCalls.{AnsBuffers, AnsDecodesList, AnsEncodesList, TooShortForItems, ans_state_of, coder_of}
 use Rattle.constriction_inputs.specs.Buffers.{Appended}

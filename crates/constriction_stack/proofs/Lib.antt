@@ -14,10 +14,4 @@ pub mod FirstReads
 mod BinaryRows
 pub mod ByProduct
 pub mod StepCalls
-mod LaneFilling
-mod LaneGroups
-pub mod LaneRows
-mod LaneThree
-mod LaneFour
-mod LaneTurns
 pub mod LaneWords

@@ -1,31 +1,11 @@
 -- Stack coders side by side. Each coder is a head and a row of words. The first words of the row are in use, and the last
--- of these is the top word. Row `j` of every list belongs to coder `j`.
-use Rattle.std.specs.Prelude.{◌≡◌, ℕ, ◌+◌, ◌-◌, ◌*◌, ◌/◌, ◌^◌, ◌<◌, ◌≤◌, ◌⊎◌, List, drop, map, reverse, take, slice_index, slice_index_or}
-use Rattle.constriction_base.specs.Models.{Model, items_of}
+-- of these is the top word.
+use Rattle.std.specs.Prelude.{◌≡◌, ℕ, ◌+◌, ◌-◌, ◌/◌, ◌^◌, ◌<◌, ◌≤◌, ◌⊎◌, List, map, reverse, take}
 use Rattle.constriction_stack.specs.Ans.{AnsState}
-use Rattle.constriction_stack.specs.Symbols.{DecodesAll}
 
 -- The state of a coder with this head, whose words are the first `len` of `words`.
 abbrev pub lane : {W V : Type 0} → (W → ℕ) → (V → ℕ) → V → List W → ℕ → AnsState
 lane number state head words len = record { head = state head; words = map number (reverse (take len words)) }
-
--- Row `j` of a matrix whose rows have `width` items.
-abbrev pub row : {A : Type 0} → ℕ → ℕ → List A → List A
-row width j xs = take width (drop (j * width) xs)
-
--- Decoding the symbols of row `j` leads coder `j` from its old state to its new state. The coder takes words from its own
--- row. The rows of words have `width` words, and the rows of symbols have `count` symbols.
-abbrev pub DecodesLane : {W V : Type 0} → (W → ℕ) → (V → ℕ) → ℕ → ℕ → Model ℕ → ℕ → ℕ → List W → List V → List ℕ → List V → List ℕ → List ℕ → ℕ → Type 0
-DecodesLane {W} {V} number state w s model width count words heads lens new_heads new_lens symbols j =
-    (d : V) → DecodesAll w s (items_of model (row count j symbols))
-    (lane number state (slice_index_or heads j d) (row width j words) (slice_index lens j))
-    (lane number state (slice_index_or new_heads j d) (row width j words) (slice_index new_lens j))
-    × (slice_index new_lens j ≤ slice_index lens j)
-
--- `DecodesLane` holds for each of the first `n` coders.
-abbrev pub DecodesLanes : {W V : Type 0} → (W → ℕ) → (V → ℕ) → ℕ → ℕ → Model ℕ → ℕ → ℕ → List W → List V → List ℕ → List V → List ℕ → List ℕ → ℕ → Type 0
-DecodesLanes number state w s model width count words heads lens new_heads new_lens symbols n =
-    (j : ℕ) → j < n → DecodesLane number state w s model width count words heads lens new_heads new_lens symbols j
 
 -- A head and a number of words before a push. If the head has room for the step, both are unchanged. Otherwise the low
 -- word of the head has moved to the words.

@@ -1,4 +1,4 @@
-//! Stack coders side by side, each with a head and a row of words of a slice.
+//! The steps of a stack coder that is coded side by side with others: a head, and a row of words of a slice.
 //!
 //! A single coder is bound by latency, because each step needs the head that the previous step left. The processor
 //! overlaps the steps of coders that don't depend on each other. So one call that steps several coders in turn decodes
@@ -9,7 +9,7 @@
 //! [`AnsCoder`](crate::coder::AnsCoder) makes of the same symbols, so data that lanes encode has no format of its own.
 //!
 //! - [`steps`]: decoding and encoding one symbol, over a slice.
-//! - [`decoding`]: decoding lists of symbols from any number of lanes under one model.
+//!
+//! `constriction_interleaved` decodes lists of symbols from any number of lanes under one model.
 
-pub mod decoding;
 pub mod steps;

@@ -26,7 +26,7 @@
 //! The modules:
 //!
 //! - [`coder`]: the coder, its steps, its words, its positions and its guards.
-//! - [`lanes`]: the steps of many coders side by side, each over the words of a slice.
+//! - [`lanes`]: the steps of a coder side by side with others, over the words of a slice.
 //! - `steps`: the arithmetic of encoding and decoding one symbol, on the head.
 //!
 //! Contracts cite the definitions of `specs/Ans.antt`: states, pop and push, the words of a state, and the possible

@@ -1,2 +1,3 @@
 -- Stack coders side by side, each over the first words of a row.
-pub use Rattle.constriction_stack.specs.Lanes.{lane, row, DecodesLane, DecodesLanes, MakesRoom}
+pub use Rattle.constriction_stack.specs.Lanes.{lane, MakesRoom}
+pub use Rattle.constriction_interleaved.specs.Rows.{row, DecodesLane, DecodesLanes}

@@ -1,7 +1,8 @@
 use Rattle.std.proofs.Common.{◌≡◌, ◌<◌, ◌≤◌, ◌∙◌, ◌+◌, ◌-◌, ◌*◌, arith, drop, get_or, length, sym}
 use Rattle.std.proofs.lemmas.List.{get_or_read, length-set}
 use borrow.Rule.Slice.PartMut.{same_len_mid}
-use Rattle.constriction_stack.specs.Lanes.{lane, row}
+use Rattle.constriction_interleaved.specs.Rows.{row}
+use Rattle.constriction_stack.specs.Lanes.{lane}
 use Rattle.constriction_stack.specs.Symbols.{DecodesAll}
 use Rattle.constriction_lanes.proofs.EachRow.{each_more, left_more, part_long, row_within, same_here}
 use Rattle.constriction_lanes.proofs.RowItems.{pairs}

@@ -2,7 +2,7 @@ use Rattle.std.proofs.Common.{◌≡◌, ◌<◌, ◌≤◌, ◌∙◌, ◌+◌,
 use Rattle.std.specs.Prelude.{IsOk, OnErr}
 use Rattle.std.proofs.lemmas.List.{length-set, take-take}
 use borrow.Rule.Slice.PartMut.{same_len_mid}
-use Rattle.constriction_stack.specs.Lanes.{row}
+use Rattle.constriction_interleaved.specs.Rows.{row}
 use Rattle.constriction_inputs.specs.Buffers.{Appended}
 use Rattle.constriction_lanes.proofs.EachRow.{each_more, left_behind, left_more, part_long, row_within, same_here}
 use Rattle.constriction_lanes.proofs.encoding.append_rows.Goals as goal

@@ -2,7 +2,7 @@ use Rattle.std.proofs.Common.{◌≡◌, ◌≤◌, length, take}
 use Rattle.constriction_base.specs.Models.{items_of}
 use Rattle.constriction_stack.specs.Symbols.{DecodesAll}
 use Rattle.constriction_stack.specs.Lanes.{lane}
-use Rattle.constriction_stack.proofs.lanes.decoding.decode_three.Given as goal
+use Rattle.constriction_interleaved.proofs.decoding.decode_four.Given as goal
 
 abbrev pub invariant-loop-place : goal.invariant-loop-place
 invariant-loop-place g l = record {
@@ -18,4 +18,8 @@ invariant-loop-place g l = record {
       (lane g.Word.BitArray.number g.State.BitArray.number l.fn.head_c l.words_c l.fn.len_c) (lane g.Word.BitArray.number g.State.BitArray.number l.x_c l.words_c l.left_c);
   left_c : l.left_c ≤ l.fn.len_c;
   count_c : length l.symbols_c ≡ length l.fn.symbols_c;
+  decoded_d : DecodesAll g.Word.BitArray.BITS g.State.BitArray.BITS (items_of (record { precision = g.row.PRECISION; table = g.M.EntropyModel.table l.model }) (take l.place l.symbols_d))
+      (lane g.Word.BitArray.number g.State.BitArray.number l.fn.head_d l.words_d l.fn.len_d) (lane g.Word.BitArray.number g.State.BitArray.number l.x_d l.words_d l.left_d);
+  left_d : l.left_d ≤ l.fn.len_d;
+  count_d : length l.symbols_d ≡ length l.fn.symbols_d;
 }

@@ -1,7 +1,7 @@
 use Rattle.std.proofs.Common.{◌≡◌, length, take}
 use Rattle.constriction_base.specs.Models.{items_of}
 use Rattle.constriction_stack.specs.Symbols.{DecodesAll}
-use Rattle.constriction_stack.proofs.lanes.decoding.decode_one.Given as goal
+use Rattle.constriction_interleaved.proofs.decoding.decode_one.Given as goal
 
 abbrev pub invariant-loop-place : goal.invariant-loop-place
 invariant-loop-place g l = record {

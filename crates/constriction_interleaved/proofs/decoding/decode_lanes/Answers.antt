@@ -4,9 +4,9 @@ use Rattle.std.proofs.lemmas.List.{drop-drop, length-drop, length-set, length-ta
 use Rattle.std.proofs.lemmas.Slice.{drop-put_mid}
 use borrow.Rule.Slice.PartMut.{put_mid, same_len_mid}
 use Rattle.constriction_base.specs.Models.{Model}
-use Rattle.constriction_stack.proofs.LaneFilling.{lane_more, left_more, same_here}
-use Rattle.constriction_stack.proofs.LaneGroups.{lanes_more}
-use Rattle.constriction_stack.proofs.lanes.decoding.decode_lanes.Goals as goal
+use Rattle.constriction_interleaved.proofs.LaneFilling.{lane_more, left_more, same_here}
+use Rattle.constriction_interleaved.proofs.LaneGroups.{lanes_more}
+use Rattle.constriction_interleaved.proofs.decoding.decode_lanes.Goals as goal
 
 -- ---- groups of three
 -- the rows of a group lie within the matrix

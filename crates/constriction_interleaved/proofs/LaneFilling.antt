@@ -4,8 +4,9 @@ use Rattle.std.proofs.lemmas.Bool.{cases_lt}
 use Rattle.std.proofs.lemmas.List.{drop-drop, drop-set-lt, get_or-drop, get_or-set_other, get_or-set_same, get_or_read}
 use Rattle.constriction_base.specs.Models.{Model, items_of}
 use Rattle.constriction_stack.specs.Symbols.{DecodesAll}
-use Rattle.constriction_stack.specs.Lanes.{DecodesLanes, lane, row}
-use Rattle.constriction_stack.proofs.LaneRows.{row_at, row_before}
+use Rattle.constriction_interleaved.specs.Rows.{DecodesLanes, row}
+use Rattle.constriction_stack.specs.Lanes.{lane}
+use Rattle.constriction_interleaved.proofs.LaneRows.{row_at, row_before}
 
 -- lists that agree from a place on have the same item there
 pub same_here : {A : Type 0} (j : ℕ) (xs ys : List A) (d : A) → drop j xs ≡ drop j ys → get_or xs j d ≡ get_or ys j d

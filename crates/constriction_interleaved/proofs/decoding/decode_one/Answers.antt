@@ -1,9 +1,9 @@
 use Rattle.std.proofs.Common.{◌≡◌, ◌∙◌, ℕ, arith, take, length, sym, refl}
 use Rattle.std.proofs.lemmas.List.{length-set, length-take-le, take_all}
 use Rattle.constriction_base.specs.Models.{Model}
-use Rattle.constriction_stack.proofs.LaneTurns.{one_more}
+use Rattle.constriction_interleaved.proofs.LaneTurns.{one_more}
 use Rattle.constriction_stack.proofs.LaneWords.{lent_state}
-use Rattle.constriction_stack.proofs.lanes.decoding.decode_one.Goals as goal
+use Rattle.constriction_interleaved.proofs.decoding.decode_one.Goals as goal
 
 pub loop-place-preserved : goal.loop-place-preserved
 loop-place-preserved g c =

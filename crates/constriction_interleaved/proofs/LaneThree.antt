@@ -4,7 +4,8 @@ use Rattle.std.proofs.lemmas.Bool.{cases_lt}
 use Rattle.std.proofs.lemmas.List.{drop-append-le, drop-drop, drop_all, get_or-set_other, get_or-set_same, get_or_read, length-set, take-append-le, take_all}
 use Rattle.constriction_base.specs.Models.{Model, items_of}
 use Rattle.constriction_stack.specs.Symbols.{DecodesAll}
-use Rattle.constriction_stack.specs.Lanes.{DecodesLanes, lane, row}
+use Rattle.constriction_interleaved.specs.Rows.{DecodesLanes, row}
+use Rattle.constriction_stack.specs.Lanes.{lane}
 
 -- the items of a list in which the first three were set
 pub set_three : {A : Type 0} (xs : List A) (x y z d : A) → 2 < length xs
@@ -18,7 +19,7 @@ set_three {A} xs x y z d long =
     )
 
 -- what lies behind the first items
-behind : {A : Type 0} (n : ℕ) (xs ys : List A) → length xs ≡ n → drop n (xs ++ ys) ≡ ys
+pub behind : {A : Type 0} (n : ℕ) (xs ys : List A) → length xs ≡ n → drop n (xs ++ ys) ≡ ys
 behind {A} n xs ys long = drop-append-le n xs ys (omega arith) ∙ ap (λ (zs : List A). zs ++ ys) (drop_all n xs (omega arith))
 
 -- three rows, one after another

@@ -1,8 +1,8 @@
 use Rattle.std.proofs.Common.{◌≡◌, ◌-◌, ◌*◌, ℕ, List, arith, drop, length, refl, take}
 use Rattle.constriction_base.specs.Models.{Model}
-use Rattle.constriction_stack.specs.Lanes.{row}
-use Rattle.constriction_stack.proofs.LaneThree.{three_lanes}
-use Rattle.constriction_stack.proofs.lanes.decoding.decode_group.Goals as goal
+use Rattle.constriction_interleaved.specs.Rows.{row}
+use Rattle.constriction_interleaved.proofs.LaneThree.{three_lanes}
+use Rattle.constriction_interleaved.proofs.decoding.decode_group.Goals as goal
 
 first_row : {A : Type 0} (xs : List A) (width : ℕ) → row width 0 xs ≡ take width xs
 first_row xs width = let zero : 0 * width ≡ 0 = omega arith in rw zero refl

@@ -1,7 +1,7 @@
 -- Rows of a matrix, one of which is written.
 use Rattle.std.proofs.Common.{◌≡◌, ◌∙◌, ℕ, suc, ◌+◌, ◌*◌, ◌<◌, ◌≤◌, List, [], ◌++◌, length, drop, take, sym, ap, arith, mul-le-mul_right}
 use Rattle.std.proofs.lemmas.List.{drop-append-le, drop-take, drop_all, length-drop, length-take-le, take-append-le, take-take, take_all}
-use Rattle.constriction_stack.specs.Lanes.{row}
+use Rattle.constriction_interleaved.specs.Rows.{row}
 
 -- the rows below one stay as they were
 pub row_before : {A : Type 0} (width j k : ℕ) (xs ys : List A) → k < j → j * width ≤ length xs → row width k (take (j * width) xs ++ ys) ≡ row width k xs

@@ -1,6 +1,6 @@
 use Rattle.std.proofs.Common.{◌≡◌, ◌+◌, ◌*◌, drop, length}
-use Rattle.constriction_stack.specs.Lanes.{DecodesLanes}
-use Rattle.constriction_stack.proofs.lanes.decoding.decode_lanes.Given as goal
+use Rattle.constriction_interleaved.specs.Rows.{DecodesLanes}
+use Rattle.constriction_interleaved.proofs.decoding.decode_lanes.Given as goal
 
 abbrev pub invariant-threes : goal.invariant-threes
 invariant-threes g l = record {

@@ -3,14 +3,15 @@
 ghost use Rattle.std.specs.Prelude.{◌≡◌, ◌*◌, ◌<◌, ◌≤◌, ℕ, drop, length, slice_index};
 ghost use Rattle.constriction_base.specs.Models.{items_of};
 ghost use Rattle.constriction_base.specs.Steps.{IsSizes};
-ghost use Rattle.constriction_stack.specs.Lanes.{DecodesLanes, lane};
+ghost use Rattle.constriction_interleaved.specs.Rows.{DecodesLanes};
+ghost use Rattle.constriction_stack.specs.Lanes.{lane};
 ghost use Rattle.constriction_stack.specs.Symbols.{Decodes, DecodesAll};
 
-use crate::coder::AnsCoder;
-use crate::lanes::steps::decode_from;
 use constriction_base::cursor::Cursor;
 use constriction_base::errors::CoderError;
 use constriction_base::model::{DecoderModel, EntropyModel};
+use constriction_stack::coder::AnsCoder;
+use constriction_stack::lanes::steps::decode_from;
 use constriction_stream::decoding::Decode;
 use constriction_words::{BitArray, WordOf};
 
@@ -122,37 +123,15 @@ where
     if width == 0 || heads.len() < 4 || heads.len() % 3 != 1 {
         return 0;
     }
-    let (symbols_a, others) = symbols.split_at_mut(count);
-    let (symbols_b, others) = others.split_at_mut(count);
-    let (symbols_c, others) = others.split_at_mut(count);
-    let (symbols_d, _) = others.split_at_mut(count);
-    let (a, left_a, b, left_b, c, left_c, d, left_d) = decode_four::<_, _, _, PRECISION>(
-        heads[0],
-        &words[..width],
-        lens[0],
-        symbols_a,
-        heads[1],
-        &words[width..2 * width],
-        lens[1],
-        symbols_b,
-        heads[2],
-        &words[2 * width..3 * width],
-        lens[2],
-        symbols_c,
-        heads[3],
-        &words[3 * width..4 * width],
-        lens[3],
-        symbols_d,
+    decode_group_of_four::<_, _, _, PRECISION>(
+        &mut heads[..4],
+        &words[..4 * width],
+        width,
+        &mut lens[..4],
         model,
+        &mut symbols[..4 * count],
+        count,
     );
-    heads[0] = a;
-    heads[1] = b;
-    heads[2] = c;
-    heads[3] = d;
-    lens[0] = left_a;
-    lens[1] = left_b;
-    lens[2] = left_c;
-    lens[3] = left_d;
     4
 }
 
@@ -285,6 +264,66 @@ where
         symbols_c[place] = symbol_c;
     }
     (x_a, left_a, x_b, left_b, x_c, left_c)
+}
+
+/// Decodes symbols from four coders, as [`decode_lanes`] does from many.
+fn decode_group_of_four<
+    Word: WordOf<State>,
+    State: BitArray,
+    M: DecoderModel<PRECISION, Symbol = usize>,
+    const PRECISION: usize,
+>(
+    heads: &mut [State],
+    words: &[Word],
+    width: usize,
+    lens: &mut [usize],
+    model: &M,
+    symbols: &mut [usize],
+    count: usize,
+)
+where
+    M::Probability: WordOf<Word>,
+    requires sizes { IsSizes Word.BITS State.BITS }
+    requires some { 0 < width }
+    requires heads { length heads.now ≡ 4 }
+    requires words { length words.now ≡ 4 * width }
+    requires lens { length lens.now ≡ 4 }
+    requires symbols { length symbols.now ≡ 4 * count }
+    requires within { (j : ℕ) → j < length lens.now → slice_index lens.now j ≤ width }
+    ensures decoded { DecodesLanes Word.number State.number Word.BITS State.BITS
+        record { precision = PRECISION; table = M.table model.now } width count words.now
+        heads.old lens.old heads.new lens.new symbols.new 4 }
+{
+    let (first, others) = symbols.split_at_mut(count);
+    let (second, others) = others.split_at_mut(count);
+    let (third, fourth) = others.split_at_mut(count);
+    let (a, left_a, b, left_b, c, left_c, d, left_d) = decode_four::<_, _, _, PRECISION>(
+        heads[0],
+        &words[..width],
+        lens[0],
+        first,
+        heads[1],
+        &words[width..2 * width],
+        lens[1],
+        second,
+        heads[2],
+        &words[2 * width..3 * width],
+        lens[2],
+        third,
+        heads[3],
+        &words[3 * width..],
+        lens[3],
+        fourth,
+        model,
+    );
+    heads[0] = a;
+    heads[1] = b;
+    heads[2] = c;
+    heads[3] = d;
+    lens[0] = left_a;
+    lens[1] = left_b;
+    lens[2] = left_c;
+    lens[3] = left_d;
 }
 
 /// Decodes a symbol with `model` from each of four coders in turn, until the lists of symbols are full.

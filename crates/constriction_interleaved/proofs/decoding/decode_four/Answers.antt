@@ -1,8 +1,8 @@
 use Rattle.std.proofs.Common.{◌≡◌, ◌∙◌, ℕ, arith, take}
 use Rattle.std.proofs.lemmas.List.{length-set, take_all}
 use Rattle.constriction_base.specs.Models.{Model}
-use Rattle.constriction_stack.proofs.LaneTurns.{one_more}
-use Rattle.constriction_stack.proofs.lanes.decoding.decode_three.Goals as goal
+use Rattle.constriction_interleaved.proofs.LaneTurns.{one_more}
+use Rattle.constriction_interleaved.proofs.decoding.decode_four.Goals as goal
 
 pub loop-place-preserved : goal.loop-place-preserved
 loop-place-preserved g c =
@@ -18,6 +18,9 @@ loop-place-preserved g c =
       decoded_c = one_more g.Word.BitArray.BITS g.State.BitArray.BITS model l.symbols_c l.place c.decode_from-symbol_c.result.0 _ _ _ (omega (arith, c.loop-place-test.true, l.invariant.count_c, l.invariant.count_a, c.requires.count.1)) l.invariant.decoded_c c.decode_from-symbol_c.ensures.decoded;
       left_c = omega (arith, c.decode_from-symbol_c.ensures.rest, l.invariant.left_c);
       count_c = length-set l.symbols_c l.place c.decode_from-symbol_c.result.0 ∙ l.invariant.count_c;
+      decoded_d = one_more g.Word.BitArray.BITS g.State.BitArray.BITS model l.symbols_d l.place c.decode_from-symbol_d.result.0 _ _ _ (omega (arith, c.loop-place-test.true, l.invariant.count_d, l.invariant.count_a, c.requires.count.2)) l.invariant.decoded_d c.decode_from-symbol_d.ensures.decoded;
+      left_d = omega (arith, c.decode_from-symbol_d.ensures.rest, l.invariant.left_d);
+      count_d = length-set l.symbols_d l.place c.decode_from-symbol_d.result.0 ∙ l.invariant.count_d;
     }
 
 pub returns-clause-first : goal.returns-clause-first
@@ -37,3 +40,9 @@ returns-clause-third g c =
     let l = c.loop-place in
     let all : take l.place l.symbols_c ≡ l.symbols_c = take_all l.place l.symbols_c (omega (arith, c.loop-place-test.false, l.invariant.count_c, c.requires.count.1, l.invariant.count_a)) in
     (rw all at l.invariant.decoded_c, l.invariant.left_c)
+
+pub returns-clause-fourth : goal.returns-clause-fourth
+returns-clause-fourth g c =
+    let l = c.loop-place in
+    let all : take l.place l.symbols_d ≡ l.symbols_d = take_all l.place l.symbols_d (omega (arith, c.loop-place-test.false, l.invariant.count_d, c.requires.count.2, l.invariant.count_a)) in
+    (rw all at l.invariant.decoded_d, l.invariant.left_d)

@@ -1,0 +1,6 @@
+mod LaneFilling
+mod LaneGroups
+pub mod LaneRows
+mod LaneThree
+mod LaneFour
+mod LaneTurns
