@@ -61,8 +61,8 @@
    functions .._each take 4 nanoseconds for each weight of each row.
 
    The functions .._indexed check all tables in each call, in 1 nanosecond for each weight. A list of more than 64
-   symbols for each table (to encode 128, or 256 with a stack or a chain coder) then makes each table once. This takes
-   10 nanoseconds for each weight, or 17 for an encode with a stack or a chain coder. With 64 tables of 256 weights,
+   symbols for each table (to encode 128) then makes each table once. This takes 10 nanoseconds for each weight, or 17
+   for an encode of at least 8 symbols for each weight with a stack or a chain coder. With 64 tables of 256 weights,
    each symbol then takes 9 nanoseconds to encode and 13 to decode with a stack coder. A shorter list makes no tables,
    and each symbol takes 15 nanoseconds to encode and 60 to decode. For a few symbols, pass the rows with .._each,
    which checks only these.

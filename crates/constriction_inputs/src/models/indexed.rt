@@ -34,8 +34,8 @@ pub type GuidedOrRow<'a, P, const PRECISION: usize> = WeightsModel<
 ///
 /// A long list makes each table once. To encode, a table takes 32 bytes for each weight if `P` has at most 32 bits. To
 /// decode, it takes at most 12 bytes. A list of at most 64 symbols for each table makes none to decode: a look-up adds
-/// up the weights before the symbol. To encode, this holds for up to 128 symbols for each table, or 256 if a table
-/// would keep reciprocals.
+/// up the weights before the symbol. To encode, this holds for up to 128 symbols for each table. A table keeps
+/// reciprocals only if the list has at least 8 symbols for each weight, because it takes time to compute them.
 ///
 /// # Examples
 ///
@@ -87,8 +87,8 @@ impl<'a, P: BitArray, const PRECISION: usize> Models<P, PRECISION> for Indexed<'
         divides: bool,
     ) -> Option<IndexedList<'a, GuidedOrRow<'a, P, PRECISION>>> {
         let tables = rows_of(self.weights, self.width);
-        let few = if divides { 256 } else { 128 }; // a table pays from so many symbols on
-        let searches = count / few <= tables;
+        let searches = count / 128 <= tables;
+        let divides = divides && count / 8 >= self.weights.len(); // fewer symbols don't pay for reciprocals
         match models_by(
             alloc,
             self.weights,
