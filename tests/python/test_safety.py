@@ -552,7 +552,6 @@ class Arguments(unittest.TestCase):
             break
         self.assertGreater(failed, 2)
 
-
     def test_faults_that_are_gone(self) -> None:
         """A number at fault that another thread changes before the message is made is refused as others are."""
 
