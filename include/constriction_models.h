@@ -272,8 +272,8 @@ uint32_t constriction_weights_of_counts_u32(const uint64_t *counts, size_t count
    1. The floats needn't add up to 1. The rule: each float is multiplied by the power of two that makes the greatest
    one at least 2^61 and less than 2^62, and is rounded to the nearest whole number, half to even. A count of 0
    becomes 1. The weights are those of constriction_weights_of_counts for these counts. All computations are in whole
-   numbers, so the weights are the same on every machine. A double has to be an IEEE 754 binary64. The call takes 12
-   nanoseconds and requests about 30 bytes of memory for each float.
+   numbers, so the weights are the same on every machine. A double has to be an IEEE 754 binary64. The call takes 7 to
+   12 nanoseconds and requests about 30 bytes of memory for each float.
    Errors: WRONG_LENGTH (weight_count isn't float_count); WRONG_WEIGHTS (a float is negative, infinite or NaN, or
    none is above 0, or there are more than 2^24 floats); NO_MEMORY. */
 uint32_t constriction_weights_of_floats_u32(const double *floats, size_t float_count,
