@@ -17,7 +17,7 @@ from ._buffers import BYTE, NUMBER, SHORT, SYMBOL, WORD, List, numpy_module, roo
 from .errors import InvalidDataError, Refusal, WrongLengthError, shown
 
 __all__ = [
-    "as_numpy", "count_of", "doubles", "floats_of", "grid_of", "is_one", "is_row", "is_whole", "items_of", "listed_of", "own_of", "past", "plain_of", "real",
+    "as_numpy", "count_of", "doubles", "floats_of", "grid_of", "is_one", "is_row", "is_whole", "items_of", "listed_of", "nested", "own_of", "past", "plain_of", "real",
     "rows_of", "sequence_of", "table_of", "unmasked", "whole", "wholes_of", "wholes_wanted", "words_of",
 ]  # fmt: skip
 
@@ -113,7 +113,8 @@ def as_numpy(numbers: Any) -> Any:
     if numpy is None or isinstance(numbers, (list, tuple, range, array)):
         return None
     unmasked(numbers)
-    return numpy.asarray(numbers) if hasattr(numbers, "__array__") else None  # Subclasses may have other methods.
+    is_table = hasattr(numbers, "__array__") or isinstance(numbers, memoryview) and numbers.ndim > 1
+    return numpy.asarray(numbers) if is_table else None  # Subclasses may have other methods.
 
 
 def items_of(numbers: Any) -> Any:
@@ -129,10 +130,10 @@ def items_of(numbers: Any) -> Any:
     except TypeError:
         return numbers
     _flat(view.ndim)
-    return _items(view)
+    return nested(view)
 
 
-def _items(view: memoryview) -> list[Any]:
+def nested(view: memoryview) -> list[Any]:
     """Returns the items of memory. Raises TypeError if their format is unknown."""
     try:
         return view.tolist()
@@ -294,7 +295,7 @@ def grid_of(numbers: Any) -> tuple[Any, int]:
     table = as_numpy(numbers)
     if table is not None:
         if table.ndim not in (1, 2):
-            raise TypeError(f"expected a row for each symbol, got an array of {table.ndim} dimensions")
+            raise _no_rows(table.ndim)
         if table.dtype.kind not in "iubf":
             raise TypeError(f"expected floats, got {table.dtype}")
         floats = doubles(table).ravel() if table.size else array(NUMBER)
@@ -321,7 +322,13 @@ def _listed_rows(numbers: Any) -> Any:
         view = memoryview(numbers)
     except TypeError:
         return numbers
-    return _items(view) if view.ndim == 2 else numbers
+    if view.ndim > 2:
+        raise _no_rows(view.ndim)
+    return nested(view) if view.ndim == 2 else numbers
+
+
+def _no_rows(dimensions: int) -> TypeError:
+    return TypeError(f"expected a row for each symbol, got an array of {dimensions} dimensions")
 
 
 def rows_of(numbers: Any, row: Callable[[Any], array[Any]]) -> list[array[Any]]:
@@ -330,5 +337,5 @@ def rows_of(numbers: Any, row: Callable[[Any], array[Any]]) -> list[array[Any]]:
     if table is None:
         return [row(it) for it in _listed_rows(numbers)]
     if table.ndim != 2:
-        raise TypeError(f"expected a row for each symbol, got an array of {table.ndim} dimensions")
+        raise _no_rows(table.ndim)
     return [row(it) for it in table]

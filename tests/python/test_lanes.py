@@ -15,7 +15,7 @@ from classes_of_families import KINDS
 from constriction import errors
 
 from constriction.stream.model import (
-    Bernoulli, Categorical, CustomModel, Model, QuantizedGaussian, Uniform, WeightTable,
+    Bernoulli, Categorical, CustomModel, Model, QuantizedGaussian, QuantizedMixture, Uniform, WeightTable,
 )  # fmt: skip
 from constriction.stream.stack import AnsCoder, AnsCoders, SmallAnsCoder, SmallAnsCoders
 
@@ -171,6 +171,80 @@ class Lanes(unittest.TestCase):
         with self.assertRaises(TypeError):
             batch.decode(QuantizedGaussian(-9, 9), [1.0, 2.0, 3.0], [1.0, 2.0, 3.0], amt=2)
         self.assertEqual(batch, before)
+
+    def test_numbers_of_parameters(self) -> None:
+        """Lists of parameters that don't fit the symbols are refused, and a list for one row is for each row."""
+        family, batch = QuantizedGaussian(-9, 9), AnsCoders(3)
+        batch.encode_reverse([1, 2, 3], family, [0.5] * 3, [2.0] * 3)
+        before, mixture = batch.clone(), QuantizedMixture(family)
+        symbols: tuple[Any, ...] = ([1, 2, 3], [[1, 2, 3, 4, 5]] * 3)
+        for numbers in symbols:
+            for length in (0, 2, 4, 16):
+                given, rows = [0.5] * length, [[0.5]] * length
+                calls: list[Any] = [
+                    lambda: batch.encode_reverse(numbers, family, given, given), lambda: batch.encode_reverse(numbers, mixture, rows, rows, rows),
+                    lambda: batch.decode(family, numbers, given), lambda: batch.decode(mixture, rows, rows, rows),
+                ]  # fmt: skip
+                for call in calls:
+                    with self.assertRaises(errors.WrongLengthError):
+                        call()
+                    self.assertEqual(batch, before)
+        for rows in ([0.5, -1.0], array("d", [0.5, -1.0]), memoryview(array("d", [0.5, -1.0]))):
+            batch.encode_reverse([[1, 2], [3, 4], [5, 6]], family, rows, 2.0)
+            each = [[0.5, -1.0]] * 3
+            self.assertEqual(listed(batch.clone().decode(family, each, [[2.0, 2.0]] * 3)), [1, 2, 3, 4, 5, 6])
+            self.assertEqual(listed(batch.decode(family, each, [2.0, 2.0])), [1, 2, 3, 4, 5, 6])
+            self.assertEqual(batch, before)
+
+    def test_lists_that_change(self) -> None:
+        """A list of symbols that a number's own method shortens or extends during the call is refused."""
+        family = QuantizedGaussian(-9, 9)
+        for change in (list.clear, list.pop, lambda it: it.append(0)):
+            batch, symbols = AnsCoders(3), [1, 2, 3]
+
+            class Number:
+                def __float__(self) -> float:
+                    change(symbols)
+                    return 0.5
+
+                def __index__(self) -> int:
+                    return int(float(self) + 0.5)
+
+            calls: list[Any] = [
+                lambda: batch.encode_reverse(symbols, family, [0.5, 0.5, Number()], 2.0),
+                lambda: batch.encode_reverse(symbols, WeightTable(), [[1 << 23] * 2, [1 << 23] * 2, [1 << 23, Number()]]),
+            ]  # fmt: skip
+            for call in calls:
+                symbols[:] = 1, 0, 1
+                with self.assertRaises((errors.WrongLengthError, errors.WrongWeightsError)):
+                    call()
+                self.assertTrue(batch.is_empty())
+
+    def test_views(self) -> None:
+        """Buffers of two dimensions, and of formats that Python doesn't know."""
+        batch, family = AnsCoders(2), QuantizedGaussian(-9, 9)
+        symbols = memoryview(array("q", [1, -2, 3, 4]).tobytes()).cast("B").cast("q", (2, 2))
+        means = memoryview(array("d", [0.5, -1.5, 2.5, 3.5]).tobytes()).cast("B").cast("d", (2, 2))
+        batch.encode_reverse(symbols, family, means, 2.0)
+        self.assertEqual(listed(batch.clone().decode(family, means, [[2.0] * 2] * 2)), [1, -2, 3, 4])
+        self.assertEqual(listed(batch.decode(family, means, 2.0)), [1, -2, 3, 4])
+        for odd in (
+            memoryview(bytes(2)).cast("c"),
+            memoryview(array("d", [0.5] * 6).tobytes()).cast("B").cast("d", (2, 1, 3)),
+        ):
+            before = batch.clone()
+            for model, given in (
+                (family, (odd, odd)),
+                (Uniform(3), ()),
+                (Categorical(), (odd,)),
+                (WeightTable(), (odd,)),
+            ):
+                with self.assertRaises((TypeError, errors.WrongLengthError)):
+                    batch.encode_reverse(odd, model, *given)
+                if given and odd.ndim == 1:
+                    with self.assertRaises(TypeError):
+                        batch.decode(model, *given)
+            self.assertEqual(batch, before)
 
 
 if __name__ == "__main__":

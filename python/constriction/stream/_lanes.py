@@ -12,8 +12,9 @@ from .._answers import AS_USUAL, shifted
 from .._buffers import ANSWER, OWN, SYMBOL, Answer, List, Numbers, Parameter, lent, listed, numpy_module, room
 from .._coder import Coder
 from .._coding import _explained as explained
+from .._coding import _other_lengths as other_lengths
 from .._coding import model_wanted
-from .._numbers import as_numpy, count_of, is_one, is_row, is_whole, sequence_of, whole
+from .._numbers import as_numpy, count_of, is_one, is_row, is_whole, items_of, nested, sequence_of, whole
 from .._places import places_of
 from .._shapes import Shape, aligned, shape_of
 from .._sizes import LARGE, SMALL, Size
@@ -56,6 +57,10 @@ def _rows(numbers: Any, count: int, core: int = 0) -> tuple[Any, Shape]:
     if type(numbers) is _buffers.array_class:
         return numbers, numbers.shape
     numbers = numbers if as_numpy(numbers) is not None else sequence_of(numbers)
+    if isinstance(numbers, memoryview) and as_numpy(numbers) is None:
+        if numbers.ndim == 1:
+            return numbers, numbers.shape
+        numbers = nested(numbers)
     shape = shape_of(numbers)
     if as_numpy(numbers) is None and len(numbers) and _is_nested(next(iter(numbers)), core):
         rows = [sequence_of(it) for it in numbers]
@@ -70,6 +75,20 @@ def _array(numbers: Any, shape: Shape) -> Any:
     """Returns a flat list of numbers, or of rows, as a numpy array of this shape, or of rows of it."""
     table = numpy_module().asarray(numbers)
     return table.reshape(*shape, *table.shape[1:])
+
+
+def _located(model: Model, given: Any, count: int) -> Any:
+    """Returns parameters of ``count`` symbols for C functions. Returns None if the model takes them in another way."""
+    located = model.located(given)
+    if located is not None and located.symbols != count:
+        raise other_lengths(count, located.symbols, "sets of parameters")
+    return located
+
+
+def _tiled(numbers: Any, shape: Shape) -> Any:
+    """Returns a list with a number for each place of a row as a list with a number for each place of each row."""
+    is_row_of_all = not is_one(numbers) and len(numbers) == shape[1]
+    return [*items_of(numbers)] * shape[0] if is_row_of_all else numbers
 
 
 class AnsCoders(Coder):
@@ -125,7 +144,7 @@ class AnsCoders(Coder):
         """Encodes a row of symbols onto each coder, from the last symbol of the row to the first.
 
         ``symbols`` has the shape ``(n,)``, a symbol for each coder, or ``(n, T)``. If the model has missing parameters,
-        pass an array of each after the model, which broadcasts to this shape, or a list of this shape.
+        pass an array or a list of each after the model, which broadcasts to this shape.
 
         Raises the exceptions of :meth:`AnsCoder.encode_reverse`, which name the symbol, its place in the row and the
         coder. After an error no coder is changed.
@@ -164,7 +183,7 @@ class AnsCoders(Coder):
             if given and model.has_rows:
                 kind, models = model.rows_form, self._packed(model, given, count)
             elif given:
-                located = model.located(given)
+                located = _located(model, given, count)
                 if located is None:
                     lefts, ps = model.intervals(symbols, given)
                     return self._encode("_intervals", state, count, (*listed(lefts), *listed(ps)))
@@ -176,6 +195,8 @@ class AnsCoders(Coder):
                 return self._encode(kind, state, count, (*models, lent(own), count))
             places = places_of(symbols, model.first)
             try:
+                if len(places) != count:  # A number's own method has changed the list.
+                    raise WrongLengthError(f"expected {count} symbols, as when the call began, got {len(places)}")
                 return self._encode(kind, state, count, (*models, places.lent(slice(0, count)), count))
             finally:
                 places.close()
@@ -206,6 +227,7 @@ class AnsCoders(Coder):
         lists = [numbers for numbers, _ in found]
         if shape is not None and len(shape) == 2:
             if all(is_one(it) or as_numpy(it) is None for it in lists):
+                lists = lists if core else [_tiled(it, shape) for it in lists]
                 return aligned(core, lists, (shape[0] * shape[1],))[0], shape
             lists = [_array(numbers, shape) if is_nested else numbers for numbers, is_nested in found]
         flat, common = aligned(core, lists, shape)
@@ -291,7 +313,7 @@ class AnsCoders(Coder):
             models = self._packed(model, given, count)
             symbols = room(SYMBOL, count, ANSWER)
             return self._decode(model.rows_form, state, (*models, *listed(symbols))), symbols
-        located = model.located(given)
+        located = _located(model, given, count)
         if located is not None:
             symbols = room(SYMBOL, count, ANSWER)
             models = located.lent(slice(0, count))
