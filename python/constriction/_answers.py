@@ -50,6 +50,8 @@ class Wanted(NamedTuple):
 
     def check(self, shape: Shape) -> None:
         """Raises an exception if the caller can't get an array of this shape. A single symbol has no dimensions."""
+        if len(shape) > 1 and numpy_for_answers() is None:
+            raise TypeError(f"expected lists of one dimension, because numpy can't be imported, got the shape {shape}")
         if self.dtype is None and self.out is None:
             return
         numpy, name = numpy_for_answers(), "dtype" if self.out is None else "out"

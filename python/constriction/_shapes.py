@@ -6,7 +6,7 @@ from collections.abc import Sequence
 from math import prod
 from typing import Any
 
-from ._buffers import NUMBER, SYMBOL, numpy_module, room
+from ._buffers import NUMBER, SYMBOL, numpy_for_answers, numpy_module, room
 from ._numbers import as_numpy, is_one, is_row, items_of, real, whole
 from .errors import WrongLengthError
 
@@ -52,13 +52,19 @@ def flat(numbers: Any) -> Any:
 
 def _stretched(numbers: Any, shape: Shape, row: bool = False, wholes: bool = False) -> Any:
     """Returns numbers that broadcast to ``shape`` as a list in C order, or as a list of rows."""
-    if shape_of(numbers) == shape and len(shape) == 1 + row:
+    own = shape_of(numbers)
+    if own == shape and len(shape) == 1 + row:
         return numbers
-    table, numpy = as_numpy(numbers), numpy_module()
-    if table is None and len(shape) > 1:
+    table = as_numpy(numbers)
+    if table is None and len(shape) > 1 and not is_one(numbers):
+        if own == shape and not row:
+            return flat(numbers)
+        numpy = numpy_for_answers()
+        if numpy is None:
+            raise TypeError(f"expected parameters of shape {shape}, because numpy can't be imported, got {own}")
         table = numpy.asarray(numbers)
     if table is not None:
-        table = numpy.broadcast_to(table, shape)
+        table = numpy_module().broadcast_to(table, shape)
         return table.reshape(prod(shape[:-1]), shape[-1]) if row else table.ravel()
     single, code = numbers if is_one(numbers) else next(iter(items_of(numbers))), SYMBOL if wholes else NUMBER
     stretched = room(code, prod(shape))

@@ -80,6 +80,25 @@ class Single(unittest.TestCase):
                         self.assertEqual(coder, other)
         self.assertEqual(len(AnsCoder([5]).decode(Categorical(), [])), 0)
 
+    def test_views_of_several_dimensions(self) -> None:
+        """Symbols and parameters in such buffers are taken as arrays are. Without numpy no answer has such a shape."""
+        view: Any = memoryview(array("d", [0.5, 1.5, -2.5, 3.5]).tobytes()).cast("B").cast("d", (2, 2))
+        symbols = memoryview(array("q", [0, 1, -2, 3]).tobytes()).cast("B").cast("q", (2, 2))
+        family, coder, alone = QuantizedGaussian(-9, 9), AnsCoder(), AnsCoder()
+        coder.encode_reverse(symbols, family, view, 2.0)
+        alone.encode_reverse([0, 1, -2, 3], family, [0.5, 1.5, -2.5, 3.5], [2.0] * 4)
+        self.assertEqual(coder, alone)
+        calls: list[Any] = [
+            lambda: coder.decode(family, view, 2.0),
+            lambda: coder.decode(family, view, view.tolist()[0]),
+        ]
+        for call in calls:
+            before = coder.clone()
+            try:
+                self.assertEqual(call().shape, (2, 2))
+            except (TypeError, ValueError):
+                self.assertEqual(coder, before)
+
     def test_other_parameters(self) -> None:
         """One set of parameters, in any form, decodes to an int."""
         mixture, weights, means, stds = (
