@@ -65,7 +65,7 @@ def _rows(numbers: Any, count: int, core: int = 0) -> tuple[Any, Shape]:
     if as_numpy(numbers) is None and len(numbers) and _is_nested(next(iter(numbers)), core):
         rows = [sequence_of(it) for it in numbers]
         lengths = {len(it) for it in rows}
-        if len(lengths) > 1:
+        if len(lengths) != 1:
             raise WrongLengthError(f"expected rows of one length, got the lengths {sorted(lengths)}")
         shape, numbers = (len(rows), lengths.pop()), [it for row in rows for it in row]
     return numbers, shape
