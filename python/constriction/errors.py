@@ -69,12 +69,12 @@ INVALID_FOR_MODEL = "Tried to decode from compressed data that is invalid for th
 ENDS_WITH_ZERO_WORD = (
     "Tried to decode from compressed data that ends with a zero word, which is invalid for an ANS coder."
 )
-NOT_ENOUGH_WORDS = "not enough words, or a zero word at the end"
+NOT_ENOUGH_WORDS = "expected enough words, of which the last isn't 0, got too few words, or a last word of 0"
 OUT_OF_COMPRESSED_DATA = "Out of compressed data."
 OUT_OF_REMAINDERS = "Out of remainders information from previous decoding."
 CODEWORD_ENDED = "The compressed data ended before the current codeword was complete."
 INVALID_CODEWORD = "Invalid codeword for this codebook: Invalid Exp-Golomb codeword."
-NO_WHOLE_WORDS = "the coder holds no whole number of words"
+NO_WHOLE_WORDS = "expected a coder that holds a whole number of words, got one that doesn't"
 
 
 def wrong_weights(total: int) -> str:
@@ -115,9 +115,9 @@ def impossible_in_lane(found: ImpossibleSymbolError, count: int) -> ImpossibleSy
 
 _CLASSES: dict[int, tuple[type[Exception], str]] = {
     1: (ImpossibleSymbolError, IMPOSSIBLE_SYMBOL),
-    2: (WrongWeightsError, "wrong weights"),
-    3: (WrongIntervalError, "wrong interval"),
-    4: (WrongLengthError, "wrong length"),
+    2: (WrongWeightsError, "expected weights with the coder's sum, got others"),
+    3: (WrongIntervalError, "expected an interval that isn't empty and is within the coder's sum, got another"),
+    4: (WrongLengthError, "expected lists whose lengths fit each other, got others"),
     5: (NoSpaceError, "no space"),
     6: (MemoryError, "out of memory"),
     7: (InvalidDataError, INVALID_FOR_MODEL),

@@ -34,10 +34,8 @@ __all__ = ["MOST_SYMBOLS", "Entry", "Store"]
 #: The greatest total number of symbols in the chunks of a store.
 MOST_SYMBOLS = 1 << 20
 
-TOO_MANY_SYMBOLS = "too many symbols"
-NO_SUCH_CHUNK = "no such chunk"
-INVALID_CHUNK = "invalid chunk"
-BAD_INDEX = "bad index"
+_TOO_MANY_SYMBOLS = f"expected at most {MOST_SYMBOLS} symbols in all chunks, got more"
+_INVALID_CHUNK = "expected words that encode the symbols of chunk {}, got others"
 
 #: The number of words that a decoder reads before its first symbol.
 _WORDS_OF_A_STATE = 2
@@ -98,10 +96,16 @@ class Store:
         self._words, self._index, self._model = words, [_entry(it) for it in index], model
         size = _as_bytes(words).nbytes
         count = size // 4
-        if size % 4 or sum(it.count for it in self._index) > MOST_SYMBOLS:
-            raise errors.WrongLengthError(BAD_INDEX)
-        if not all(0 <= it.position <= count and 0 <= it.count for it in self._index):
-            raise errors.WrongLengthError(BAD_INDEX)
+        if size % 4:
+            raise errors.WrongLengthError(f"expected words of 4 bytes, got {size} bytes")
+        if sum(it.count for it in self._index) > MOST_SYMBOLS:
+            raise errors.WrongLengthError(_TOO_MANY_SYMBOLS)
+        for i, it in enumerate(self._index):
+            if not (0 <= it.position <= count and 0 <= it.count):
+                raise errors.WrongLengthError(
+                    f"expected chunks of at least 0 symbols that begin at words 0 .. {count}, got chunk {i} of"
+                    f" {errors.shown(it.count)} symbols that begins at word {errors.shown(it.position)}"
+                )
 
     @classmethod
     def build(cls, chunks: Iterable[List], model: Model) -> Store:
@@ -118,7 +122,7 @@ class Store:
             symbols = flat(sequence_of(chunk))
             left -= len(symbols)
             if left < 0:
-                raise errors.WrongLengthError(TOO_MANY_SYMBOLS)
+                raise errors.WrongLengthError(_TOO_MANY_SYMBOLS)
             index.append(Entry(*encoder.pos(), len(symbols)))
             if len(symbols):
                 encoder.encode(symbols, model)
@@ -160,14 +164,14 @@ class Store:
         """
         place = whole(i)
         if not 0 <= place < len(self._index):
-            raise IndexError(NO_SUCH_CHUNK)
-        entry = self._index[place]
+            raise self._no_such_chunk(place)
+        entry, invalid = self._index[place], _INVALID_CHUNK.format(place)
         if not all(0 <= it < _STATES for it in entry.state):
-            raise errors.InvalidDataError(INVALID_CHUNK)
+            raise errors.InvalidDataError(invalid)
         symbols = room(SYMBOL, entry.count)
         # Each symbol takes at most one word, so the decoder needs no other words.
         words = self._words_from(entry.position, entry.count + _WORDS_OF_A_STATE)
-        weights, decoder, texts = self._model.table(), RangeDecoderState(), {7: INVALID_CHUNK}
+        weights, decoder, texts = self._model.table(), RangeDecoderState(), {7: invalid}
         LARGE.call("range_seek", byref(decoder), lent(words), len(words), 0, *entry.state, texts=texts)
         if len(symbols):
             LARGE.call(
@@ -175,6 +179,9 @@ class Store:
                 lent(symbols), len(symbols), texts=texts,
             )  # fmt: skip
         return answered(shifted(symbols, self._model.first))
+
+    def _no_such_chunk(self, place: int) -> IndexError:
+        return IndexError(f"expected the number of one of {len(self._index)} chunks, got {errors.shown(place)}")
 
     def __len__(self) -> int:
         return len(self._index)
@@ -184,6 +191,8 @@ class Store:
         if isinstance(i, slice):
             return [self.chunk(k) for k in range(*i.indices(len(self)))]
         place = whole_index(i)
+        if place < -len(self):
+            raise self._no_such_chunk(place)
         return self.chunk(place + len(self) if place < 0 else place)
 
     def __iter__(self) -> Iterator[Any]:
