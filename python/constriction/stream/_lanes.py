@@ -59,7 +59,7 @@ def _rows(numbers: Any, count: int, core: int = 0) -> tuple[Any, Shape]:
     numbers = numbers if as_numpy(numbers) is not None else sequence_of(numbers)
     if isinstance(numbers, memoryview) and as_numpy(numbers) is None:
         if numbers.ndim == 1:
-            return numbers, numbers.shape
+            return numbers, (len(numbers),)
         numbers = nested(numbers)
     shape = shape_of(numbers)
     if as_numpy(numbers) is None and len(numbers) and _is_nested(next(iter(numbers)), core):
