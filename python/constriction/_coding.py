@@ -9,7 +9,7 @@ from typing import Any, NoReturn
 
 from ._answers import Wanted, shape_counted, shifted
 from ._buffers import ANSWER, SYMBOL, Numbers, Symbols, lent, listed, room
-from ._numbers import count_of, is_one, is_whole, listed_of, sequence_of, whole
+from ._numbers import as_numpy, count_of, is_one, is_whole, items_of, listed_of, sequence_of, whole
 from ._places import places_of
 
 from .errors import (
@@ -63,6 +63,8 @@ def encoded(
         model_wanted(model, symbols)
     model, one = model.at(size), is_one(symbols)
     parameters = tuple(it if is_one(it) else sequence_of(it) for it in parameters)
+    if one and not model.core:
+        parameters = tuple(map(_alone, parameters))
     if not one:
         symbols = sequence_of(symbols)
         if parameters:
@@ -73,6 +75,17 @@ def encoded(
     except Refusal as refused:
         given = tuple([it] for it in parameters) if one else parameters
         raise _explained(refused, symbols, model, given) from None
+
+
+def _alone(numbers: Any) -> Any:
+    """Returns a single symbol's parameter: a number, or the number of a list of one."""
+    if is_one(numbers):
+        return numbers
+    table = as_numpy(numbers)
+    items = items_of(flat(numbers)) if table is None else table.ravel()
+    if len(items) != 1:
+        raise WrongLengthError(f"expected one of each parameter for one symbol, got {len(items)}")
+    return next(iter(items))
 
 
 def _encoded(

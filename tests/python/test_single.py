@@ -146,6 +146,34 @@ class Single(unittest.TestCase):
                     chain.encode_reverse(chain.decode(model, *given), model, *given)
                     decoder.decode(model, *given)
 
+    def test_lists_of_one_parameter(self) -> None:
+        """A single symbol takes a list of one of each parameter, under each model, and no other list."""
+        spread: Any = CustomModel(lambda x, k: min(max((x - k) / 40 + 0.5, 0), 1), None, -9, 9)
+        tables = WeightTable([[1, (1 << 24) - 1], [1 << 23, 1 << 23]])
+        cases: list[tuple[Any, tuple[Any, ...]]] = [
+            (QuantizedGaussian(-9, 9), (0.5, 2.0)), (QuantizedGaussian(3, 3), (0.5, 2.0)), (QuantizedCauchy(-9, 9), (0.5, 2.0)), (Bernoulli(), (0.25,)),
+            (spread, (0.5,)), (tables, (1,)),
+        ]  # fmt: skip
+
+        def encode(coder: Any, *call: Any) -> None:
+            (coder.encode if isinstance(coder, RangeEncoder) else coder.encode_reverse)(*call)
+
+        for make in (AnsCoder, RangeEncoder):
+            for model, given in cases:
+                alone: Any = make()
+                symbol = model.first
+                encode(alone, symbol, model, *given)
+                for form in (lambda it: [it], lambda it: (it,), lambda it: array("q" if model is tables else "d", [it])):
+                    coder: Any = make()
+                    encode(coder, symbol, model, *map(form, given))
+                    self.assertEqual(coder, alone)
+                for wrong in ([], given * 2, [*given] * 3):
+                    with self.assertRaisesRegex(errors.WrongLengthError, f"^expected one of each parameter .*, got {len(wrong)}$"):
+                        encode(coder, symbol, model, *[wrong] * len(given))
+                    self.assertEqual(coder, alone)
+                with self.assertRaises(TypeError):
+                    encode(coder, symbol, model, *["0.5"] * len(given))
+
     def test_refusals(self) -> None:
         """An error of one symbol is that of a list, and the coder stays unchanged."""
         family, table = QuantizedGaussian(-9, 9), WeightTable([16777216, 0])

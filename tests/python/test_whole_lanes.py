@@ -100,7 +100,8 @@ class Lanes(test_whole.Case):
             ([*first, bad], model), ([*pairs, [good, bad]], model), ([*first, 1.5], model), (ends(), model),
             # Wrong shapes.
             (first, model), ([*first, good, good], model), (good, model), ([], model), (pairs, model), ([*pairs, [good]], model),
-            (zeros, FAMILY, [0.5] * (n + 1), 2.0), (zeros, FAMILY, rows_of(means * 2, 2), rows_of(means * 2, 2)), (rows_of(zeros * 2, 2), FAMILY, means, means[1:]),
+            (zeros, FAMILY, [0.5] * (n + 1), 2.0), (zeros, FAMILY, rows_of(means * 2, 2), rows_of(means * 2, 2)), (rows_of(zeros * 2, 2), FAMILY, [0.5] * (2 * n + 1), 2.0),
+            (zeros, FAMILY, [0.5] * (n + 1), [0.5] * (n + 1)), (zeros, FAMILY, [], []), (zeros, QuantizedMixture(FAMILY), *[[[0.5]] * (n + 1)] * 3), (zeros, QuantizedMixture(FAMILY), *[[]] * 3),
             # Wrong models, all of them or the last one.
             (zeros, WeightTable([5])), (zeros, FAMILY, means, -1.0), (zeros, FAMILY, means, [*means[1:], 0.0]), ([*zeros[1:], 10], FAMILY, means, means),
             ([*zeros[1:], 2], WeightTable(), [[half, half]] * n), (zeros, WeightTable(), [*[[half, half]] * (n - 1), [half, 1]]),
