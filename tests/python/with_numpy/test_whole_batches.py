@@ -24,6 +24,7 @@ from constriction.stream.model import (
     Categorical, CustomModel, QuantizedGaussian, Uniform, WeightTable,
 )  # fmt: skip
 from constriction.stream.stack import AnsCoder, AnsCoders, SmallAnsCoder, SmallAnsCoders
+from test_traced import traced
 from test_whole import Interrupt, interrupted, twin_of
 
 SIZES: tuple[tuple[Any, Any], ...] = (AnsCoders, AnsCoder), (SmallAnsCoders, SmallAnsCoder)
@@ -220,6 +221,32 @@ class Batches(unittest.TestCase):
                     coders.encode_reverse(symbols, family, means, stds)
                     self.assertEqual(coders.decode(family, means, stds).tolist(), symbols.tolist())
                     self.assertEqual(coders, before)
+        self.assertGreater(stopped, 100)
+
+    def test_each_line(self) -> None:
+        """Calls that a trace function ends at each of their lines do the same."""
+        family, symbols = QuantizedGaussian(-9, 9), numpy.array([1, -2, 3])
+        means, stds = numpy.array([0.5, -2.0, 3.25]), numpy.array([1.0, 2.0, 3.0], "float32")
+        calls: list[Any] = [
+            lambda it: it.encode_reverse(symbols, family, means, stds), lambda it: it.decode(family, means, 2.0),
+            lambda it: it.encode_reverse(abs(symbols), Uniform(9)), lambda it: it.decode(Uniform(9)),
+        ]  # fmt: skip
+        coders, stopped = AnsCoders.from_compressed([[1 << 20] * 9] * 3), 0
+        for change in calls:
+            place = 0
+            while place >= 0:
+                place += 1
+                twin, after = twin_of(coders), twin_of(coders)
+                change(after)
+                try:
+                    traced(lambda: change(coders), place)
+                    place = -1
+                except Interrupt:
+                    stopped += 1
+                told = twin_of(coders)
+                self.assertTrue(told in (twin, after))
+                change(coders), change(told)
+                self.assertEqual(coders, told)
         self.assertGreater(stopped, 100)
 
     def test_calls_from_inside(self) -> None:
