@@ -378,6 +378,25 @@ class Shapes(unittest.TestCase):
         self.assertTrue(torch.equal(into, symbols.to(torch.int16)))
         self.assertEqual(Categorical(torch.tensor([0.25, 0.5, 0.25])).table(), Categorical([0.25, 0.5, 0.25]).table())
 
+    def test_views_of_several_dimensions(self) -> None:
+        """Views are taken and refused as the arrays of which they are."""
+        coder = AnsCoder([5, 6, 7])
+        for shape in ((2, 0), (0, 2), (2, 2), (2, 1, 2), (1, 1, 2)):
+            for model in (Categorical(perfect=False), Categorical(), WeightTable(), QuantizedGaussian(-9, 9)):
+                table, results = np.ones(shape, "int64" if isinstance(model, WeightTable) else "float64"), []
+                given = 1 if model.core else 2
+                for it in (table, memoryview(table)):
+                    for call in ("encode_reverse", "decode"):
+                        other = coder.clone()
+                        try:
+                            first = (0,) if call == "encode_reverse" else ()
+                            found = getattr(other, call)(*first, model, *[it] * given)
+                            results.append((np.array(found).tolist(), other.pos()))
+                        except (TypeError, ValueError) as refused:
+                            self.assertEqual(other, coder)
+                            results.append((type(refused), ()))
+                self.assertEqual(results[:2], results[2:], (shape, model))
+
     def test_refusals(self) -> None:
         """Shapes that don't fit are refused, and the coder stays unchanged."""
         family, zeros, ones = QuantizedGaussian(-9, 9), np.zeros((2, 3)), np.ones((2, 3))

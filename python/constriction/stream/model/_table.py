@@ -396,7 +396,7 @@ class Categorical(Rows):
             self._fewer(len(counts))
             return counts
         if not len(given):
-            raise wrong_probabilities(given)
+            raise wrong_probabilities(())
         self._fewer(len(given))
         return quick_counts_of(floats_of(given))
 
