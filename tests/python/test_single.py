@@ -163,12 +163,18 @@ class Single(unittest.TestCase):
                 alone: Any = make()
                 symbol = model.first
                 encode(alone, symbol, model, *given)
-                for form in (lambda it: [it], lambda it: (it,), lambda it: array("q" if model is tables else "d", [it])):
+                for form in (
+                    lambda it: [it],
+                    lambda it: (it,),
+                    lambda it: array("q" if model is tables else "d", [it]),
+                ):
                     coder: Any = make()
                     encode(coder, symbol, model, *map(form, given))
                     self.assertEqual(coder, alone)
                 for wrong in ([], given * 2, [*given] * 3):
-                    with self.assertRaisesRegex(errors.WrongLengthError, f"^expected one of each parameter .*, got {len(wrong)}$"):
+                    with self.assertRaisesRegex(
+                        errors.WrongLengthError, f"^expected one of each parameter .*, got {len(wrong)}$"
+                    ):
                         encode(coder, symbol, model, *[wrong] * len(given))
                     self.assertEqual(coder, alone)
                 with self.assertRaises(TypeError):

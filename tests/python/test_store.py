@@ -91,7 +91,9 @@ class Stores(unittest.TestCase):
         self.assertEqual([list(chunk) for chunk in found[::-1]], THREE[::-1])
         self.assertEqual(list(found[-1]), [1])
         for i in (3, -4, 1 << 70):
-            with self.assertRaisesRegex(IndexError, "^expected the number of one of 3 chunks, got (3|-4|1180591620717411303424)$"):
+            with self.assertRaisesRegex(
+                IndexError, "^expected the number of one of 3 chunks, got (3|-4|1180591620717411303424)$"
+            ):
                 found[i]
         for i in (3, -1):
             with self.assertRaisesRegex(IndexError, f"^expected the number of one of 3 chunks, got {i}$"):
@@ -164,7 +166,9 @@ class Stores(unittest.TestCase):
         """Impossible symbols, too many symbols and other models are refused."""
         with self.assertRaisesRegex(errors.ImpossibleSymbolError, "Impossible symbol."):
             Store.build([[0], [1, 2]], HALVES)
-        with self.assertRaisesRegex(errors.WrongLengthError, "^expected at most 1048576 symbols in all chunks, got more$"):
+        with self.assertRaisesRegex(
+            errors.WrongLengthError, "^expected at most 1048576 symbols in all chunks, got more$"
+        ):
             Store.build([array("q", [0]) * MOST_SYMBOLS, [0]], HALVES)
         with self.assertRaises(TypeError):
             Store.build([[1]], QuantizedGaussian(-50, 50))
@@ -178,12 +182,18 @@ class Stores(unittest.TestCase):
         start = RangeEncoder().pos()
         words = array("I", [0xFFFFFFFF, 0xFFFFFFFF])
         found = Store.from_parts(words, [(*start, 1)], HALVES)
-        with self.assertRaisesRegex(errors.InvalidDataError, "^expected words that encode the symbols of chunk 0, got others$"):
+        with self.assertRaisesRegex(
+            errors.InvalidDataError, "^expected words that encode the symbols of chunk 0, got others$"
+        ):
             found.chunk(0)
         at_end = Store.from_parts(words, [(2, start[1], 1)], HALVES)
         self.assertEqual(list(at_end.chunk(0)), [0])
         for entry in ((3, start[1], 1), (-1, start[1], 1), (0, start[1], -1), (0, start[1], MOST_SYMBOLS + 1)):
-            text = "got more$" if entry[2] > 1 else f"words 0 .. 2, got chunk 0 of {entry[2]} symbols that begins at word {entry[0]}$"
+            text = (
+                "got more$"
+                if entry[2] > 1
+                else f"words 0 .. 2, got chunk 0 of {entry[2]} symbols that begins at word {entry[0]}$"
+            )
             with self.assertRaisesRegex(errors.WrongLengthError, text):
                 Store.from_parts(words, [entry], HALVES)
         with self.assertRaisesRegex(errors.WrongLengthError, "in all chunks, got more$"):
@@ -202,7 +212,9 @@ class Stores(unittest.TestCase):
                         decoder.seek(place, state)
                         wanted = list(decoder.decode(HALVES, many)) if many else []
                     except errors.InvalidDataError:
-                        with self.assertRaisesRegex(errors.InvalidDataError, "^expected words that encode the symbols of chunk 0, got others$"):
+                        with self.assertRaisesRegex(
+                            errors.InvalidDataError, "^expected words that encode the symbols of chunk 0, got others$"
+                        ):
                             found.chunk(0)
                     else:
                         self.assertEqual(list(found.chunk(0)), wanted)

@@ -101,7 +101,9 @@ class Ans(unittest.TestCase):
         self.assertEqual(coder.get_binary(), [5, 0])
         self.assertEqual(coder.get_compressed(unseal=True), [5, 0])
         self.assertEqual(AnsCoder([], seal=True).get_binary(), [])
-        with self.assertRaisesRegex(errors.InvalidDataError, "^expected a coder that holds a whole number of words, got one that doesn't$"):
+        with self.assertRaisesRegex(
+            errors.InvalidDataError, "^expected a coder that holds a whole number of words, got one that doesn't$"
+        ):
             AnsCoder().get_binary()
 
     def test_zero_last_word(self) -> None:
@@ -439,7 +441,10 @@ class Chain(unittest.TestCase):
         with self.assertRaises(errors.InvalidDataError):
             coder.get_data()
         for words, seal in (([], False), ([], True), ([7, 0], False)):
-            with self.assertRaisesRegex(errors.InvalidDataError, "^expected enough words, of which the last isn't 0, got too few words, or a last word of 0$"):
+            with self.assertRaisesRegex(
+                errors.InvalidDataError,
+                "^expected enough words, of which the last isn't 0, got too few words, or a last word of 0$",
+            ):
                 ChainCoder(words, seal=seal)
 
     def test_there_and_back(self) -> None:

@@ -35,7 +35,9 @@ class RoundedFloats(unittest.TestCase):
         """Returns floats near halves of units, near limits, of any bits, or of 32 bits."""
         if kind == 0:
             halves = dice.integers(-(2**48), 2**48, count) / 2.0**17
-            return np.where(dice.random(count) < 0.5, halves, np.nextafter(halves, dice.choice([-np.inf, np.inf], count)))
+            return np.where(
+                dice.random(count) < 0.5, halves, np.nextafter(halves, dice.choice([-np.inf, np.inf], count))
+            )
         if kind == 1:
             near = np.array(EDGES)[dice.integers(len(EDGES), size=count)]
             return near + dice.integers(-3, 4, count) / 2.0**17
