@@ -8,7 +8,7 @@ from ctypes import byref, c_size_t
 from typing import Any, SupportsIndex, TypeVar
 
 from .. import _buffers, errors
-from .._answers import AS_USUAL, shifted
+from .._answers import AS_USUAL, Wanted, shifted
 from .._buffers import ANSWER, OWN, SYMBOL, Answer, List, Numbers, Parameter, lent, listed, numpy_module, room
 from .._coder import Coder
 from .._coding import _explained as explained
@@ -264,14 +264,18 @@ class AnsCoders(Coder):
                 continue
             return State(heads, state.words, state.width, lens)
 
-    def decode(self, model: Model, *parameters: Any, amt: SupportsIndex | None = None) -> Answer:
+    def decode(
+        self, model: Model, *parameters: Any, amt: SupportsIndex | None = None, dtype: Any = None, out: Any = None
+    ) -> Answer:
         """Decodes a symbol from each coder, ``amt`` symbols from each, or one for each set of parameters.
 
         Returns an array of shape ``(n,)``, or ``(n, amt)``. Parameters broadcast with each other to the shape ``(n,)``
         or ``(n, T)``, and the answer has this shape. Without numpy the answer for ``(n, T)`` is a flat list of ``n``
-        rows.
+        rows. ``dtype`` is numpy's integer type of the answer. Or ``out`` is a numpy array of this shape, which gets the
+        symbols and is returned.
         """
-        if amt is None and _buffers.array_class is not None and len(parameters) != 1:
+        wanted = AS_USUAL if dtype is None and out is None else Wanted(dtype, out)
+        if amt is None and wanted is AS_USUAL and _buffers.array_class is not None and len(parameters) != 1:
             symbols: Any = (self._lane or self._made_lane()).decode(self, model, parameters)
             if symbols is not None:
                 return symbols  # type: ignore[no-any-return]
@@ -281,9 +285,11 @@ class AnsCoders(Coder):
                 (amt,), parameters = parameters, ()
         if amt is not None and parameters:
             raise TypeError("expected parameters or a number of symbols, got both")
-        return self._changed(lambda state: self._decoded(state, model, parameters, amt))  # type: ignore[no-any-return]
+        return self._changed(lambda state: self._decoded(state, model, parameters, amt, wanted))  # type: ignore[no-any-return]
 
-    def _decoded(self, state: State, model: Model, given: tuple[Any, ...], amt: Any) -> tuple[State, Any]:
+    def _decoded(
+        self, state: State, model: Model, given: tuple[Any, ...], amt: Any, wanted: Wanted
+    ) -> tuple[State, Any]:
         if not isinstance(model, Model):
             model_wanted(model)
         model, coders = model.at(self._size), len(state.heads)
@@ -291,6 +297,8 @@ class AnsCoders(Coder):
         try:
             if not given:
                 shape = (coders,) if amt is None else (coders, count_of(amt))
+                if wanted is not AS_USUAL:
+                    wanted.check(shape)
                 weights = model.table()
                 symbols = room(SYMBOL, coders * (1 if amt is None else shape[1]), ANSWER)
                 state = self._decode("", state, (*listed(weights), *listed(symbols)))
@@ -298,10 +306,14 @@ class AnsCoders(Coder):
                 given, shape = self._aligned(model, given, None)
                 if len(shape) not in (1, 2) or shape[0] != coders:
                     raise WrongLengthError(f"expected parameters of shape ({coders},) or ({coders}, T), got {shape}")
+                if wanted is not AS_USUAL:
+                    wanted.check(shape)
                 state, symbols = self._decoded_by(state, model, given, shape)
         except Refusal as refused:
             raise explained(refused, (), model, given) from None
         symbols = shifted(symbols, model.first)
+        if wanted is not AS_USUAL:
+            return state, wanted.given(symbols, shape)
         if type(symbols) is _buffers.array_class:
             return state, symbols if len(shape) == 1 else symbols.reshape(shape)
         return state, AS_USUAL.given(symbols, shape if numpy_shaped(symbols) else shape[:1])

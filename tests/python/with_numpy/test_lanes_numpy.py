@@ -6,8 +6,8 @@ import unittest
 from typing import Any
 
 from constriction import errors
-from constriction.stream.model import Categorical, QuantizedCauchy, QuantizedGaussian, QuantizedMixture
-from constriction.stream.stack import AnsCoder, AnsCoders
+from constriction.stream.model import Categorical, QuantizedCauchy, QuantizedGaussian, QuantizedMixture, Uniform
+from constriction.stream.stack import AnsCoder, AnsCoders, SmallAnsCoders
 
 numpy: Any
 try:
@@ -69,6 +69,31 @@ class Lanes(unittest.TestCase):
         coders.encode_reverse(symbols, mixture, weights.tolist(), rows, numpy.full((4, 3, 2), 2.5))
         self.assertEqual(coders.decode(mixture, weights, rows.tolist(), numpy.full(2, 2.5)).tolist(), symbols.tolist())
         self.assertTrue(coders.is_empty())
+
+    def test_types_of_answers(self) -> None:
+        """``dtype`` and ``out`` choose the type of the answer. A symbol that doesn't fit is refused."""
+        family, symbols = QuantizedGaussian(-200, 300), numpy.array([[-3, 7], [100, 0], [5, 200]])
+        for make in (AnsCoders, SmallAnsCoders):
+            coders = make(3)
+            coders.encode_reverse(symbols, family, 0.0, 90.0)
+            coders.encode_reverse(symbols[:, 0], family, symbols[:, 0] * 1.0, 2.0)
+            coders.encode_reverse(abs(symbols), Uniform(300))
+            before = coders.clone()
+            for wrong, text in (
+                ({"dtype": "int8"}, "that fit int8, got 200"), ({"dtype": "float64"}, "an integer type, got float64"), ({"out": numpy.zeros(6, int)}, "of shape"),
+                ({"out": numpy.zeros((3, 2))}, "got float64"), ({"out": [0]}, "got list"), ({"dtype": "int64", "out": numpy.zeros((3, 2), int)}, "got both"),
+            ):  # fmt: skip
+                with self.assertRaisesRegex((TypeError, ValueError), text):
+                    coders.decode(Uniform(300), amt=2, **wrong)
+                self.assertEqual(coders, before)
+            found: Any = coders.decode(Uniform(300), amt=2, dtype="uint8")
+            self.assertEqual((found.dtype, found.tolist()), ("uint8", abs(symbols).tolist()))
+            out = numpy.zeros(6, "int16")[::2]
+            self.assertIs(coders.decode(family, symbols[:, 0] * 1.0, 2.0, out=out), out)
+            self.assertEqual(out.tolist(), symbols[:, 0].tolist())
+            found = coders.decode(family, numpy.zeros((3, 2)), 90.0, dtype=">i4")
+            self.assertEqual((found.dtype, found.tolist()), (numpy.dtype(">i4"), symbols.tolist()))
+            self.assertTrue(coders.is_empty())
 
     def test_refusals(self) -> None:
         """Arrays of a wrong shape, and an impossible symbol, change no coder."""
