@@ -1,5 +1,5 @@
 -- The entries and the model of a `WeightTable`, and proofs that the entries make a table.
-use Rattle.std.specs.Prelude.{◌≡◌, ℕ, ◌^◌, ◌≤◌, List, length, map}
+use Rattle.std.specs.Prelude.{◌≡◌, ℕ, ◌+◌, ◌*◌, ◌^◌, ◌≤◌, List, [], length, map}
 use Rattle.constriction_base.specs.Tables.{IsTable, table_of, weights_between}
 use Rattle.constriction_base.specs.Models.{Model}
 use Rattle.constriction_base.specs.laws.Weights.{starts_make_table, two_entries}
@@ -12,6 +12,14 @@ entries {precision = precision} {word = word} t = table_of (weights_between (map
 -- The table keeps a reciprocal of each weight, so that no encoder divides.
 abbrev pub HasReciprocals : {Probability NonZero : Type 0} {precision : ℕ} {word : _} → WeightTable Probability precision NonZero word → Type 0
 HasReciprocals t = length t.symbol_rows.items ≡ length t.starts.items
+
+-- The table keeps no row of a symbol, and no reciprocal.
+abbrev pub HasNoReciprocals : {Probability NonZero : Type 0} {precision : ℕ} {word : _} → WeightTable Probability precision NonZero word → Type 0
+HasNoReciprocals t = t.symbol_rows.items ≡ []
+
+-- The table keeps at most eight rows of buckets for each symbol, and one more.
+abbrev pub HasFewRows : {Probability NonZero : Type 0} {precision : ℕ} {word : _} → WeightTable Probability precision NonZero word → Type 0
+HasFewRows t = length t.rows.items ≤ 8 * length t.starts.items + 1
 
 -- The weight table as a model.
 abbrev pub model_of : {Probability NonZero : Type 0} {precision : ℕ} {word : _} → WeightTable Probability precision NonZero word → Model ℕ

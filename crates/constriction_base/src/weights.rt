@@ -67,9 +67,10 @@ impl From<AllocError> for TableError {
 /// weight is 0, or if the list has no weight for it.
 ///
 /// A decoder finds a quantile's symbol in up to three stages. All quantiles with the same high bits form a bucket. The
-/// table stores the symbol of each bucket's first quantile, and the symbol's weight. Most often, the interval of this
-/// symbol holds the quantile. If it doesn't, the interval of the next symbol usually does. If it doesn't either, a
-/// binary search finds the quantile's symbol. It ends at the symbol of the next bucket's first quantile.
+/// table stores the symbol of each bucket's first quantile, and the symbol's weight, in at most eight rows for each
+/// symbol and one more. Most often, the interval of this symbol holds the quantile. If it doesn't, the interval of the
+/// next symbol usually does. If it doesn't either, a binary search finds the quantile's symbol. It ends at the symbol
+/// of the next bucket's first quantile.
 ///
 /// # Examples
 ///
@@ -105,7 +106,7 @@ pub struct WeightTable<Probability: BitArray, const PRECISION: usize> {
 }
 
 impl<Probability: BitArray, const PRECISION: usize> WeightTable<Probability, PRECISION> {
-    ghost use Rattle.constriction_base.specs.WeightTables.{entries, HasReciprocals};
+    ghost use Rattle.constriction_base.specs.WeightTables.{entries, HasFewRows, HasNoReciprocals, HasReciprocals};
 
     /// Creates a table from `weights`, for encoding and decoding.
     ///
@@ -145,6 +146,8 @@ impl<Probability: BitArray, const PRECISION: usize> WeightTable<Probability, PRE
         requires { (1 ≤ PRECISION) × (PRECISION ≤ Probability.BITS) }
         ensures ok { IfOk result (λ t. entries t ≡ table_of (map Probability.number weights.now)) }
         ensures reciprocals { IfOk result (λ t. PRECISION ≤ 63 → HasReciprocals t) }
+        ensures wide { IfOk result (λ t. 63 < PRECISION → HasNoReciprocals t) }
+        ensures rows { IfOk result (λ t. HasFewRows t) }
         ensures total { OnOk result (sum_by Probability.number weights.now ≡ 2 ^ PRECISION) }
         ensures empty { IsErrOf result TableError.Empty ↔ (weights.now ≡ []) }
         ensures wrong_total { IsErrOf result TableError.WrongTotal ↔ ((weights.now ≢ [])
@@ -183,7 +186,8 @@ impl<Probability: BitArray, const PRECISION: usize> WeightTable<Probability, PRE
     pub fn for_decoding(alloc: Global, weights: &[Probability]) -> Result<Self, TableError>
         requires { (1 ≤ PRECISION) × (PRECISION ≤ Probability.BITS) }
         ensures ok { IfOk result (λ t. entries t ≡ table_of (map Probability.number weights.now)) }
-        ensures reciprocals { IfOk result (λ t. HasReciprocals t → ⊥) }
+        ensures reciprocals { IfOk result (λ t. HasNoReciprocals t) }
+        ensures rows { IfOk result (λ t. HasFewRows t) }
         ensures total { OnOk result (sum_by Probability.number weights.now ≡ 2 ^ PRECISION) }
         ensures empty { IsErrOf result TableError.Empty ↔ (weights.now ≡ []) }
         ensures wrong_total { IsErrOf result TableError.WrongTotal ↔ ((weights.now ≢ [])
@@ -214,8 +218,11 @@ impl<Probability: BitArray, const PRECISION: usize> WeightTable<Probability, PRE
     ///
     /// The call returns `Err(AllocError)` if there is no memory for the reciprocals.
     fn with_reciprocals(mut self, alloc: Global) -> Result<Self, AllocError>
+        requires { HasNoReciprocals self }
         ensures kept { IfOk result (λ t. entries t ≡ entries self) }
         ensures reciprocals { IfOk result (λ t. PRECISION ≤ 63 → HasReciprocals t) }
+        ensures wide { IfOk result (λ t. 63 < PRECISION → HasNoReciprocals t) }
+        ensures rows { HasFewRows self → IfOk result (λ t. HasFewRows t) }
     {
         if PRECISION > 63 {
             return Ok(self);
