@@ -3,7 +3,8 @@
 
    Weights fall exponentially with the distance from symbol 128, at a rate that differs between tables. Each symbol has a
    random index, and is drawn by its table's weights. In the lines `sorted` the indexes are in order, so that the caches hold
-   the one table in use. All symbols are looked at after the decodes.
+   the one table in use. A line of one table is the mean of lists under 8 of the 64 tables: a wider distribution takes longer,
+   since a symbol has more bits. All symbols are looked at after the decodes.
 
    The lines `load_N_kb` are nanoseconds a load in a chain of loads, each from the address that the load before it read, in
    random order over N KB. A decode can't take less than one such load: its place in a table depends on the coder's head. */
@@ -16,7 +17,7 @@
 #include <time.h>
 #include "constriction.h"
 
-enum { RUNS = 15, MOST = 1 << 20, ROOM = MOST + 8, WIDTH = 256, TABLES = 256 };
+enum { RUNS = 15, MOST = 1 << 20, ROOM = MOST + 8, WIDTH = 256, TABLES = 256, RATES = 64, ALONE = 8 };
 
 static uint64_t counts[WIDTH];
 static uint32_t weights[TABLES * WIDTH], words[ROOM];
@@ -40,10 +41,10 @@ static double now(void) {
     return (double)at.tv_sec * 1e9 + (double)at.tv_nsec;
 }
 
-static void draw(size_t tables, size_t count, int sorted) {
+static void draw(size_t tables, size_t count, int sorted, size_t rate) {
     for (size_t t = 0; t < tables; t++) {
         for (size_t i = 0; i < WIDTH; i++) {
-            double far = fabs((double)i - 128.0) / (2.0 + (double)(t % 64) / 4.0);
+            double far = fabs((double)i - 128.0) / (2.0 + (double)((t + rate) % RATES) / 4.0);
             counts[i] = (uint64_t)(1.0 + ldexp(exp(-far), 40));
         }
         done(constriction_weights_of_counts_u32(counts, WIDTH, weights + t * WIDTH, WIDTH));
@@ -104,13 +105,26 @@ static double chain(size_t kilobytes) {
     return least / LOADS;
 }
 
+static void of_one(void) {
+    double encodes = 0, decodes = 0;
+    for (size_t rate = RATES / ALONE / 2; rate < RATES; rate += RATES / ALONE) {
+        double encode = 1e18, decode = 1e18;
+        draw(1, MOST, 0, rate);
+        for (int times = 0; times < RUNS; times++) run(1, MOST, &encode, &decode);
+        encodes += encode, decodes += decode;
+    }
+    printf("c_ans_encode_indexed_p24_1 %.3f\n", encodes / ALONE / MOST);
+    printf("c_ans_decode_indexed_p24_1 %.3f\n", decodes / ALONE / MOST);
+}
+
 int main(void) {
-    const size_t tables[] = {1, 64, TABLES};
-    for (int at = 0; at < 3; at++) {
-        for (int sorted = 0; sorted < (at == 0 ? 1 : 2); sorted++) {
+    const size_t tables[] = {RATES, TABLES};
+    of_one();
+    for (int at = 0; at < 2; at++) {
+        for (int sorted = 0; sorted < 2; sorted++) {
             const char *order = sorted ? "sorted_" : "";
             double encode = 1e18, decode = 1e18;
-            draw(tables[at], MOST, sorted);
+            draw(tables[at], MOST, sorted, 0);
             for (int times = 0; times < RUNS; times++) run(tables[at], MOST, &encode, &decode);
             printf("c_ans_encode_indexed_%sp24_%zu %.3f\n", order, tables[at], encode / MOST);
             printf("c_ans_decode_indexed_%sp24_%zu %.3f\n", order, tables[at], decode / MOST);

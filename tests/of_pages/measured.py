@@ -1,4 +1,4 @@
-"""The tables of docs/MEASUREMENTS.md are what `bench/table` writes from a run with their numbers."""
+"""The tables of docs/MEASUREMENTS.md and docs/GATE.md are what `bench/table` writes from a run with their numbers."""
 
 from __future__ import annotations
 
@@ -8,12 +8,14 @@ import subprocess
 from judging import TOP, judge, read
 
 PAGE = "docs/MEASUREMENTS.md"
+GATE = "docs/GATE.md"
 
 
 def tables():
     """Returns the text of each table by its name, and its rows of bare cells."""
     found = {}
-    for name, text in re.findall(r"<!-- table: (.*?) -->\n(.*?)\n?<!-- end of table -->", read(PAGE), flags=re.S):
+    both = read(PAGE) + read(GATE)
+    for name, text in re.findall(r"<!-- table: (.*?) -->\n(.*?)\n?<!-- end of table -->", both, flags=re.S):
         rows = [
             [cell.strip(" *") for cell in line.split("|")[1:-1]] for line in text.splitlines() if line.startswith("|")
         ]
@@ -119,13 +121,14 @@ def gate(rows):
 
 
 def first_calls(rows):
-    """Yields the lines of bench/first_call."""
+    """Yields the lines of bench/first_call, and one of .ci/run."""
     text = " ".join(tables()["first call"][0].split())
-    yield f"constriction_words: {re.search(r'`constriction_words` .([0-9]+) ', text)[1]}"
+    yield f"constriction_words: {re.search(r'in the same run .([0-9]+) ', text)[1]}"
     if answered := re.search(r"unproved answer came after (\d+) s", text):
         yield f"unproved answer: {answered[1]}"
-    for name, (_, *cells) in zip(("first call", "library"), rows):
-        yield f"{name}: {' '.join(cell.split()[0] for cell in cells)}"
+    for name, (_, *cells) in zip(("first call", "library", "gate run"), rows):
+        times = " ".join(cell.split()[0] for cell in cells)
+        yield f"{name}: {times}" + (f" {re.search('in the gate ([0-9]+)', text)[1]}" if name == "gate run" else "")
 
 
 def sentences(found):
