@@ -196,6 +196,23 @@ class Lanes(unittest.TestCase):
             self.assertEqual(listed(batch.decode(family, each, [2.0, 2.0])), [1, 2, 3, 4, 5, 6])
             self.assertEqual(batch, before)
 
+    def test_what_is_no_row(self) -> None:
+        """Rows that are sets, dicts, texts or bytes are refused: sets have no order."""
+        batch, family = AnsCoders(2), QuantizedGaussian(-9, 9)
+        wrong: list[Any] = [
+            {(1, 2), (3, 4)}, {(1, 2): 5, (3, 4): 6}, [{1, 2}, {3, 4}], [{1: 5, 2: 6}, {3: 7, 4: 8}], ["12", "34"], [b"12", b"34"], [[1, 2], b"34"],
+            [[1], 2],
+        ]  # fmt: skip
+        for rows in wrong:
+            for call in (
+                lambda: batch.encode_reverse(rows, Uniform(99)),
+                lambda: batch.encode_reverse([[1, 2], [3, 4]], family, rows, 2.0),
+                lambda: batch.decode(family, 0.5, rows),
+            ):
+                with self.assertRaises(TypeError, msg=rows):
+                    call()
+                self.assertTrue(batch.is_empty())
+
     def test_lists_that_change(self) -> None:
         """A list of symbols that a number's own method shortens or extends during the call is refused."""
         family = QuantizedGaussian(-9, 9)

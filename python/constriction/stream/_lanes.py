@@ -14,7 +14,7 @@ from .._coder import Coder
 from .._coding import _explained as explained
 from .._coding import _other_lengths as other_lengths
 from .._coding import model_wanted
-from .._numbers import as_numpy, count_of, is_one, is_row, is_whole, items_of, nested, sequence_of, whole
+from .._numbers import as_numpy, count_of, is_one, is_row, is_whole, items_of, listed_of, nested, sequence_of, whole
 from .._places import places_of
 from .._shapes import Shape, aligned, shape_of
 from .._sizes import LARGE, SMALL, Size
@@ -48,6 +48,17 @@ def _want_rows(model: Model) -> None:
         raise TypeError("expected a model of one table, or a row for each symbol, got rows with indexes")
 
 
+def _row(numbers: Any, core: int) -> Any:
+    """Returns the numbers of one coder as a list, or rows of weights that are an array as this array.
+
+    Raises TypeError for a number, a text, bytes, a dict, a set, or a masked array.
+    """
+    if is_one(numbers):
+        raise TypeError(f"expected a row of numbers for each coder, got {type(numbers).__name__}")
+    table = as_numpy(numbers) if core else None
+    return listed_of(numbers) if table is None else table
+
+
 def _rows(numbers: Any, count: int, core: int = 0) -> tuple[Any, Shape]:
     """Returns a list of numbers for each of ``count`` coders as a flat list or as an array, and its shape.
 
@@ -63,7 +74,7 @@ def _rows(numbers: Any, count: int, core: int = 0) -> tuple[Any, Shape]:
         numbers = nested(numbers)
     shape = shape_of(numbers)
     if as_numpy(numbers) is None and len(numbers) and _is_nested(next(iter(numbers)), core):
-        rows = [sequence_of(it) for it in numbers]
+        rows = [_row(it, core) for it in items_of(numbers)]
         lengths = {len(it) for it in rows}
         if len(lengths) != 1:
             raise WrongLengthError(f"expected rows of one length, got the lengths {sorted(lengths)}")
