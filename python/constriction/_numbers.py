@@ -17,7 +17,7 @@ from ._buffers import BYTE, NUMBER, SHORT, SYMBOL, WORD, List, numpy_module, roo
 from .errors import InvalidDataError, Refusal, WrongLengthError, shown
 
 __all__ = [
-    "as_numpy", "count_of", "doubles", "floats_of", "grid_of", "is_one", "is_row", "is_whole", "items_of", "listed_of", "nested", "own_of", "past", "plain_of", "real",
+    "NO_REAL_KINDS", "as_numpy", "count_of", "doubles", "floats_of", "grid_of", "is_one", "is_row", "is_whole", "items_of", "listed_of", "nested", "own_of", "past", "plain_of", "real",
     "rows_of", "sequence_of", "table_of", "unmasked", "whole", "wholes_of", "wholes_wanted", "words_of",
 ]  # fmt: skip
 
@@ -28,7 +28,7 @@ _WANTED = "expected whole numbers, got {}: round them and convert them, as by ar
 _ALIKE = {BYTE: ("B",), SHORT: ("H",), WORD: ("I", "L"), SYMBOL: ("q", "Q", "l", "L", "n", "N"), NUMBER: ("d",)}
 _FLOAT = frozenset((float,))
 #: numpy's kinds of numbers that ``float`` takes, but that aren't real numbers: complex ones, times and texts.
-_NO_REAL_KINDS = frozenset("cmMSUV")
+NO_REAL_KINDS = frozenset("cmMSUV")
 #: The greatest number of symbols of a list. These symbols would take 2^51 bytes.
 _MOST = 1 << 48
 
@@ -80,7 +80,7 @@ def real(number: Any) -> float:
     unmasked(number)
     if issubclass(kind, (str, bytes, bytearray)) or not (hasattr(kind, "__float__") or hasattr(kind, "__index__")):
         raise TypeError(f"expected a number, got {kind.__name__}")
-    if getattr(getattr(number, "dtype", None), "kind", "f") in _NO_REAL_KINDS:
+    if getattr(getattr(number, "dtype", None), "kind", "f") in NO_REAL_KINDS:
         raise TypeError(f"expected a real number, got {number.dtype}")
     try:
         return float(number)

@@ -9,7 +9,7 @@ from typing import Any
 
 from . import _buffers
 from ._buffers import NUMBER, SYMBOL, WORD, numpy_module, room, seen_numpy
-from ._numbers import real
+from ._numbers import NO_REAL_KINDS, real, unmasked
 from ._sizes import Size
 from .errors import WrongWeightsError, shown
 
@@ -116,7 +116,7 @@ def unit_of(number: Any, origin: float, least: float, greatest: float) -> int | 
     Returns None for a float outside the bounds, and for a list, unless it is a list of one float.
     """
     if type(number) is not float:
-        if type(number) is _buffers.array_class and number.ndim < 2 and number.size == 1:
+        if type(number) is _buffers.array_class and number.size == 1 and number.ndim < 2 and number.dtype.kind == "f":
             number = number.item()
         elif isinstance(number, float):
             number = float(number)
@@ -128,12 +128,21 @@ def unit_of(number: Any, origin: float, least: float, greatest: float) -> int | 
     return _nearest(number * UNITS_OF_ONE) if least <= number <= greatest else None
 
 
+def _kind_of(numbers: Any) -> str:
+    """Returns the letter of numpy's kind of numbers in an array, or ``f`` for other arrays. Refuses masked arrays."""
+    unmasked(numbers)
+    kind: str = getattr(getattr(numbers, "dtype", None), "kind", "f")
+    return kind
+
+
 def _only(numbers: Any) -> float | None:
     """Returns a number, or the number of a list of one number, as a float. Returns None for other lists and objects."""
     number = numbers
     if hasattr(numbers, "__len__"):
         dimensions = getattr(numbers, "ndim", None)
         if dimensions is not None and hasattr(numbers, "item"):
+            if _kind_of(numbers) in NO_REAL_KINDS:
+                return None  # Their items may be ints.
             number = numbers.item() if dimensions == 0 or dimensions == 1 and len(numbers) == 1 else None
         else:
             number = numbers[0] if isinstance(numbers, (list, tuple, array)) and len(numbers) == 1 else None
@@ -156,11 +165,11 @@ def quick_units_of(floats: Any, least: float, greatest: float, kind: str) -> Any
 
 
 def _plain(floats: Any) -> Any:
-    """Returns a list of floats, or None if ``floats`` isn't a list, a tuple or an array."""
+    """Returns a list of numbers, or None if ``floats`` isn't a list, a tuple or an array of real numbers."""
     kind = type(floats)
     if kind is list or kind is tuple:
         return floats
-    return floats.tolist() if hasattr(floats, "tolist") else None
+    return floats.tolist() if hasattr(floats, "tolist") and _kind_of(floats) in "iubf" else None
 
 
 def components_of(given: tuple[Any, ...], origin: float = 0.0) -> tuple[list[int], int] | None:
@@ -171,7 +180,8 @@ def components_of(given: tuple[Any, ...], origin: float = 0.0) -> tuple[list[int
     negative, if a number isn't finite or isn't a plain number, or if the lengths differ.
     """
     weights, locations, scales = given
-    if type(weights) is type(locations) is type(scales) is _buffers.array_class:
+    are_arrays = type(weights) is type(locations) is type(scales) is _buffers.array_class
+    if are_arrays and weights.dtype.kind == locations.dtype.kind == scales.dtype.kind == "f":
         weights, locations, scales = weights.tolist(), locations.tolist(), scales.tolist()
     else:
         weights, locations, scales = map(_plain, given)

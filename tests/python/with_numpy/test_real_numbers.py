@@ -36,6 +36,24 @@ class RealNumbers(unittest.TestCase):
                 self.assertEqual(coder, before)
                 self.assertTrue(coders.is_empty())
 
+    def test_arrays_of_one(self) -> None:
+        """Arrays of one such number, and masked arrays of one, are refused for a single symbol as in a list."""
+        coder, family = AnsCoder([1, 2, 3]), QuantizedGaussian(-9, 9)
+        mixture, before, good = QuantizedMixture(family), coder.clone(), numpy.ones(1)
+        wrong = [numpy.array([2], kind) for kind in ("m8[ns]", "M8[ns]", "complex64")]
+        wrong += [numpy.array([(2.0,)], [("a", "f8")]), numpy.ma.array([2.0]), numpy.ma.array([2.0], mask=[True])]
+        for bad in (*wrong, numpy.ma.masked, numpy.ma.array(2.0)):
+            calls: list[Any] = [
+                lambda: coder.encode_reverse(1, family, bad, 2.0), lambda: coder.encode_reverse(1, family, good, bad),
+                lambda: coder.decode(family, bad, 2.0), lambda: coder.decode(family, good, bad),
+                lambda: coder.encode_reverse(1, mixture, bad, good, good), lambda: coder.encode_reverse(1, mixture, good, bad, good),
+                lambda: coder.decode(mixture, good, good, bad), lambda: coder.decode(mixture, good, bad, [1.0]),
+            ]  # fmt: skip
+            for place, call in enumerate(calls):
+                with self.assertRaises(TypeError, msg=(bad, place)):
+                    call()
+                self.assertEqual(coder, before)
+
 
 if __name__ == "__main__":
     unittest.main()
