@@ -355,7 +355,7 @@ class Shapes(unittest.TestCase):
             ):
                 self.assertIn(name.format(of), called)
 
-    @unittest.skipUnless(find_spec("torch"), "Debian's python3-torch isn't there")
+    @unittest.skipUnless(find_spec("torch"), "torch is not there")
     def test_torch(self) -> None:
         """Tensors of torch are arrays."""
         torch: Any = import_module("torch")
