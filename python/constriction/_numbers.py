@@ -53,6 +53,10 @@ def is_row(numbers: Any) -> bool:
         return bool(dimensions == 1 and len(numbers))
     if not hasattr(numbers, "__len__"):
         return False
+    if hasattr(numbers, "__array__"):  # It may have no method that iterates.
+        table = as_numpy(numbers)
+        if table is not None:
+            return bool(table.ndim == 1 and len(table))
     return isinstance(numbers, array) and len(numbers) > 0 or any(map(is_one, islice(numbers, 1)))
 
 

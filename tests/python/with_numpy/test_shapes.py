@@ -227,6 +227,19 @@ class Shapes(unittest.TestCase):
         self.assertEqual(WeightTable(Alone([1 << 23, 1 << 23])).table(), WeightTable([1 << 23, 1 << 23]).table())
         self.assertEqual(coder, AnsCoder([1, 2, 3]))
 
+        class Long(Alone):
+            """An object with a length that isn't iterable."""
+
+            def __len__(self) -> int:
+                return len(self.of)
+
+        for model, numbers in ((Categorical(), [[1, 2], [3, 1]]), (WeightTable(), [[5, (1 << 24) - 5]] * 2)):
+            coder.encode_reverse(Long([1, 0]), model, Long(numbers))
+            self.assertEqual(coder.decode(model, Long(numbers)).tolist(), [1, 0])
+            coder.encode_reverse(1, model, Long(numbers[0]))
+            self.assertEqual(coder.decode(model, Long(numbers[0])), 1)
+        self.assertEqual(coder, AnsCoder([1, 2, 3]))
+
     def test_a_float_without_dimensions(self) -> None:
         """An array without dimensions is a parameter of a caller's function if it has a float, and else an amount."""
         spread: Any = CustomModel(lambda x, k=0.5: min(max((x - k) / 40 + 0.5, 0), 1), None, -9, 9)
