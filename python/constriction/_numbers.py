@@ -17,7 +17,7 @@ from ._buffers import BYTE, NUMBER, SHORT, SYMBOL, WORD, List, numpy_module, roo
 from .errors import InvalidDataError, Refusal, WrongLengthError, shown
 
 __all__ = [
-    "NO_REAL_KINDS", "as_numpy", "count_of", "doubles", "floats_of", "grid_of", "is_one", "is_row", "is_whole", "items_of", "listed_of", "nested", "own_of", "past", "plain_of", "real",
+    "NO_REAL_KINDS", "as_numpy", "count_of", "doubles", "floats_of", "grid_of", "is_one", "is_row", "is_whole", "items_of", "list_wanted", "listed_of", "nested", "own_of", "past", "plain_of", "real",
     "rows_of", "sequence_of", "table_of", "unmasked", "whole", "wholes_of", "wholes_wanted", "words_of",
 ]  # fmt: skip
 
@@ -121,14 +121,19 @@ def as_numpy(numbers: Any) -> Any:
     return numpy.asarray(numbers) if is_table else None  # Subclasses may have other methods.
 
 
+def list_wanted(items: Any, of: str = "numbers") -> None:
+    """Raises TypeError for a text, bytes, a dict, or a set, which has no order."""
+    if isinstance(items, str):
+        raise TypeError(f"expected a list of {of}, got str")
+    if isinstance(items, (bytes, bytearray)):
+        raise TypeError(f"expected a list of {of}, got bytes: array('I', data) converts them to words")
+    if isinstance(items, (Mapping, Set)):
+        raise TypeError(f"expected a list of {of}, got {type(items).__name__}: list(..) converts it")
+
+
 def items_of(numbers: Any) -> Any:
     """Returns numbers that aren't a numpy array as something to iterate over."""
-    if isinstance(numbers, str):
-        raise TypeError("expected a list of numbers, got str")
-    if isinstance(numbers, (bytes, bytearray)):
-        raise TypeError("expected a list of numbers, got bytes: array('I', data) converts them to words")
-    if isinstance(numbers, (Mapping, Set)):
-        raise TypeError(f"expected a list of numbers, got {type(numbers).__name__}: list(..) converts it")
+    list_wanted(numbers)
     try:
         view = memoryview(numbers)
     except TypeError:

@@ -23,7 +23,7 @@ from ._buffers import SYMBOL, WORD, List, Numbers, answered, lent, room
 from ._answers import shifted
 from ._library import RangeDecoderState
 from ._coding import model_wanted
-from ._numbers import sequence_of, whole
+from ._numbers import list_wanted, sequence_of, whole
 from ._shapes import flat
 from ._sizes import LARGE
 from .stream.model import Model
@@ -93,6 +93,7 @@ class Store:
             model_wanted(model)
         if model.missing:
             raise TypeError(f"expected a model with all its parameters, got {model!r}")
+        list_wanted(index, "entries")
         self._words, self._index, self._model = words, [_entry(it) for it in index], model
         size = _as_bytes(words).nbytes
         count = size // 4
@@ -117,6 +118,7 @@ class Store:
         Raises :class:`ImpossibleSymbolError` if the model has no entry for a symbol, and :class:`WrongLengthError` if
         the chunks have more than ``MOST_SYMBOLS`` symbols in total.
         """
+        list_wanted(chunks, "chunks")
         encoder, index, left = RangeEncoder(), [], MOST_SYMBOLS
         for chunk in chunks:
             symbols = flat(sequence_of(chunk))

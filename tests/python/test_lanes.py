@@ -212,6 +212,9 @@ class Lanes(unittest.TestCase):
                 with self.assertRaises(TypeError, msg=rows):
                     call()
                 self.assertTrue(batch.is_empty())
+        for words in ({(1, 2), (3, 4)}, {(1, 2): 5, (3, 4): 6}):
+            with self.assertRaisesRegex(TypeError, "^expected a list of lists of words, got "):
+                AnsCoders.from_compressed(words)
 
     def test_lists_that_change(self) -> None:
         """A list of symbols that a number's own method shortens or extends during the call is refused."""

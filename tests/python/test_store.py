@@ -57,6 +57,16 @@ def looked_up_by_function(words: list[int], entry: tuple[Any, ...], model: Weigh
 class Stores(unittest.TestCase):
     """Stores and their look-ups."""
 
+    def test_what_has_no_order(self) -> None:
+        """Sets and dicts of chunks or of entries are refused."""
+        store = Store.build([[1, 0, 3], [2]], Uniform(4))
+        for chunks in ({(1, 0, 3), (2,)}, {(1, 0, 3): 1, (2,): 2}):
+            with self.assertRaisesRegex(TypeError, "^expected a list of chunks, got "):
+                Store.build(chunks, Uniform(4))
+        for index in (set(store.index), dict.fromkeys(store.index)):
+            with self.assertRaisesRegex(TypeError, "^expected a list of entries, got "):
+                Store.from_parts(store.words, index, Uniform(4))
+
     def test_arrays_of_two_dimensions(self) -> None:
         """All symbols of a chunk are stored, also those of an array of two dimensions."""
         table = memoryview(array("q", range(6))).cast("B").cast("q", (2, 3))

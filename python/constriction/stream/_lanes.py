@@ -14,7 +14,10 @@ from .._coder import Coder
 from .._coding import _explained as explained
 from .._coding import _other_lengths as other_lengths
 from .._coding import model_wanted
-from .._numbers import as_numpy, count_of, is_one, is_row, is_whole, items_of, listed_of, nested, sequence_of, whole
+
+from .._numbers import (
+    as_numpy, count_of, is_one, is_row, is_whole, items_of, list_wanted, listed_of, nested, sequence_of, whole,
+)  # fmt: skip
 from .._places import places_of
 from .._shapes import Shape, aligned, shape_of
 from .._sizes import LARGE, SMALL, Size
@@ -136,6 +139,7 @@ class AnsCoders(Coder):
 
         kind = SmallAnsCoder if cls._size is SMALL else AnsCoder
         states = []
+        list_wanted(compressed, "lists of words")
         for j, given in enumerate(compressed):
             try:
                 states.append(kind(given)._state)
