@@ -116,8 +116,9 @@ def unit_of(number: Any, origin: float, least: float, greatest: float) -> int | 
     Returns None for a float outside the bounds, and for a list, unless it is a list of one float.
     """
     if type(number) is not float:
-        if type(number) is _buffers.array_class and number.size == 1 and number.ndim < 2 and number.dtype.kind == "f":
-            number = number.item()
+        if type(number) is _buffers.array_class and number.ndim < 2 and number.size == 1:
+            item = number.item()
+            number = item if type(item) is float else number
         elif isinstance(number, float):
             number = float(number)
         if type(number) is not float:
@@ -180,12 +181,15 @@ def components_of(given: tuple[Any, ...], origin: float = 0.0) -> tuple[list[int
     negative, if a number isn't finite or isn't a plain number, or if the lengths differ.
     """
     weights, locations, scales = given
-    are_arrays = type(weights) is type(locations) is type(scales) is _buffers.array_class
-    if are_arrays and weights.dtype.kind == locations.dtype.kind == scales.dtype.kind == "f":
-        weights, locations, scales = weights.tolist(), locations.tolist(), scales.tolist()
-    else:
-        weights, locations, scales = map(_plain, given)
     try:
+        if type(weights) is type(locations) is type(scales) is _buffers.array_class:
+            weights, locations, scales = weights.tolist(), locations.tolist(), scales.tolist()
+            if not (weights and locations and scales):
+                return None
+            if not type(weights[0]) is type(locations[0]) is type(scales[0]) is float:
+                weights, locations, scales = map(_plain, given)
+        else:
+            weights, locations, scales = map(_plain, given)
         width = len(weights)
         if width != len(locations) or width != len(scales):
             return None
