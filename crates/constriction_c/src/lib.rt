@@ -20,4 +20,3 @@ pub mod range;
 pub mod store;
 pub mod symbol;
 pub mod version;
-mod weights;

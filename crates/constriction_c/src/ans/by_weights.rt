@@ -5,8 +5,8 @@ ghost use Rattle.constriction_calls.specs.AnsCalls.{AnsEncodesListBy};
 ghost use Rattle.constriction_inputs.specs.Weights.{by_weights};
 ghost use Rattle.std.specs.Prelude.{◌≤◌, map};
 
-use crate::weights::CallerWeights;
 use constriction_calls::ans::encoding::encode_reverse;
+use constriction_inputs::models::Weights;
 use constriction_inputs::refusal::Refusal;
 use constriction_inputs::symbol::Symbol;
 use constriction_inputs::symbols::Symbols;
@@ -15,7 +15,7 @@ use std::alloc::Global;
 
 /// Encodes symbols from the last to the first, with one table of weights for all symbols.
 ///
-/// Calls [`encode_reverse`] with the symbols and [`CallerWeights`], and returns its result.
+/// Calls [`encode_reverse`] with the symbols and [`Weights`], and returns its result.
 ///
 /// # Errors
 ///
@@ -49,7 +49,7 @@ pub fn encode_reverse_by_weights<
         (by_weights (map P.number weights.now) (S.numbers symbols.now)) head.old words.old len.old
         head.new words.new len.new result }
 {
-    let models = CallerWeights { weights };
+    let models = Weights { weights };
     let items = Symbols { models, symbols };
     encode_reverse::<_, _, P, _, PRECISION>(alloc, head, words, len, &items)
 }

@@ -6,8 +6,8 @@ ghost use Rattle.constriction_chain.specs.Fits.{CoderFits};
 ghost use Rattle.constriction_inputs.specs.Weights.{by_weights};
 ghost use Rattle.std.specs.Prelude.{◌≤◌, map};
 
-use crate::weights::CallerWeights;
 use constriction_calls::chain::{ChainHeads, encode_reverse};
+use constriction_inputs::models::Weights;
 use constriction_inputs::refusal::Refusal;
 use constriction_inputs::symbol::Symbol;
 use constriction_inputs::symbols::Symbols;
@@ -16,7 +16,7 @@ use std::alloc::Global;
 
 /// Encodes symbols from the last to the first, with one table of weights for all symbols.
 ///
-/// Calls [`encode_reverse`] with the symbols and [`CallerWeights`], and returns its result.
+/// Calls [`encode_reverse`] with the symbols and [`Weights`], and returns its result.
 ///
 /// # Errors
 ///
@@ -57,7 +57,7 @@ pub fn encode_reverse_by_weights<
         (chain_buffers heads.old compressed.old count.old remainders.now rest.old)
         (chain_buffers heads.new compressed.new count.new remainders.now rest.new) result }
 {
-    let models = CallerWeights { weights };
+    let models = Weights { weights };
     let items = Symbols { models, symbols };
     encode_reverse::<_, _, P, _, PRECISION>(
         alloc, heads, compressed, count, remainders, rest, &items,

@@ -5,9 +5,9 @@ ghost use Rattle.constriction_calls.specs.RangeCalls.{RangeEncodesListBy};
 ghost use Rattle.constriction_inputs.specs.Weights.{by_weights};
 ghost use Rattle.std.specs.Prelude.{◌≤◌, length, map};
 
-use crate::weights::CallerWeights;
 use constriction_calls::range::encoding::encode;
 use constriction_calls::range::parts::EncoderParts;
+use constriction_inputs::models::Weights;
 use constriction_inputs::refusal::Refusal;
 use constriction_inputs::symbol::Symbol;
 use constriction_inputs::symbols::Symbols;
@@ -16,7 +16,7 @@ use std::alloc::Global;
 
 /// Encodes symbols in order, with one table of weights for all symbols.
 ///
-/// Calls [`encode`] with the symbols and [`CallerWeights`], and returns its result.
+/// Calls [`encode`] with the symbols and [`Weights`], and returns its result.
 ///
 /// # Errors
 ///
@@ -51,7 +51,7 @@ pub fn encode_by_weights<
         (by_weights (map P.number weights.now) (S.numbers symbols.now)) (length symbols.now)
         encoder.old buffer.old len.old encoder.new buffer.new len.new result }
 {
-    let models = CallerWeights { weights };
+    let models = Weights { weights };
     let items = Symbols { models, symbols };
     encode::<_, _, P, _, PRECISION>(alloc, encoder, buffer, len, &items)
 }

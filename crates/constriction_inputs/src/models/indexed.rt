@@ -7,6 +7,8 @@ ghost use Rattle.constriction_inputs.specs.Indexed.{by_indexes, row_count};
 ghost use Rattle.constriction_inputs.specs.Mixtures.{row_at_index};
 ghost use Rattle.constriction_inputs.specs.Rows.{AreTotals};
 ghost use Rattle.constriction_inputs.specs.Weights.{IsTotal};
+ghost use Rattle.constriction_inputs.specs.WeightsModels.{sized_of_either, two_of_either};
+ghost use Rattle.constriction_inputs.specs.laws.Rows.{two_weights};
 
 use crate::known::is_known;
 use crate::models::families::are_below;
@@ -21,11 +23,73 @@ use constriction_base::model::{DecoderModel, EncoderModel, EntropyModel};
 use constriction_words::{BitArray, Reciprocal};
 use std::alloc::Global;
 
-/// The model of a row of weights: with rows of symbols or guesses, or a [`Row`] whose look-up adds up weights.
-pub type GuidedOrRow<'a, P, const PRECISION: usize> = WeightsModel<
+/// A row of weights with rows of symbols or guesses, or a [`Row`] whose look-up adds up weights.
+type EitherModel<'a, P, const PRECISION: usize> = WeightsModel<
     Guided<'a, P, PRECISION>,
     Row<'a, P, PRECISION>,
 >;
+
+/// The model of a row of weights: with rows of symbols or guesses, or a [`Row`] whose look-up adds up weights.
+///
+/// This type of its own hides the types of both models. Proofs about calls with this model don't mention them, and take
+/// less time.
+///
+/// # Examples
+///
+/// ```
+/// let indexed = Indexed { weights: &[255u8, 1], width: 2, indexes: &[0] };
+/// if let Some(mut list) = DecoderModels::<u8, 8>::decoder_list(&indexed, alloc, 1) {
+///     DecoderModelList::<u8, 8>::select(&mut list, 0);
+///     DecoderModelList::<u8, 8>::model(&list).quantile_function(255) // (1, 255, 1)
+/// }
+/// ```
+#[derive(Drop)]
+pub struct GuidedOrRow<'a, P: BitArray, const PRECISION: usize> {
+    model: EitherModel<'a, P, PRECISION>,
+}
+
+impl<'a, P: BitArray, const PRECISION: usize> EntropyModel<PRECISION> for GuidedOrRow<'a, P, PRECISION> {
+    type Symbol = usize;
+
+    type Probability = P;
+
+    ghost table = { λ m. ⟦<EitherModel<'a, P, PRECISION> as EntropyModel<PRECISION>>⟧.table m.model };
+
+    ghost lawful = { λ m. ⟦<EitherModel<'a, P, PRECISION> as EntropyModel<PRECISION>>⟧.lawful m.model };
+
+    ghost sized = { λ m. sized_of_either (λ guided. (guided.row.positive, guided.row.fits))
+        (λ row. (row.positive, row.fits)) m.model };
+
+    ghost two_symbols = { λ m. two_of_either PRECISION P.BITS (λ guided. table_of (map P.number guided.row.weights.now))
+        (λ row. table_of (map P.number row.weights.now))
+        (λ guided all. two_weights P.number P.BITS P.number_law PRECISION guided.row.weights.now guided.row.total all)
+        (λ row all. two_weights P.number P.BITS P.number_law PRECISION row.weights.now row.total all) m.model };
+}
+
+impl<'a, P: BitArray, const PRECISION: usize> EncoderModel<PRECISION> for GuidedOrRow<'a, P, PRECISION> {
+    #[inline(always)]
+    fn left_cumulative_and_probability(
+        &self,
+        symbol: &usize,
+    ) -> Option<(P, <P as BitArray>::NonZero)> {
+        self.model.left_cumulative_and_probability(symbol)
+    }
+
+    #[inline(always)]
+    fn left_cumulative_and_reciprocal(
+        &self,
+        symbol: &usize,
+    ) -> Option<(P, <P as BitArray>::NonZero, Option<Reciprocal>)> {
+        self.model.left_cumulative_and_reciprocal(symbol)
+    }
+}
+
+impl<'a, P: BitArray, const PRECISION: usize> DecoderModel<PRECISION> for GuidedOrRow<'a, P, PRECISION> {
+    #[inline(always)]
+    fn quantile_function(&self, quantile: P) -> (usize, P, <P as BitArray>::NonZero) {
+        self.model.quantile_function(quantile)
+    }
+}
 
 /// Tables of `width` weights, one after another in `weights`, and for each symbol the index of its table.
 ///
@@ -51,7 +115,7 @@ pub struct Indexed<'a, P> {
 }
 
 impl<'a, P: BitArray, const PRECISION: usize> Models<P, PRECISION> for Indexed<'a, P> {
-    type List = IndexedList<'a, GuidedOrRow<'a, P, PRECISION>>;
+    type List = IndexedList<'a, P, PRECISION>;
 
     ghost coded = { λ given. by_indexes given.width (map P.number given.weights.now) given.indexes.now };
 
@@ -85,7 +149,7 @@ impl<'a, P: BitArray, const PRECISION: usize> Models<P, PRECISION> for Indexed<'
         alloc: Global,
         count: usize,
         divides: bool,
-    ) -> Option<IndexedList<'a, GuidedOrRow<'a, P, PRECISION>>> {
+    ) -> Option<IndexedList<'a, P, PRECISION>> {
         let tables = rows_of(self.weights, self.width);
         let searches = count / 128 <= tables;
         let divides = divides && count / 8 >= self.weights.len(); // fewer symbols don't pay for reciprocals
@@ -109,13 +173,13 @@ impl<'a, P: BitArray, const PRECISION: usize> Models<P, PRECISION> for Indexed<'
 }
 
 impl<'a, P: BitArray, const PRECISION: usize> DecoderModels<P, PRECISION> for Indexed<'a, P> {
-    type DecoderList = IndexedList<'a, GuidedOrRow<'a, P, PRECISION>>;
+    type DecoderList = IndexedList<'a, P, PRECISION>;
 
     fn decoder_list(
         &self,
         alloc: Global,
         count: usize,
-    ) -> Option<IndexedList<'a, GuidedOrRow<'a, P, PRECISION>>> {
+    ) -> Option<IndexedList<'a, P, PRECISION>> {
         let tables = rows_of(self.weights, self.width);
         let searches = count / 64 <= tables;
         match models_by(
@@ -147,22 +211,19 @@ impl<'a, P: BitArray, const PRECISION: usize> DecoderModels<P, PRECISION> for In
 /// }
 /// ```
 #[derive(Drop)]
-pub struct IndexedList<'a, M> {
-    models: Vec<M>,
+pub struct IndexedList<'a, P: BitArray, const PRECISION: usize> {
+    models: Vec<GuidedOrRow<'a, P, PRECISION>>,
     indexes: &'a [usize],
     place: usize,
     ghost within: { (k : ℕ) → k < length indexes.now → get_or indexes.now k 0 < length models.items },
 }
 
-impl<
-    'a,
-    P: BitArray,
-    M: EncoderModel<PRECISION, Symbol = usize, Probability = P>,
-    const PRECISION: usize,
-> ModelList<P, PRECISION> for IndexedList<'a, M> {
+impl<'a, P: BitArray, const PRECISION: usize> ModelList<P, PRECISION> for IndexedList<'a, P, PRECISION> {
     const LOOKS_AHEAD: bool = false;
 
-    ghost tables = { λ list. map (λ index. get_or (map M.table list.models.items) index []) list.indexes.now };
+    ghost tables = { λ list. map (λ index. get_or (map
+        ⟦<GuidedOrRow<'a, P, PRECISION> as EntropyModel<PRECISION>>⟧.table list.models.items) index [])
+        list.indexes.now };
 
     #[inline(always)]
     fn interval(
@@ -171,22 +232,19 @@ impl<
         symbol: usize,
     ) -> Option<(P, <P as BitArray>::NonZero, Option<Reciprocal>)> {
         let indexes = self.indexes;
-        match entry_of::<P, M, PRECISION>(&self.models[indexes[place]], symbol) {
+        match entry_of::<P, _, PRECISION>(&self.models[indexes[place]], symbol) {
             Some(found) => Some(found),
             None => None,
         }
     }
 }
 
-impl<
-    'a,
-    P: BitArray,
-    M: DecoderModel<PRECISION, Symbol = usize, Probability = P>,
-    const PRECISION: usize,
-> DecoderModelList<P, PRECISION> for IndexedList<'a, M> {
-    type Model = M;
+impl<'a, P: BitArray, const PRECISION: usize> DecoderModelList<P, PRECISION> for IndexedList<'a, P, PRECISION> {
+    type Model = GuidedOrRow<'a, P, PRECISION>;
 
-    ghost tables = { λ list. map (λ index. get_or (map M.table list.models.items) index []) list.indexes.now };
+    ghost tables = { λ list. map (λ index. get_or (map
+        ⟦<GuidedOrRow<'a, P, PRECISION> as EntropyModel<PRECISION>>⟧.table list.models.items) index [])
+        list.indexes.now };
 
     ghost turned_to = { λ list. list.place };
 
@@ -196,7 +254,7 @@ impl<
     }
 
     #[inline]
-    fn model(&self) -> &M {
+    fn model(&self) -> &GuidedOrRow<'a, P, PRECISION> {
         &self.models[self.indexes[self.place]]
     }
 }
@@ -262,10 +320,14 @@ fn model_by<'a, P: BitArray, const PRECISION: usize>(
         ≡ table_of (map P.number row.now)) }
 {
     if searches {
-        return Some(WeightsModel::Rows(Row::of_total(row)));
+        return Some(GuidedOrRow {
+            model: WeightsModel::Rows(Row::of_total(row)),
+        });
     }
     match guided_by(alloc, row, divides, decodes) {
-        Some(table) => Some(WeightsModel::Table(table)),
+        Some(table) => Some(GuidedOrRow {
+            model: WeightsModel::Table(table),
+        }),
         None => None,
     }
 }

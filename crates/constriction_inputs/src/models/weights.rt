@@ -7,7 +7,7 @@ ghost use Rattle.constriction_inputs.specs.Weights.{by_weights};
 
 use crate::known::is_known;
 use crate::models::weights_model::WeightsModel;
-use crate::models::{DecoderModels, Models, One};
+use crate::models::{DecoderModels, ModelList, Models, One};
 use crate::refusal::Refusal;
 use crate::rows::Row;
 use crate::rows::adding::is_total;
@@ -15,7 +15,7 @@ use crate::symbol::Symbol;
 use constriction_base::model::EntropyModel;
 use constriction_base::weights::WeightTable;
 use constriction_models::lookup::ContiguousLookupDecoderModel;
-use constriction_words::BitArray;
+use constriction_words::{BitArray, Reciprocal};
 use std::alloc::Global;
 
 /// The model of a list of weights: a [`WeightTable`], or a lookup model with a row for each quantile.
@@ -53,7 +53,7 @@ pub struct Weights<'a, P> {
 }
 
 impl<'a, P: BitArray, const PRECISION: usize> Models<P, PRECISION> for Weights<'a, P> {
-    type List = One<TableOrRow<'a, P, PRECISION>>;
+    type List = WeightsList<'a, P, PRECISION>;
 
     ghost coded = { λ given. by_weights (map P.number given.weights.now) };
 
@@ -79,21 +79,61 @@ impl<'a, P: BitArray, const PRECISION: usize> Models<P, PRECISION> for Weights<'
         alloc: Global,
         count: usize,
         divides: bool,
-    ) -> Option<One<TableOrRow<'a, P, PRECISION>>> {
+    ) -> Option<WeightsList<'a, P, PRECISION>> {
         if count <= 1 {
             let row = Row::of_total(self.weights);
-            return Some(One {
-                model: WeightsModel::Rows(row),
-                count,
-                place: 0,
+            return Some(WeightsList {
+                models: One {
+                    model: WeightsModel::Rows(row),
+                    count,
+                    place: 0,
+                },
             });
         }
         match table_by(alloc, self.weights, divides) {
-            Some(table) => Some(One {
-                model: WeightsModel::Table(table),
-                count,
-                place: 0,
+            Some(table) => Some(WeightsList {
+                models: One {
+                    model: WeightsModel::Table(table),
+                    count,
+                    place: 0,
+                },
             }),
+            None => None,
+        }
+    }
+}
+
+/// The models that [`Weights`] makes for encoding: one table of weights, or one row, for all symbols.
+///
+/// A proof about a call with this list mentions this type, and none of the types that the list is made of, which makes
+/// the proof several times shorter.
+///
+/// # Examples
+///
+/// ```
+/// let weights = Weights { weights: &[255u8, 1] };
+/// if let Some(mut list) = Models::<u8, 8>::list(&weights, alloc, 2, false) {
+///     ModelList::<u8, 8>::interval(&mut list, 1, 1) // Some((255, 1, None))
+/// }
+/// ```
+#[derive(Drop)]
+pub struct WeightsList<'a, P: BitArray, const PRECISION: usize> {
+    models: One<TableOrRow<'a, P, PRECISION>>,
+}
+
+impl<'a, P: BitArray, const PRECISION: usize> ModelList<P, PRECISION> for WeightsList<'a, P, PRECISION> {
+    const LOOKS_AHEAD: bool = false;
+
+    ghost tables = { λ list. ⟦<One<TableOrRow<'a, P, PRECISION>> as ModelList<P, PRECISION>>⟧.tables list.models };
+
+    #[inline(always)]
+    fn interval(
+        &mut self,
+        place: usize,
+        symbol: usize,
+    ) -> Option<(P, <P as BitArray>::NonZero, Option<Reciprocal>)> {
+        match self.models.interval(place, symbol) {
+            Some(found) => Some(found),
             None => None,
         }
     }

@@ -30,7 +30,7 @@ loop-index-preserved g c =
     let more = map-range_with_len_more (λ index. table_of (row_at_index given.width index (map number given.weights.now))) 0 l.index l.index (omega arith) in
     record {
       tables = rw c.push_reserved.ensures.items
-          (map_push (of_either (λ guided. table_of (map number guided.row.weights.now)) (λ row. table_of (map number row.weights.now))) l.models.items c.in-Some.model
+          (map_push (λ m. of_either (λ guided. table_of (map number guided.row.weights.now)) (λ row. table_of (map number row.weights.now)) m.model) l.models.items c.in-Some.model
           ∙ (rw (l.invariant.tables, c.in-Some.ensures, c.weights_at-row.ensures) refl ∙ sym more));
       counted = omega (arith, c.push_reserved.ensures.len, l.invariant.counted);
       capacity = omega (arith, c.push_reserved.ensures.capacity, l.invariant.capacity);
