@@ -48,7 +48,8 @@ pub struct GuidedOrRow<'a, P: BitArray, const PRECISION: usize> {
     model: EitherModel<'a, P, PRECISION>,
 }
 
-impl<'a, P: BitArray, const PRECISION: usize> EntropyModel<PRECISION> for GuidedOrRow<'a, P, PRECISION> {
+impl<'a, P: BitArray, const PRECISION: usize> EntropyModel<PRECISION>
+    for GuidedOrRow<'a, P, PRECISION> {
     type Symbol = usize;
 
     type Probability = P;
@@ -66,7 +67,8 @@ impl<'a, P: BitArray, const PRECISION: usize> EntropyModel<PRECISION> for Guided
         (λ row all. two_weights P.number P.BITS P.number_law PRECISION row.weights.now row.total all) m.model };
 }
 
-impl<'a, P: BitArray, const PRECISION: usize> EncoderModel<PRECISION> for GuidedOrRow<'a, P, PRECISION> {
+impl<'a, P: BitArray, const PRECISION: usize> EncoderModel<PRECISION>
+    for GuidedOrRow<'a, P, PRECISION> {
     #[inline(always)]
     fn left_cumulative_and_probability(
         &self,
@@ -84,7 +86,8 @@ impl<'a, P: BitArray, const PRECISION: usize> EncoderModel<PRECISION> for Guided
     }
 }
 
-impl<'a, P: BitArray, const PRECISION: usize> DecoderModel<PRECISION> for GuidedOrRow<'a, P, PRECISION> {
+impl<'a, P: BitArray, const PRECISION: usize> DecoderModel<PRECISION>
+    for GuidedOrRow<'a, P, PRECISION> {
     #[inline(always)]
     fn quantile_function(&self, quantile: P) -> (usize, P, <P as BitArray>::NonZero) {
         self.model.quantile_function(quantile)
@@ -175,11 +178,7 @@ impl<'a, P: BitArray, const PRECISION: usize> Models<P, PRECISION> for Indexed<'
 impl<'a, P: BitArray, const PRECISION: usize> DecoderModels<P, PRECISION> for Indexed<'a, P> {
     type DecoderList = IndexedList<'a, P, PRECISION>;
 
-    fn decoder_list(
-        &self,
-        alloc: Global,
-        count: usize,
-    ) -> Option<IndexedList<'a, P, PRECISION>> {
+    fn decoder_list(&self, alloc: Global, count: usize) -> Option<IndexedList<'a, P, PRECISION>> {
         let tables = rows_of(self.weights, self.width);
         let searches = count / 64 <= tables;
         match models_by(
@@ -218,7 +217,8 @@ pub struct IndexedList<'a, P: BitArray, const PRECISION: usize> {
     ghost within: { (k : ℕ) → k < length indexes.now → get_or indexes.now k 0 < length models.items },
 }
 
-impl<'a, P: BitArray, const PRECISION: usize> ModelList<P, PRECISION> for IndexedList<'a, P, PRECISION> {
+impl<'a, P: BitArray, const PRECISION: usize> ModelList<P, PRECISION>
+    for IndexedList<'a, P, PRECISION> {
     const LOOKS_AHEAD: bool = false;
 
     ghost tables = { λ list. map (λ index. get_or (map
@@ -239,7 +239,8 @@ impl<'a, P: BitArray, const PRECISION: usize> ModelList<P, PRECISION> for Indexe
     }
 }
 
-impl<'a, P: BitArray, const PRECISION: usize> DecoderModelList<P, PRECISION> for IndexedList<'a, P, PRECISION> {
+impl<'a, P: BitArray, const PRECISION: usize> DecoderModelList<P, PRECISION>
+    for IndexedList<'a, P, PRECISION> {
     type Model = GuidedOrRow<'a, P, PRECISION>;
 
     ghost tables = { λ list. map (λ index. get_or (map

@@ -121,7 +121,8 @@ pub struct WeightsList<'a, P: BitArray, const PRECISION: usize> {
     models: One<TableOrRow<'a, P, PRECISION>>,
 }
 
-impl<'a, P: BitArray, const PRECISION: usize> ModelList<P, PRECISION> for WeightsList<'a, P, PRECISION> {
+impl<'a, P: BitArray, const PRECISION: usize> ModelList<P, PRECISION>
+    for WeightsList<'a, P, PRECISION> {
     const LOOKS_AHEAD: bool = false;
 
     ghost tables = { λ list. ⟦<One<TableOrRow<'a, P, PRECISION>> as ModelList<P, PRECISION>>⟧.tables list.models };
