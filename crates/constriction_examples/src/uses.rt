@@ -2,14 +2,15 @@
 //!
 //! The contracts of these functions say which symbols are decoded. `docs/CALLING.md` explains the functions.
 
-ghost use Rattle.std.specs.Prelude.{◌≡◌, ◌%◌, ◌^◌, ℕ, List, length, map, reverse, IfOk, IfErr, IfSome};
+ghost use Rattle.std.specs.Prelude.{◌≡◌, ◌<◌, ◌%◌, ◌^◌, ℕ, List, length, map, reverse, IfOk, IfErr, IfSome};
 ghost use Rattle.constriction.specs.Models.{pairs_of};
-ghost use Rattle.constriction.specs.Outcomes.{HasImpossibleItem, UnlessImpossible};
+ghost use Rattle.constriction.specs.Outcomes.{HasImpossibleItem, UnlessImpossible, UnlessInvalid};
+ghost use Rattle.constriction.specs.Readings.{BeginsHigh};
 ghost use Rattle.constriction.specs.Tables.{entries};
 ghost use Rattle.constriction.specs.stack.Ans.{AnsState, exported};
-ghost use Rattle.constriction.specs.stack.Positions.{Grows, position_of};
-ghost use Rattle.constriction.specs.stack.Symbols.{EncodesAll};
-ghost use Rattle.constriction_examples.specs.Packing.{ArePacked};
+ghost use Rattle.constriction.specs.stack.Positions.{Grows, position_of, sought};
+ghost use Rattle.constriction.specs.stack.Symbols.{DecodesAll, EncodesAll};
+ghost use Rattle.constriction_examples.specs.Packing.{ArePacked, AreUnpacked, reading_order};
 
 use anyhow::{Result, bail};
 use constriction::BitArray;
@@ -56,8 +57,10 @@ pub fn unpack(
     tables: &[WeightTable<u32, 24>],
 ) -> Result<Vec<usize>, RoundTripError>
     ensures count { IfOk result (λ again. length again.items ≡ length tables.now) }
+    ensures read { IfOk result (λ again. AreUnpacked (pairs_of 24 entries again.items tables.now) words.now) }
     ensures back { (symbols : List ℕ) → ArePacked (pairs_of 24 entries symbols tables.now) words.now →
         length symbols ≡ length tables.now → IfOk result (λ again. again.items ≡ symbols) }
+    ensures err { IfErr result (UnlessInvalid (BeginsHigh (reading_order words.now) → ⊥)) }
 {
     let (again, _) = pairs_from_words::<u32, u64, Cursor<u32, &[u32]>, _, 24>(
         alloc,
@@ -99,10 +102,14 @@ pub fn before_a_position(
     tables: &[WeightTable<u32, 24>],
 ) -> Result<Vec<usize>, RoundTripError>
     ensures count { IfOk result (λ again. length again.items ≡ length tables.now) }
+    ensures read { IfOk result (λ again. (last : AnsState) × DecodesAll 32 64
+        (pairs_of 24 entries again.items tables.now)
+        (sought (record { held = position.0; head = position.1 % 2 ^ 64 }) coder.now.state) last) }
     ensures back { (symbols : List ℕ) (old there : AnsState) →
         EncodesAll 32 64 (reverse (pairs_of 24 entries symbols tables.now)) old there →
         record { held = position.0; head = position.1 % 2 ^ 64 } ≡ position_of there → Grows there coder.now.state →
         length symbols ≡ length tables.now → IfOk result (λ again. again.items ≡ symbols) }
+    ensures err { IfErr result (UnlessInvalid (length coder.now.state.words < position.0)) }
 {
     pairs_at_position(alloc, coder, position, tables)
 }
