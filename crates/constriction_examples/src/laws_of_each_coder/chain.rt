@@ -54,6 +54,10 @@ pub fn isolated_across_a_change<
     other: &B,
     later: &M,
 ) -> Option<(usize, usize)>
+    ensures first { IfSome result (λ both.
+        IsSecondSymbol (A.table first.now) (M.table later.now) coder.state both.0) }
+    ensures second { IfSome result (λ both.
+        IsSecondSymbol (B.table other.now) (M.table later.now) same.state both.1) }
     ensures isolated { coder.state.h ≡ same.state.h → coder.state.compressed ≡ same.state.compressed →
         IfSome result (λ both. both.0 ≡ both.1) }
 {
