@@ -1,9 +1,13 @@
 //! An application of a law of the chain coder, and calls whose contracts say how much room a failed call leaves.
 
 ghost use Rattle.constriction.specs.Symbols.{DecodesSymbol, EncodesSymbol};
+ghost use Rattle.constriction.specs.Tables.{Impossible};
+ghost use Rattle.constriction.specs.declared.CoderError.TheVariants.{Frontend};
+ghost use Rattle.constriction.specs.declared.stream.chain.EncoderFrontendError.TheVariants.{ImpossibleSymbol};
+ghost use Rattle.constriction.specs.declared.stream.chain.EncoderFrontendError.TheVariants.{OutOfRemainders};
 ghost use Rattle.constriction_examples.specs.Changing.{IsSecondSymbol};
 ghost use Rattle.std.specs.Bool.{OnFalse, OnTrue};
-ghost use Rattle.std.specs.Prelude.{IfErr, IfNone, IfOk, IfSome, Ok, [], ◌≡◌, ◌≤◌};
+ghost use Rattle.std.specs.Prelude.{Err, IfErr, IfNone, IfOk, IfSome, Ok, [], ◌≡◌, ◌≤◌};
 
 use constriction::backends::{Holds, ReadWords, WriteWords};
 use constriction::laws::chain::isolation::symbols_are_isolated;
@@ -110,7 +114,9 @@ where
 ///
 /// # Errors
 ///
-/// - `Frontend(ImpossibleSymbol)`: the model has no entry for the symbol.
+/// An error leaves the coder as the same error of `encode_symbol` does.
+///
+/// - `Frontend(ImpossibleSymbol)`: the model has no entry for the symbol. The coder is unchanged.
 /// - `Backend(error)`: a read or a write failed with `error`.
 pub fn encode_to_the_end<
     C: WriteWords<u32>,
@@ -132,6 +138,13 @@ where
     ensures room_at_the_end { IfOk result
         (λ put. OnFalse put (C.room coder.old.compressed ≤ C.room coder.new.compressed)) }
     ensures room_at_an_error { IfErr result (λ _. C.room coder.old.compressed ≤ C.room coder.new.compressed) }
+    ensures err { IfErr result (λ error.
+        EncodesSymbol ⟦<ChainCoder<u32, u64, C, R, PRECISION> as Encode<PRECISION>>⟧.encodes
+        ⟦<ChainCoder<u32, u64, C, R, PRECISION> as Encode<PRECISION>>⟧.is_impossible_symbol
+        PRECISION (M.table model.now) symbol.now coder.old (Err error) coder.new) }
+    ensures impossible { IfErr result (λ error. error ≡ Frontend ImpossibleSymbol →
+        Impossible (M.table model.now) symbol.now) }
+    ensures frontend { IfErr result (λ error. error ≡ Frontend OutOfRemainders → ⊥) }
 {
     match coder.encode_symbol(symbol, model) {
         Ok(()) => Ok(true),
