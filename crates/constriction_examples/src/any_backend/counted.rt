@@ -1,6 +1,6 @@
 //! A backend that counts the words written to another backend.
 
-ghost use Rattle.std.specs.Prelude.{◌≡◌};
+ghost use Rattle.std.specs.Prelude.{◌≡◌, ◌+◌, ◌-◌, ◌^◌, OnOk, OnErr, min};
 
 use constriction::backends::{BothWays, CountsWords, Holds, IntoReadWords, WriteWords};
 use constriction::{Pos, PosSeek, Queue, Semantics, Stack};
@@ -37,7 +37,9 @@ impl<B: BothWays<u32>> BothWays<u32> for Counted<B> {
 impl<B: WriteWords<u32>> WriteWords<u32> for Counted<B> {
     type WriteError = B::WriteError;
 
-    ghost writes = { λ old word result new. B.writes old.inner word result new.inner };
+    ghost writes = { λ old word result new. B.writes old.inner word result new.inner
+        × OnOk result (new.written ≡ min (old.written + 1) (2 ^ 64 - 1))
+        × OnErr result (new.written ≡ old.written) };
 
     ghost write_fails = { λ b. B.write_fails b.inner };
 
