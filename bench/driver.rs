@@ -282,8 +282,7 @@ impl Bench {
         }
     }
 
-    /// The library's decoders own their words: they begin with a copy, and free it. The time for this is
-    /// subtracted.
+    /// Times a decoder that owns its words: it begins with a copy, and frees it. The time for this is subtracted.
     fn decode<W: Word, T: Copy + Default + PartialEq + Debug>(
         &self,
         name: &str,
@@ -291,16 +290,27 @@ impl Bench {
         symbols: &[T],
         decode: impl Fn(&[W], &mut [T]) -> bool,
     ) {
-        if !self.wants(name) {
-            return;
+        if self.wants(name) {
+            let all = self.decoding(words, symbols, decode);
+            println!("{name} {:.2}", all - self.copying(words));
         }
-        let mut out = vec![T::default(); COUNT];
-        let all = self.least(|| assert!(decode(words, &mut out)));
-        assert_eq!(out, symbols);
-        println!("{name} {:.2}", all - self.copying(words));
     }
 
-    /// Times encoding, and decoding `expected` from the words.
+    /// Returns the least time in which `decode` decodes `symbols` from the words.
+    fn decoding<W: Word, T: Copy + Default + PartialEq + Debug>(
+        &self,
+        words: &[W],
+        symbols: &[T],
+        decode: impl Fn(&[W], &mut [T]) -> bool,
+    ) -> f64 {
+        let mut out = vec![T::default(); COUNT];
+        let time = self.least(|| assert!(decode(words, &mut out)));
+        assert_eq!(out, symbols);
+        time
+    }
+
+    /// Times encoding to a queue or stack of bits, and decoding `expected` from its words. A queue's decoder borrows
+    /// them.
     fn there_and_back<T: Copy + Default + PartialEq + Debug>(
         &self,
         (encode_name, encode): (&str, &dyn Fn(&mut [u32]) -> usize),
@@ -309,7 +319,12 @@ impl Bench {
     ) {
         self.encode(encode_name, encode);
         let words = all_words(encode);
-        self.decode(decode_name, &words, expected, decode);
+        if !decode_name.ends_with("_queue") {
+            self.decode(decode_name, &words, expected, decode);
+        } else if self.wants(decode_name) {
+            let time = self.decoding(&words, expected, decode);
+            println!("{decode_name} {time:.2}");
+        }
     }
 
     /// Returns the nanoseconds per part of building an object with `count` parts. A run builds COUNT parts.

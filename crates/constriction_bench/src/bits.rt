@@ -3,7 +3,7 @@
 use crate::runs::copy_out;
 use constriction_base::cursor::Cursor;
 use constriction_symbol::coder::{DefaultQueueEncoder, DefaultStackCoder};
-use constriction_symbol::queue::DefaultQueueDecoder;
+use constriction_symbol::queue::QueueDecoder;
 use constriction_symbol::reading::ReadBitStream;
 use constriction_symbol::writing::WriteBitStream;
 use std::alloc::Global;
@@ -34,8 +34,9 @@ fn write_stack(alloc: Global, bits: &[bool]) -> Option<Vec<u32>> {
 
 /// Fills `bits` with the first bits of a queue, in order. Returns `false` if the queue has fewer bits than `bits`.
 #[inline(never)]
-fn read_queue(words: Vec<u32>, bits: &mut [bool]) -> bool {
-    let mut decoder = DefaultQueueDecoder::from_compressed(Cursor::new_at_write_beginning(words));
+fn read_queue(words: &[u32], bits: &mut [bool]) -> bool {
+    let cursor = Cursor::<u32, &[u32]>::new_at_write_beginning(words);
+    let mut decoder = QueueDecoder::from_compressed(cursor);
     for bit in bits.iter_mut() {
         match decoder.read_bit() {
             Ok(Some(read)) => *bit = read,
@@ -100,15 +101,8 @@ pub extern "C" fn constriction_bench_bits_write_stack(
 
 /// Fills `bits` with the first bits of the queue that `words` holds. Returns `false` after a failure (see [`crate`]).
 #[unsafe(no_mangle)]
-pub extern "C" fn constriction_bench_bits_read_queue(
-    alloc: Global,
-    words: &[u32],
-    bits: &mut [bool],
-) -> bool {
-    match words.to_vec(alloc) {
-        Ok(words) => read_queue(words, bits),
-        Err(_) => false,
-    }
+pub extern "C" fn constriction_bench_bits_read_queue(words: &[u32], bits: &mut [bool]) -> bool {
+    read_queue(words, bits)
 }
 
 /// Fills `bits` with the top bits of the stack that `words` holds. The bit that was written last comes first.

@@ -6,7 +6,7 @@ use constriction_symbol::codebooks::{DecoderCodebook, EncoderCodebook};
 use constriction_symbol::coder::{DefaultQueueEncoder, DefaultStackCoder};
 use constriction_symbol::exp_golomb::ExpGolomb;
 use constriction_symbol::huffman::{DecoderHuffmanTree, EncoderHuffmanTree};
-use constriction_symbol::queue::DefaultQueueDecoder;
+use constriction_symbol::queue::QueueDecoder;
 use constriction_symbol::reading::ReadBitStream;
 use constriction_symbol::writing::WriteBitStream;
 use std::alloc::Global;
@@ -52,16 +52,13 @@ fn encode_stack<C: EncoderCodebook>(
 
 /// Fills `symbols` with symbols decoded from a queue of bits. Returns `false` if a decode fails.
 #[inline(never)]
-fn decode_queue<C: DecoderCodebook>(
-    words: Vec<u32>,
-    symbols: &mut [C::Symbol],
-    codebook: &C,
-) -> bool
+fn decode_queue<C: DecoderCodebook>(words: &[u32], symbols: &mut [C::Symbol], codebook: &C) -> bool
 where
     C::Symbol: Drop,
     C::InvalidCodeword: Drop,
 {
-    let mut decoder = DefaultQueueDecoder::from_compressed(Cursor::new_at_write_beginning(words));
+    let cursor = Cursor::<u32, &[u32]>::new_at_write_beginning(words);
+    let mut decoder = QueueDecoder::from_compressed(cursor);
     for symbol in symbols.iter_mut() {
         match decoder.decode_symbol(codebook) {
             Ok(decoded) => *symbol = decoded,
@@ -125,14 +122,10 @@ pub extern "C" fn constriction_bench_golomb_encode_stack(
 /// Returns `false` after a failure (see [`crate`]).
 #[unsafe(no_mangle)]
 pub extern "C" fn constriction_bench_golomb_decode_queue(
-    alloc: Global,
     words: &[u32],
     numbers: &mut [u32],
 ) -> bool {
-    match words.to_vec(alloc) {
-        Ok(words) => decode_queue(words, numbers, &ExpGolomb::<u32>::new()),
-        Err(_) => false,
-    }
+    decode_queue(words, numbers, &ExpGolomb::<u32>::new())
 }
 
 /// Fills `numbers` with numbers decoded from a stack of bits, with Exp-Golomb codewords.
@@ -182,23 +175,6 @@ pub extern "C" fn constriction_bench_huffman_encode_stack(
     }
 }
 
-/// Builds the Huffman tree of `weights` for decoding. Returns the tree and a copy of `words`.
-///
-/// Returns `None` if the weights make no tree, or if there is no memory.
-fn tree_and_words(
-    alloc: Global,
-    weights: &[u32],
-    words: &[u32],
-) -> Option<(DecoderHuffmanTree, Vec<u32>)> {
-    let Ok(tree) = DecoderHuffmanTree::from_probabilities(alloc, weights) else {
-        return None;
-    };
-    match words.to_vec(alloc) {
-        Ok(words) => Some((tree, words)),
-        Err(_) => None,
-    }
-}
-
 /// Fills `symbols` with symbols decoded from a queue of bits, with the Huffman tree of `weights`.
 ///
 /// Returns `false` after a failure (see [`crate`]).
@@ -209,9 +185,9 @@ pub extern "C" fn constriction_bench_huffman_decode_queue(
     words: &[u32],
     symbols: &mut [usize],
 ) -> bool {
-    match tree_and_words(alloc, weights, words) {
-        Some((tree, words)) => decode_queue(words, symbols, &tree),
-        None => false,
+    match DecoderHuffmanTree::from_probabilities(alloc, weights) {
+        Ok(tree) => decode_queue(words, symbols, &tree),
+        Err(_) => false,
     }
 }
 
@@ -225,9 +201,12 @@ pub extern "C" fn constriction_bench_huffman_decode_stack(
     words: &[u32],
     symbols: &mut [usize],
 ) -> bool {
-    match tree_and_words(alloc, weights, words) {
-        Some((tree, words)) => decode_stack(words, symbols, &tree),
-        None => false,
+    let Ok(tree) = DecoderHuffmanTree::from_probabilities(alloc, weights) else {
+        return false;
+    };
+    match words.to_vec(alloc) {
+        Ok(words) => decode_stack(words, symbols, &tree),
+        Err(_) => false,
     }
 }
 
