@@ -38,7 +38,6 @@ def of_symbols(name, bits):
         r"_(encode|decode)_": rf"_\1_{name}_",
         r"(Encodes|Decodes) symbols": rf"\1 symbols of type `u{bits}`",
         r"symbols: &(mut )?\[usize\]": rf"symbols: &\1[u{bits}]",
-        r"symbols\.(old|new)": rf"(map (lowest {bits}) symbols.\1)",
         r"(Decodes[^{}]*?\()by_weights \(map \(lowest 32\) weights\.now\)": rf"\1narrow_from_u32 {bits} weights.now",
         r"\bdecode_by_weights(.*) 24>": rf"decode_narrow\1 u{bits}, 24>",
         r"\[`decode_by_weights`\]": "[`decode_narrow`]",
@@ -165,11 +164,11 @@ ghost use Rattle.constriction_inputs.specs.Mixtures.{in_mixture};
 ghost use Rattle.constriction_inputs.specs.Quantized.{in_family};
 ghost use Rattle.constriction_inputs.specs.Rows.{by_rows};
 ghost use Rattle.std.specs.Prelude.{◌≡◌, map};
-use constriction_calls::ans::decoding::{decode, decode_narrow};
+use constriction_calls::ans::decoding::decode;
 use constriction_calls::ans::encoding::encode_reverse;
 use constriction_calls::ans::words::into_binary;
-use constriction_calls::chain::{ChainHeads, decode, decode_narrow, encode_reverse};
-use constriction_calls::range::decoding::{decode, decode_narrow};
+use constriction_calls::chain::{ChainHeads, decode, encode_reverse};
+use constriction_calls::range::decoding::decode;
 use constriction_calls::range::encoding::encode;
 use constriction_calls::range::parts::{DecoderParts, EncoderParts};
 use constriction_calls::range::words::into_self_delimited;
@@ -287,6 +286,7 @@ def derived_files(module, text):
         functions += [changed(it, change) for it in functions if re.search(rf"fn \w*{end}\(", it)]
     structs = dict(re.findall(r"pub struct (\w+) \{\n(.*?)\n\}", text, re.S))
     given = [it for it in IMPORTS.split("\n") if calls_of(module, it)]
+    given += [f"use crate::{module}::by_weights::decode_narrow;"]
     given += [f"use crate::{module}::u32::{{{', '.join(structs)}}};"] if structs else []
     written = {
         "kinds": (f"More C functions {MORE.get(module)}.", functions[count:]),

@@ -11,7 +11,6 @@ use Rattle.constriction_calls.specs.AnsCalls.{AnsExports, AnsImports, AnsEncodes
 use Rattle.constriction_calls.specs.ChainCalls.{ChainBuffers, ChainEncodesList, ChainDecodesList}
 use Rattle.constriction_calls.specs.ChainWords.{ChainBegins, ChainEnds}
 use Rattle.constriction_calls.specs.declared.chain.Form.{Form}
-use Rattle.constriction_calls.specs.NarrowSymbols.{narrow_by_weights}
 use Rattle.constriction_calls.specs.RangeCalls.{RangeBuffers, RangeEncodesList, RangeDecodesList, range_buffers}
 use Rattle.constriction_calls.specs.StoreCalls.{StoreBuilds, StoreDecodesList}
 use Rattle.constriction_calls.specs.SymbolBits.{EncodesAtBit, DecodesAtBit}
@@ -22,6 +21,7 @@ use Rattle.constriction_calls.specs.declared.range.parts.EncoderParts.{EncoderPa
 use Rattle.constriction_inputs.specs.Coded.{Coded}
 use Rattle.constriction_inputs.specs.Intervals.{as_intervals}
 use Rattle.constriction_inputs.specs.QuantizedCalls.{WritesIntervals}
+use Rattle.constriction_inputs.specs.Weights.{narrow_by_weights}
 use Rattle.constriction_inputs.specs.declared.refusal.Refusal.{Refusal}
 use Rattle.constriction_lanes.specs.LaneCalls.{LanesDecodeList, LanesEncodeList, lanes_of}
 use Rattle.constriction_stack.specs.Ans.{AnsState}

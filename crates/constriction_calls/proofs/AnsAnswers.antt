@@ -1,24 +1,29 @@
 -- What calls of the stack coder say of words that were put behind a caller's, or had no room there.
-use Rattle.std.proofs.Common.{◌≡◌, ◌⊎◌, ◌+◌, ◌<◌, ◌∙◌, ℕ, List, [], ◌++◌, Ok, Err, Result, length, map, reverse, refl, ap, inl, inr, append-nil, arith}
+use Rattle.std.proofs.Common.{◌≡◌, ◌≤◌, take, ◌⊎◌, ◌+◌, ◌<◌, ◌∙◌, ℕ, List, [], ◌++◌, Ok, Err, Result, length, map, reverse, refl, ap, inr, append-nil, arith}
 use Rattle.std.specs.Prelude.{IfErr, OnErr, OnOk}
-use Rattle.std.proofs.lemmas.List.{length-append}
+use Rattle.std.proofs.lemmas.List.{length-append, length-take, take-take}
 use Rattle.constriction_base.specs.Models.{AreKnown, AreModels, IsModel, Item}
 use Rattle.constriction_base.specs.Steps.{IsSizes}
 use Rattle.constriction_base.proofs.Turns.{all-reverse}
 use Rattle.constriction_stack.specs.Ans.{AnsState, IsPush, IsNormalized}
 use Rattle.constriction_stack.specs.Symbols.{EncodesAll}
-use Rattle.constriction_calls.specs.AnsCalls.{AnsExports, AnsBuffers, AnsEncodesList, AreBinary, AsksItems, TooShortForExport, HasBinary, IsWithin, TooShortForItems, PutsItems, ans_state_of}
+use Rattle.constriction_calls.specs.AnsCalls.{AnsExports, AnsBuffers, AnsEncodesList, AreBinary, TooShortForExport, HasBinary, TooShortForItems, ans_state_of}
 use Rattle.constriction_inputs.specs.Buffers.{Appended, stack_in}
 use Rattle.constriction_inputs.specs.Coded.{AreFit, Coded, items}
 use Rattle.constriction_inputs.specs.declared.refusal.Refusal.{Refusal}
 use Rattle.constriction_inputs.specs.declared.refusal.Refusal.TheVariants.{NoMemory, NoSpace}
 use Rattle.constriction_inputs.proofs.Asking.{fit_then, room_of}
-use Rattle.constriction_calls.proofs.AnsFrame.{encodes_over}
-use Rattle.constriction_calls.proofs.Known.{known_turned}
-use Rattle.constriction_calls.proofs.Stacked.{counted, stacked}
+use Rattle.constriction_stack.proofs.Over.{encodes_over}
+use Rattle.constriction_inputs.proofs.KnownItems.{known_turned}
+use Rattle.constriction_inputs.proofs.Stacked.{counted, stacked}
+
+-- the state of a coder that reads the first words of a buffer
+pub lent_state : {W : Type 0} (number : W → ℕ) (head pos left len : ℕ) (lent words : List W) → lent ≡ take len words → pos ≤ length lent → left ≡ pos
+    → ◌≡◌ {A = AnsState} (record { head = head; words = map number (reverse (take pos lent)) }) (record { head = head; words = stack_in number words left })
+lent_state number head pos left len lent words is within same = rw (is, same, take-take pos len words (omega (arith, length-take len words, ap length is))) refl
 
 -- what a coder without words wrote, put behind a caller's words
-module _ {Word State : Type 0} (number : Word → ℕ) (state : State → ℕ) (w s precision : ℕ) (coded : Coded) (old : AnsBuffers Word State) (within : IsWithin old) (fit : AreFit precision coded)
+module _ {Word State : Type 0} (number : Word → ℕ) (state : State → ℕ) (w s precision : ℕ) (coded : Coded) (old : AnsBuffers Word State) (within : old.len ≤ length old.words) (fit : AreFit precision coded)
     (z : IsSizes w s) (xs : List (Item ℕ)) (is : items precision coded ≡ xs) (models : AreModels w xs) (added : List Word) (top : State)
     (all : EncodesAll w s (reverse xs) (record { head = state old.head; words = [] }) (record { head = state top; words = map number (reverse added) })) where
   -- the state of what it wrote, and that over the caller's words
@@ -65,7 +70,7 @@ module _ {Word State : Type 0} (number : Word → ℕ) (state : State → ℕ) (
       }
 
 -- the words of a head below its leading 1 put behind a caller's words
-module _ {Word State : Type 0} (number : Word → ℕ) (state : State → ℕ) (w : ℕ) (old : AnsBuffers Word State) (within : IsWithin old) (added : List Word)
+module _ {Word State : Type 0} (number : Word → ℕ) (state : State → ℕ) (w : ℕ) (old : AnsBuffers Word State) (within : old.len ≤ length old.words) (added : List Word)
     (are : AreBinary w (record { head = state old.head; words = [] }) (map number (reverse added))) where
   abbrev binary : HasBinary w (ans_state_of number state old)
   binary = (are.0, record { from = are.1.from; below = are.1.below })

@@ -11,7 +11,7 @@ use Rattle.constriction_inputs.specs.declared.refusal.Refusal.{Refusal}
 use Rattle.constriction_inputs.specs.declared.refusal.Refusal.TheVariants as refusals
 use Rattle.constriction_inputs.proofs.Asking.{fit_then}
 use Rattle.constriction_calls.specs.ChainItems.{ChainEncodesItems}
-use Rattle.constriction_calls.proofs.Known.{known_turned}
+use Rattle.constriction_inputs.proofs.KnownItems.{known_turned}
 
 -- want of memory, or the end of the data
 pub of_data : {early : Type 0} (ends : Type 0) (needs : ℕ → Type 0) (e : Refusal) → (e ≡ refusals.NoMemory) ⊎ ((e ≡ refusals.OutOfData) × early) → (early → ends) → NoMemorySpaceOrData ends needs e
@@ -48,10 +48,10 @@ module _ {Word State : Type 0} (number : Word → ℕ) (state : State → ℕ) (
 
   -- ---- decodes
   module _ (within : AreInUse old) (coded : List ℕ → Coded) (symbols : List ℕ) (fit : AreFit P (coded symbols)) (heads : ValidHeads number state w s P old.heads) where
-    pub takes_stopped : (new : ChainBuffers Word State) → new ≡ old → (e : Refusal)
-        → NoMemorySpaceOrData (LacksCompressed w s P (λ xs. items P (coded xs)) (length symbols) (chain_state_of number state old))
-        (TooShortForRemainders w s (λ xs. items P (coded xs)) (length symbols) (chain_state_of number state old) (length old.remainders)) e → ChainDecodesList number state w s P coded old new symbols symbols (Err e)
-    takes_stopped new kept e behind = record { taken = tt; count = tt; fewer = tt; appended = tt; asked = inr (within, fit_then P (coded symbols) fit (inr (heads, behind))); kept = (kept, refl) }
+    pub takes_stopped : (n : ℕ) → n ≡ length symbols → (new : ChainBuffers Word State) → new ≡ old → (e : Refusal)
+        → NoMemorySpaceOrData (LacksCompressed w s P (λ xs. items P (coded xs)) n (chain_state_of number state old))
+        (TooShortForRemainders w s (λ xs. items P (coded xs)) n (chain_state_of number state old) (length old.remainders)) e → ChainDecodesList number state w s P coded old new symbols symbols (Err e)
+    takes_stopped n count new kept e behind = record { taken = tt; count = tt; fewer = tt; appended = tt; asked = inr (within, fit_then P (coded symbols) fit (inr (heads, rw (← count) behind))); kept = (kept, refl) }
 
     pub takes_ended : (new : ChainBuffers Word State) (others : List ℕ) → length others ≡ length symbols
         → (new.compressed_len ≤ old.compressed_len) × ChainDecodesAll w s (items P (coded others)) (chain_state_of number state old) (chain_state_of number state new)

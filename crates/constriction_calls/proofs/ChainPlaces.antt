@@ -1,40 +1,21 @@
 -- Encodes of a chain coder at the positions of a list of items.
-use Rattle.std.proofs.Common.{◌≡◌, ◌⊎◌, ◌∙◌, ℕ, zero, suc, ◌-◌, ◌*◌, ◌<◌, ◌≤◌, List, [], ◌∷◌, ◌++◌, Ok, Err, Result, length, drop, take, inl, inr, refl, ap, subst, sym, append_assoc, arith}
+use Rattle.std.proofs.Common.{◌≡◌, ◌∙◌, ℕ, ◌-◌, ◌*◌, ◌<◌, List, [], ◌∷◌, ◌++◌, Ok, Err, Result, length, drop, take, inl, inr, refl, ap, append_assoc, arith, replicate}
 use Rattle.std.specs.Prelude.{reverse}
-use Rattle.std.proofs.lemmas.List.{drop_all, reverse-append}
-use Rattle.constriction_base.specs.Models.{AreKnown, Item, Knows}
-use Rattle.constriction_base.specs.Steps.{IsStep}
-use Rattle.constriction_base.proofs.Entering.{entry_is_step}
-use Rattle.constriction_base.proofs.Trace.{Trace-more}
+use Rattle.std.proofs.lemmas.List.{drop_all, reverse-append, length-append, length-replicate}
+use Rattle.constriction_base.specs.Models.{Item, pairs_of}
 use Rattle.constriction_base.proofs.Turns.{reverse_at}
 use Rattle.constriction_chain.specs.Chain.{ChainState, IsEncode, least}
-use Rattle.constriction_chain.specs.Symbols.{ChainEncodesOne, ChainEncodesAll}
+use Rattle.constriction_chain.specs.Symbols.{ChainEncodesOne, ChainEncodesAll, ChainDecodesAll}
 use Rattle.constriction_inputs.specs.Items.{HasAt, HasInterval}
 use Rattle.constriction_inputs.specs.declared.refusal.Refusal.{Refusal}
-use Rattle.constriction_inputs.proofs.Places.{at_place, last_at}
-use Rattle.constriction_calls.specs.ChainCalls.{LacksRemainders, NeedsRemainders}
+use Rattle.constriction_inputs.proofs.Places.{further_back, has_more, last_at, unknown}
+use Rattle.constriction_calls.specs.ChainCalls.{LacksRemainders, NeedsRemainders, LacksCompressed}
 use Rattle.constriction_calls.specs.ChainItems.{PutsItem, PutsBackItems, PutsStep}
-
--- what a property of an item says, says the item at a position
-pub has_more : (items : List (Item ℕ)) (k : ℕ) (holds more : Item ℕ → Type 0) → ((item : Item ℕ) → holds item → more item) → HasAt items k holds → HasAt items k more
-has_more [] k holds more each at = at
-has_more (x ∷ items) zero holds more each at = each x at
-has_more (x ∷ items) (suc k) holds more each at = has_more items k holds more each at
-
--- where an item isn't known, not all are
-unknown : (items : List (Item ℕ)) (k : ℕ) → HasAt items k (λ item. Knows item.model item.symbol → ⊥) → AreKnown items → ⊥
-unknown [] k at known = absurd at
-unknown (x ∷ items) zero at known = at known.0
-unknown (x ∷ items) (suc k) at known = unknown items k at known.1
+use Rattle.constriction_chain.specs.Walk.{NeedsWord}
+use Rattle.constriction_inputs.proofs.Pairs.{pairs_begin}
 
 -- ---- the step of an item's interval
 module _ (w s precision bits : ℕ) (items : List (Item ℕ)) (k l p : ℕ) (at : HasAt items k (HasInterval precision bits l p)) where
-  pub step_at : bits ≤ w → IsStep w (record { precision = precision; left = l; p = p })
-  step_at narrow =
-      let found = at_place items k (HasInterval precision bits l p) at in
-      let e = found.2.1 in
-      entry_is_step w precision bits l p found.0.model.table found.0.symbol e.lawful e.has e.sized narrow
-
   put_at : (a b : ChainState) → IsEncode w s (record { precision = precision; left = l; p = p }) a b → HasAt items k (λ item. ChainEncodesOne w s item.model item.symbol a b)
   put_at a b step = has_more items k (HasInterval precision bits l p) (λ item. ChainEncodesOne w s item.model item.symbol a b) (λ item e. (l, p, e.1.has, rw e.0 step)) at
 
@@ -54,17 +35,10 @@ module _ (w s precision bits : ℕ) (items : List (Item ℕ)) (k l p : ℕ) (at 
 
 -- ---- all items, from the last to the first
 module _ (w s : ℕ) (items : List (Item ℕ)) (left : ℕ) (some : 0 < left) where
-  -- the last item that is left, behind those that are done
-  turned : (x : Item ℕ) → drop (left - 1) items ≡ x ∷ drop left items → reverse (drop (left - 1) items) ≡ reverse (drop left items) ++ x ∷ []
-  turned x is = ap reverse is ∙ reverse-append (x ∷ []) (drop left items)
-
   -- one encode more
   pub put_more : (a b c : ChainState) → ChainEncodesAll w s (reverse (drop left items)) a b → HasAt items (left - 1) (λ item. ChainEncodesOne w s item.model item.symbol b c)
       → ChainEncodesAll w s (reverse (drop (left - 1) items)) a c
-  put_more a b c all at =
-      let found = last_at items left (λ item. ChainEncodesOne w s item.model item.symbol b c) some at in
-      subst (λ (xs : List (Item ℕ)). ChainEncodesAll w s xs a c) (sym (turned found.0 found.1))
-      (Trace-more (λ item. ChainEncodesOne w s item.model item.symbol) (reverse (drop left items)) found.0 a b c all found.2)
+  put_more a b c all at = further_back (λ item. ChainEncodesOne w s item.model item.symbol) items left some a b c all at
 
   -- the remainders end
   lacks_more : (a b : ChainState) → ChainEncodesAll w s (reverse (drop left items)) a b → HasAt items (left - 1) (NeedsRemainders w s b) → b.remainders ≡ [] → LacksRemainders w s (reverse items) a
@@ -72,7 +46,7 @@ module _ (w s : ℕ) (items : List (Item ℕ)) (left : ℕ) (some : 0 < left) wh
       let found = last_at items left (NeedsRemainders w s b) some at in
       let others = reverse (take (left - 1) items) in
       let parts : reverse items ≡ reverse (drop left items) ++ found.0 ∷ others =
-      reverse_at (left - 1) items ∙ (ap (λ (ys : List (Item ℕ)). ys ++ others) (turned found.0 found.1) ∙ append_assoc (reverse (drop left items)) (found.0 ∷ []) others) in
+      reverse_at (left - 1) items ∙ (ap (λ (ys : List (Item ℕ)). ys ++ others) (ap reverse found.1 ∙ reverse-append (found.0 ∷ []) (drop left items)) ∙ append_assoc (reverse (drop left items)) (found.0 ∷ []) others) in
       record {
         first = reverse (drop left items);
         item = found.0;
@@ -104,3 +78,18 @@ single_put w s items a b (Ok tt) one put =
 single_put w s items a b (Err e) one put =
     let none : ChainEncodesAll w s (reverse (drop 1 items)) a a = rw (drop_all 1 items (omega (arith, one))) refl in
     refused_more w s items 1 (omega arith) a a b b e none put
+
+-- ---- symbols that end early, with others behind them
+pub ends_pairs : {M : Type 0} (w s P : ℕ) (table : M → List (ℕ × ℕ × ℕ)) (xs : List ℕ) (ms : List M) (count k : ℕ) (x last : ChainState) → length xs ≡ k → k < count → length ms ≡ count
+    → ChainDecodesAll w s (pairs_of P table xs ms) x last → NeedsWord w P last.h × (last.compressed ≡ []) → LacksCompressed w s P (λ symbols. pairs_of P table symbols ms) count x
+ends_pairs w s P table xs ms count k x last counted few many taken stop =
+    record {
+      symbols = xs ++ replicate (count - k) 0;
+      done = length xs;
+      last = last;
+      count_is = omega (arith, length-append xs (replicate (count - k) 0), length-replicate {A = ℕ} (count - k) 0);
+      fewer = omega arith;
+      taken = rw (pairs_begin P table xs (replicate (count - k) 0) ms (omega arith)) taken;
+      needs = stop.0;
+      ended = stop.1;
+    }

@@ -1,19 +1,13 @@
 -- Words that stand for a chain coder, and words of heads behind a caller's.
-use Rattle.std.proofs.Common.{◌≡◌, ◌⊎◌, refl, ℕ, ◌+◌, ◌^◌, ◌<◌, ◌≤◌, List, [], ◌∷◌, ◌++◌, Result, Ok, Err, length, map, reverse, take, append-nil, sym, ap, ◌∙◌, subst, arith, inl, inr}
+use Rattle.std.proofs.Common.{◌≡◌, ◌⊎◌, refl, ℕ, ◌+◌, ◌^◌, ◌<◌, ◌≤◌, List, [], ◌∷◌, ◌++◌, Result, Ok, Err, length, map, reverse, take, sym, ap, ◌∙◌, subst, inl, inr}
 use Rattle.std.specs.Prelude.{IfErr, OnErr, OnOk}
 use Rattle.std.specs.Int.Digits.{digits_of}
-use Rattle.std.proofs.Math.Seq.{take-length}
 use Rattle.constriction_base.specs.Digits.{fixed_digits}
 use Rattle.constriction_base.specs.Writing.{IsOneAbove}
-use Rattle.constriction_base.specs.declared.backends.reading.Holds as holding
-use Rattle.constriction_base.specs.declared.backends.reading.ReadWords as reading
-use Rattle.constriction_base.specs.declared.errors.CoderError.{CoderError}
-use Rattle.constriction_base.specs.declared.errors.CoderError.TheVariants.{Backend, Frontend}
-use Rattle.constriction_chain.specs.Chain.{ChainState, IsChain, IsSized, least}
-use Rattle.constriction_chain.specs.Imports.{FromBinary, FromCompressed, FromRemainders, compressed_words}
-use Rattle.constriction_chain.specs.Words.{IsInBinary, NoHeads, NoStart, TooFew, remainder_words}
+use Rattle.constriction_chain.specs.Chain.{ChainState, IsChain}
+use Rattle.constriction_chain.specs.Imports.{FromBinary, FromCompressed, FromRemainders}
+use Rattle.constriction_chain.specs.Words.{IsInBinary, remainder_words}
 use Rattle.constriction_chain.proofs.Chains.{state, state_same}
-use Rattle.constriction_chain.proofs.NoCoder as laws
 use Rattle.constriction_inputs.specs.Buffers.{Appended, WordBuffer, stack_in}
 use Rattle.constriction_calls.specs.ChainCalls.{AreHeads}
 use Rattle.constriction_calls.specs.ChainWords.{AreBinaryHeads, AreWordsInForm, Begins, ChainBegins, ChainEnds, HaveWords, HeadsOver, TooShortForWords, heads_over}
@@ -22,35 +16,9 @@ use Rattle.constriction_calls.specs.declared.chain.ChainHeads.{ChainHeads}
 use Rattle.constriction_inputs.specs.declared.refusal.Refusal.{Refusal}
 use Rattle.constriction_inputs.specs.declared.refusal.Refusal.TheVariants as refusals
 use Rattle.constriction_inputs.proofs.Asking.{room_of}
-use Rattle.constriction_calls.proofs.Stacked.{counted, length_in, rest_in, stacked}
-
--- ---- words that begin no coder
-module _ {W B O E : Type 0} (number : W → ℕ) (holds : holding.Ghosts B W O) (reads : reading.Ghosts B W O E) (w s P : ℕ) (list : holds.is_list) (sized : IsSized w s P) (never : E → ⊥)
-    (old : B) where
-  pub no_compressed : (e : CoderError B E) → NoStart number holds reads w (least w s P) old e → (words : List ℕ) → map number (holds.words old) ≡ words → (x : ChainState) × FromCompressed w s P words x → ⊥
-  no_compressed (Backend e) stop words are from = never e
-  no_compressed (Frontend rest) stop words are from = laws.no_compressed number holds reads w s P list sized old rest stop from.0 (rw are from.1)
-
-  pub no_binary : (e : CoderError B E) → TooFew number holds reads w (least w s P) 1 old e → (words : List ℕ) → map number (holds.words old) ≡ words → (x : ChainState) × FromBinary w s P words x → ⊥
-  no_binary (Backend e) stop words are from = never e
-  no_binary (Frontend rest) stop words are from = laws.no_binary number holds reads w s P list sized old rest stop from.0 (rw are from.1)
-
-  pub no_remainders : (e : CoderError B E) → NoHeads number holds reads w (least w s P) old e → (words : List ℕ) → map number (holds.words old) ≡ words → (x : ChainState) × FromRemainders w s P words x → ⊥
-  no_remainders (Backend e) stop words are from = never e
-  no_remainders (Frontend rest) stop words are from = laws.no_remainders number holds reads w s P list sized old rest stop from.0 (rw are from.1)
+use Rattle.constriction_inputs.proofs.Stacked.{all_taken, counted, left_in, stacked}
 
 -- ---- coders of a caller's words
--- the words that a cursor has left are the first of a buffer
-left_in : {W : Type 0} (number : W → ℕ) (words buf : List W) (pos : ℕ) (t cs : List ℕ) → cs ≡ map number (reverse (take pos buf)) → pos ≤ length buf
-    → map number (reverse (take (length words) words)) ≡ t ++ cs → (pos ≤ length words) × (cs ≡ stack_in number words pos)
-left_in number words buf pos t cs are within is =
-    let rest = rest_in number words (length words) t cs (omega arith) is in
-    let count : length cs ≡ pos = ap length are ∙ length_in number buf pos within in
-    (omega (arith, rest.0, count), rest.1 ∙ ap (λ (n : ℕ). stack_in number words n) count)
-
-pub all_taken : {W : Type 0} (number : W → ℕ) (words : List W) → map number (reverse (take (length words) words)) ≡ map number (reverse words)
-all_taken {W} number words = ap (λ (ws : List W). map number (reverse ws)) (take-length words)
-
 module _ {W : Type 0} (number : W → ℕ) (w s P : ℕ) (words buf others : List W) (h r pos : ℕ) (x : ChainState) (within : pos ≤ length buf) (chain : IsChain w s P x) where
   -- no remainders, and no bits left over
   module _ (is : x ≡ state h r (map number (reverse (take pos buf))) (map number (reverse others))) (one : x.h ≡ 1) (none : x.remainders ≡ []) where
@@ -78,30 +46,12 @@ module _ {W : Type 0} (number : W → ℕ) (w s P : ℕ) (words buf others : Lis
       let same : x ≡ state h r [] (stack_in number words pos) = state_same x _ (ap (λ (z : ChainState). z.h) is) (ap (λ (z : ChainState). z.r) is) none found.1 in
       (found.0, subst (λ (z : ChainState). FromRemainders w s P (map number (reverse words)) z) same (record { chain = chain; compressed = none; are = sym (all_taken number words) ∙ are }))
 
--- ---- words of heads over no others, with a caller's below them
-pub compressed_above : {W A : Type 0} (number : W → ℕ) (w h r : ℕ) (added : List W) (below : List ℕ) (x : ChainState) → x ≡ state h r [] []
-    → (x.h ≡ 1) × A × (map number (reverse added) ≡ compressed_words w x) → (h ≡ 1) × (map number (reverse added) ++ below ≡ digits_of (2 ^ w) r ++ below)
-compressed_above number w h r added below x is words =
-    let found = rw is at words in
-    (found.0, ap (λ (ys : List ℕ). ys ++ below) (found.2 ∙ append-nil (digits_of (2 ^ w) r)))
-
-pub binary_above : {W A : Type 0} (number : W → ℕ) (w h r : ℕ) (added : List W) (below : List ℕ) (x : ChainState) → x ≡ state h r [] []
-    → (x.h ≡ 1) × A × ((m : ℕ) × IsOneAbove w m x.r × (map number (reverse added) ≡ fixed_digits (2 ^ w) m x.r ++ x.compressed))
-    → (h ≡ 1) × ((m : ℕ) × IsOneAbove w m r × (map number (reverse added) ++ below ≡ fixed_digits (2 ^ w) m r ++ below))
-binary_above number w h r added below x is words =
-    let found = rw is at words in
-    (found.0, (found.2.0, found.2.1, ap (λ (ys : List ℕ). ys ++ below) (found.2.2 ∙ append-nil (fixed_digits (2 ^ w) found.2.0 r))))
-
+-- ---- what calls say of each answer
 pub binary_heads : {A : Type 0} (w s P h r : ℕ) (x : ChainState) → x ≡ state h r [] [] → AreHeads w s P h r → IsInBinary w x × A → AreBinaryHeads w s P h r
 binary_heads w s P h r x is heads found =
     let whole = rw is at found.0 in
     record { heads = heads; whole = whole.0; above = whole.1 }
 
-pub heads_above : {W : Type 0} (number : W → ℕ) (w h r : ℕ) (added : List W) (below : List ℕ) (x : ChainState) → x ≡ state h r [] [] → map number (reverse added) ≡ remainder_words w x
-    → map number (reverse added) ++ below ≡ h ∷ (digits_of (2 ^ w) r ++ below)
-heads_above number w h r added below x is words = rw (words, is, append-nil (digits_of (2 ^ w) r)) refl
-
--- ---- what calls say of each answer
 module _ {Word State : Type 0} (number : Word → ℕ) (state' : State → ℕ) (w s P : ℕ) (form : Form) where
   module _ (words : List Word) (old : HeadsOver Word State) where
     pub begins_at : (new : HeadsOver Word State) → (new.len ≤ length words) × Begins form w s P (map number (reverse words)) (heads_over number state' form new.heads words new.len)

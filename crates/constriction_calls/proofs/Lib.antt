@@ -1,25 +1,15 @@
 mod AnsAnswers
-mod AnsFrame
-mod AnsNarrow
-mod AnsPlaces
+pub mod AnsPlaces
 mod ChainAnswers
 mod ChainFrame
-mod ChainNarrow
 mod ChainPlaces
-mod ChainSteps
 mod ChainWords
-mod Known
-mod NarrowLists
 mod RangeAnswers
-mod RangeFrame
 mod RangeBuffers
-mod RangeNarrow
-mod RangePlaces
-mod RangeTaking
-mod Stacked
 mod StoreAnswers
 mod StoreIndex
 mod SymbolLists
 mod SymbolPlaces
 mod SymbolReads
 mod SymbolTrees
+mod RangeSteps

@@ -15,8 +15,9 @@ use Rattle.constriction_inputs.specs.declared.refusal.Refusal.TheVariants as ref
 use Rattle.constriction_calls.specs.declared.range.parts.DecoderParts.{DecoderParts}
 use Rattle.constriction_calls.specs.declared.range.parts.EncoderParts.{EncoderParts}
 use Rattle.constriction_inputs.proofs.Asking.{asked_ok, fit_then, room_of}
-use Rattle.constriction_calls.proofs.Known.{known_by}
-use Rattle.constriction_calls.proofs.RangeBuffers.{interval_kept, narrows_kept, sealed_kept, sealed_self}
+use Rattle.constriction_inputs.proofs.KnownItems.{known_by}
+use Rattle.constriction_queue.proofs.SealedSelf.{sealed_self}
+use Rattle.constriction_calls.proofs.RangeBuffers.{interval_kept, narrows_kept, sealed_kept}
 
 -- ---- encodes
 module _ {Word State : Type 0} (number : Word → ℕ) (state : State → ℕ) (w s precision : ℕ) (coded : Coded) (count : ℕ) (old : RangeBuffers Word State)

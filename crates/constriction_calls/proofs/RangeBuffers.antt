@@ -1,29 +1,21 @@
 -- Encoders between calls: what one over no words does, said of the caller's whole encoder, behind any words.
-use Rattle.std.proofs.Common.{◌≡◌, ℕ, zero, suc, ◌+◌, ◌-◌, ◌*◌, ◌/◌, ◌^◌, ◌<◌, ◌≤◌, List, [], ◌∷◌, ◌++◌, length, map, refl, sym, ap, ◌∙◌, subst, inl, inr, arith, append-nil, eq-eqb, ne_eqb, mul-le-mul_right, pow_pos, div-add-mod'}
+use Rattle.std.proofs.Common.{◌≡◌, ℕ, zero, suc, ◌+◌, ◌-◌, ◌*◌, ◌^◌, ◌<◌, ◌≤◌, List, [], ◌∷◌, ◌++◌, length, map, sym, ap, ◌∙◌, subst, arith, append-nil, mul-le-mul_right}
 use native.Mathlib.Nat.{pow-zero}
 use Rattle.std.specs.Prelude.{min, replicate, reverse}
-use Rattle.std.proofs.lemmas.Bool.{cases_eq, cases_lt}
-use Rattle.std.proofs.lemmas.List.{length-append, length-replicate, reverse-reverse}
+use Rattle.std.proofs.lemmas.List.{length-append, length-replicate}
 use Rattle.std.proofs.lemmas.Nat.{pow-add}
 use Rattle.constriction_base.specs.Models.{Item}
 use Rattle.constriction_base.specs.Steps.{IsSizes}
 use Rattle.constriction_queue.specs.Encoder.{number_of, run_of}
-use Rattle.constriction_queue.specs.Range.{IsInterval, Run, seal_number, sealed}
-use Rattle.constriction_queue.specs.SelfDelimiting.{AreEnough, SelfDelimits}
-use Rattle.constriction_queue.proofs.SealedRuns.{ceil_below}
-use Rattle.constriction_queue.proofs.SelfSealed.{ends_by_gap}
+use Rattle.constriction_queue.specs.Range.{IsInterval, Run, sealed}
 use Rattle.constriction_queue.proofs.Seals.{words_of_numbers}
-use Rattle.constriction_queue.proofs.Showing.{queue_is}
+use Rattle.constriction_queue.proofs.Showing.{turned}
 use Rattle.constriction_queue.specs.Symbols.{NarrowsAll}
 use Rattle.constriction_calls.specs.RangeCalls.{ValidEncoder, ValidPending, pending_of_parts, run_of_parts}
 use Rattle.constriction_calls.specs.declared.range.parts.EncoderParts.{EncoderParts}
-use Rattle.constriction_calls.proofs.RangeFrame.{held_inside, narrows_above, run_behind, sealed_behind, sealed_length}
-use Rattle.constriction_calls.proofs.Stacked.{turned_words}
+use Rattle.constriction_queue.proofs.Behind.{held_inside, narrows_above, run_behind, sealed_behind, sealed_length}
+use Rattle.constriction_inputs.proofs.Stacked.{turned_words}
 use Rattle.constriction_queue.proofs.Below.{number_below}
-
--- numbers of a list that is turned twice
-pub turned : {Word : Type 0} (number : Word → ℕ) (xs : List Word) → reverse (map number (reverse xs)) ≡ map number xs
-turned number xs = sym (queue_is number (reverse xs) (sym (reverse-reverse xs)) refl)
 
 -- ---- an encoder
 module _ {Word State : Type 0} (number : Word → ℕ) (state : State → ℕ) (w s : ℕ) where
@@ -77,56 +69,6 @@ module _ {Word State : Type 0} (number : Word → ℕ) (state : State → ℕ) (
         let inside : r.low + state e.range < 2 ^ s * m = inside_by e.held (number e.first) (state e.lower) (state e.range) is.fit (states e.lower) (states e.range) in
         subst (λ (r : Run). IsInterval w s r) (sym (run_behind w s held below (state e.lower) (state e.range)))
         (record { least = is.least; fits = states e.range; inside = rw power (omega (arith, times, inside)) })
-
--- ---- where a state is two words
--- the words with a seal hold whatever follows
-pub sealed_self : (w s : ℕ) (r : Run) (words : List ℕ) → IsSizes w s → s / w ≡ 2 → IsInterval w s r → words ≡ sealed w s r → SelfDelimits w s r words
-sealed_self w s r words sizes two v is = elim (cases_eq r.range (2 ^ s - 1)) [
-  | inl whole ↦ inl (omega (arith, whole, v.fits), is ∙ rw (eq-eqb r.range (2 ^ s - 1) whole) refl)
-  | inr coded ↦ (
-      let q : ℕ = 2 ^ (s - w) in
-      let c : ℕ = seal_number w s r in
-      let low : c * q < r.low + q = ceil_below r.low q (pow_pos (s - w)) in
-      let part : r.range + 1 < 2 ^ s = omega (arith, v.fits, coded) in
-      let plain = ne_eqb r.range (2 ^ s - 1) coded in
-      let bits : s / w * w ≡ s = omega (arith, sizes.whole, div-add-mod' s w) in
-      let both : s / w * w ≡ 2 * w = ap (λ n. n * w) two in
-      let gap : ℕ = r.low + r.range - c * q in
-      let total : c * q + gap ≡ r.low + r.range = omega (arith, low, v.least) in
-      let ends = ends_by_gap (r.low + r.range) q c gap (pow_pos (s - w)) total in
-      elim (cases_eq ((r.low + r.range) / q) c) [
-        | inl same ↦ (
-            let none : s - w - 1 * w ≡ 0 = omega (arith, bits, both) in
-            let one : 2 ^ (s - w - 1 * w) ≡ 1 = ap (λ n. 2 ^ n) none ∙ pow-zero 2 in
-            let all : s - w - 0 * w ≡ s - w = omega arith in
-            let short : gap < q = ends.0 same in
-            inr (
-              part,
-              (
-                1,
-                record {
-                  few = omega (arith, two);
-                  enough = rw one (omega (arith, low, v.least));
-                  least = λ k less enough. elim (cases_eq k 0) [
-                    | inl first ↦ (let here : AreEnough w s r 0 = subst (AreEnough w s r) first enough in omega (arith, rw all at here, short, total))
-                    | inr later ↦ omega (arith, less, later)
-                  ];
-                },
-                is ∙ rw (plain, eq-eqb ((r.low + r.range) / q) c same) refl,
-              ),
-            )
-            )
-        | inr other ↦ (
-            let all : s - w - 0 * w ≡ s - w = omega arith in
-            let long : q ≤ gap = elim (cases_lt gap q) [ inl less ↦ absurd (other (ends.1 less)) | inr more ↦ more ] in
-            inr (
-              part,
-              (0, record { few = omega (arith, two); enough = rw all (omega (arith, long, total)); least = λ k less enough. omega (arith, less) }, is ∙ rw (plain, ne_eqb ((r.low + r.range) / q) c other) refl),
-            )
-            )
-      ]
-      )
-]
 
 -- ---- how many words
 -- the words of a seal are counted by an encoder that holds back one word at most

@@ -9,7 +9,8 @@ use Rattle.constriction_inputs.specs.Weights.{IsTotal, weights_model}
 use Rattle.constriction_inputs.specs.declared.refusal.Refusal.{Refusal}
 use Rattle.constriction_inputs.specs.declared.refusal.Refusal.TheVariants as refusals
 use Rattle.constriction_inputs.proofs.Asking.{room_of}
-use Rattle.constriction_calls.proofs.StoreIndex.{cut_lengths, entries_are, known_chunks, lens_of}
+use Rattle.constriction_store.proofs.Lengths.{lens_of}
+use Rattle.constriction_calls.proofs.StoreIndex.{cut_lengths, entries_are, known_chunks}
 
 -- ---- builds: a store that was built, and is put where the caller keeps it
 module _ {Word State : Type 0} (number : Word → ℕ) (state : State → ℕ) (w s precision : ℕ) (weights symbols lengths : List ℕ) (old : StoreBuffers Word State)

@@ -8,7 +8,8 @@ use Rattle.constriction_base.proofs.Turns.{all-append}
 use Rattle.constriction_queue.specs.Range.{Run, narrowed_by}
 use Rattle.constriction_store.specs.Stores.{Entry, Indexes, entry_of}
 use Rattle.constriction_calls.specs.StoreCalls.{chunks_by, entries_by}
-use Rattle.constriction_calls.proofs.Known.{known_by}
+use Rattle.constriction_inputs.proofs.KnownItems.{known_by}
+use Rattle.constriction_store.proofs.Lengths.{lens_of}
 
 -- ---- an index
 same_entries : (entries : List Entry) → entries_by (map (λ e. e.place) entries) (map (λ e. e.lower) entries) (map (λ e. e.range) entries) (map (λ e. e.len) entries) ≡ entries
@@ -20,13 +21,6 @@ pub entries_are : (entries : List Entry) (places lowers ranges lengths : List �
     → places ≡ map (λ e. e.place) entries → lowers ≡ map (λ e. e.lower) entries → ranges ≡ map (λ e. e.range) entries → map (λ e. e.len) entries ≡ lengths
     → entries_by places lowers ranges lengths ≡ entries
 entries_are entries places lowers ranges lengths place lower range len = rw (place, lower, range, ← len) (same_entries entries)
-
-pub lens_of : (w s : ℕ) (model : Model ℕ) (chunks : List (List ℕ)) (entries : List Entry) (old new : Run) → Indexes w s model chunks entries old new
-    → map (λ e. e.len) entries ≡ map (λ (chunk : List ℕ). length chunk) chunks
-lens_of w s model [] [] old new all = refl
-lens_of w s model [] (e ∷ es) old new all = absurd all
-lens_of w s model (c ∷ cs) [] old new all = absurd all
-lens_of w s model (c ∷ cs) (e ∷ es) old new all = ap₂ (λ (x : ℕ) (xs : List ℕ). x ∷ xs) all.1 (lens_of w s model cs es all.2.0 new all.2.2)
 
 -- ---- chunks
 pub sum_cons : (x : ℕ) (xs : List ℕ) → sum (x ∷ xs) ≡ x + sum xs

@@ -8,7 +8,6 @@ use Rattle.constriction_stack.specs.Symbols.{DecodesAll, EncodesAll}
 use Rattle.constriction_inputs.specs.Buffers.{Appended, stack_in}
 use Rattle.constriction_inputs.specs.Coded.{AsksFit, Coded, items}
 use Rattle.constriction_inputs.specs.Refusals.{Asks, Otherwise, OnlyNoMemory, NoRefusal, NoMemoryOrSpace}
-use Rattle.constriction_inputs.specs.Weights.{by_weights}
 use Rattle.constriction_inputs.specs.declared.refusal.Refusal.{Refusal}
 use Rattle.constriction_inputs.specs.declared.refusal.Refusal.TheVariants.{ImpossibleSymbol, InvalidData, WrongLength}
 use Rattle.constriction_words.specs.declared.bit_array.BitArray as numbers
@@ -25,10 +24,6 @@ coder_of head words len = record { head = head; words = words; len = len }
 -- The state of a kept coder: its head, and its words in use as a list, top word first.
 abbrev pub ans_state_of : {Word State : Type 0} → (Word → ℕ) → (State → ℕ) → AnsBuffers Word State → AnsState
 ans_state_of number state kept = record { head = state kept.head; words = stack_in number kept.words kept.len }
-
--- The words in use are within the buffer.
-abbrev pub IsWithin : {Word State : Type 0} → AnsBuffers Word State → Type 0
-IsWithin kept = kept.len ≤ length kept.words
 
 -- A call appends words to the words in use, and changes nothing else in the buffer.
 abbrev pub PutsBehind : {Word State : Type 0} → AnsBuffers Word State → AnsBuffers Word State → Type 0
@@ -54,11 +49,6 @@ pub record CodesAlone {Word State : Type 0} (number : Word → ℕ) (state : Sta
   pub models : AreModels w items
   pub coded : EncodesAll w s (reverse items) (record { head = state head; words = [] }) (record { head = state new_head; words = map number (reverse added) })
 
--- The errors of encoding items: `ImpossibleSymbol` if a model has no entry for its symbol. After this check, `NoSpace`
--- or `NoMemory` can come.
-abbrev pub AsksItems : ℕ → ℕ → List (Item ℕ) → ℕ → AnsState → Result (Unit {0}) Refusal → Type 0
-AsksItems w s items room old = Asks ImpossibleSymbol (AreKnown items) (Otherwise (NoMemoryOrSpace (TooShortForItems w s (reverse items) room old)))
-
 -- The contract of an encode call. `old` and `new` are the coder before and after the call, and `answer` is its result.
 pub record AnsEncodesList {Word State : Type 0} (number : Word → ℕ) (state : State → ℕ) (w s precision : ℕ) (coded : Coded)
     (old new : AnsBuffers Word State) (answer : Result (Unit {0}) Refusal) : Type 0 where
@@ -67,8 +57,11 @@ pub record AnsEncodesList {Word State : Type 0} (number : Word → ℕ) (state :
       → EncodesAll w s (reverse (items precision coded)) (ans_state_of number state old) (ans_state_of number state new))
   -- From every state, the call appends the words that encoding from the head alone writes.
   pub behind : OnOk answer (PutsItems number state w s (reverse (items precision coded)) old new)
-  pub asked : Asks WrongLength (IsWithin old)
-      (AsksFit precision coded (AsksItems w s (items precision coded) (length old.words) (ans_state_of number state old))) answer
+  -- The call checks in this order: the words in use are within the buffer, the arguments make items, and each model has
+  -- an entry for its symbol.
+  pub asked : Asks WrongLength (old.len ≤ length old.words)
+      (AsksFit precision coded (Asks ImpossibleSymbol (AreKnown (items precision coded))
+      (Otherwise (NoMemoryOrSpace (TooShortForItems w s (reverse (items precision coded)) (length old.words) (ans_state_of number state old)))))) answer
   pub kept : OnErr answer (new ≡ old)
 
 -- The contract of a decode call, which fills a list with decoded symbols. `old` and `new` are the coder before and
@@ -78,7 +71,7 @@ pub record AnsDecodesList {Word State : Type 0} (number : Word → ℕ) (state :
   -- Decoding the items in order leads from the old state to the new state.
   pub taken : OnOk answer (DecodesAll w s (items precision (coded new_symbols)) (ans_state_of number state old) (ans_state_of number state new))
   pub within : OnOk answer ((new.words ≡ old.words) × (new.len ≤ old.len) × (length new_symbols ≡ length old_symbols))
-  pub asked : Asks WrongLength (IsWithin old) (AsksFit precision (coded old_symbols) (Otherwise OnlyNoMemory)) answer
+  pub asked : Asks WrongLength (old.len ≤ length old.words) (AsksFit precision (coded old_symbols) (Otherwise OnlyNoMemory)) answer
   pub kept : OnErr answer ((new ≡ old) × (new_symbols ≡ old_symbols))
 
 -- ---- symbols, with the numbers of types
@@ -95,19 +88,13 @@ abbrev pub AnsDecodesListBy : {Word State N M : Type 0} → numbers.Ghosts Word 
 AnsDecodesListBy word state precision coded words head len new_head new_len old_symbols new_symbols answer =
     AnsDecodesList word.number state.number word.BITS state.BITS precision coded (coder_of head words len) (coder_of new_head words new_len) old_symbols new_symbols answer
 
--- `AnsDecodesListBy` with one table of weights for all symbols.
-abbrev pub AnsDecodesListByWeights : {Word State P N M : Type 0} → numbers.Ghosts Word N → numbers.Ghosts State M → ℕ → (P → ℕ) → List P
-    → List Word → State → ℕ → State → ℕ → List ℕ → List ℕ → Result (Unit {0}) Refusal → Type 0
-AnsDecodesListByWeights word state precision number weights words head len new_head new_len old_symbols new_symbols answer =
-    AnsDecodesListBy word state precision (by_weights (map number weights)) words head len new_head new_len old_symbols new_symbols answer
-
 -- ---- words
 -- The contract of an import call. It makes the state `makes` of the caller's words, of which the last is on top.
 -- `InvalidData` comes if and only if the words don't have the property `holds`.
 pub record AnsImports {Word State : Type 0} (number : Word → ℕ) (state : State → ℕ) (makes : List ℕ → AnsState) (holds : List ℕ → Type 0)
     (old new : AnsBuffers Word State) (answer : Result (Unit {0}) Refusal) : Type 0 where
   pub made : OnOk answer (ans_state_of number state new ≡ makes (map number (reverse old.words)))
-  pub within : OnOk answer ((new.words ≡ old.words) × IsWithin new)
+  pub within : OnOk answer ((new.words ≡ old.words) × (new.len ≤ length new.words))
   pub asked : Asks InvalidData (holds (map number (reverse old.words))) (Otherwise NoRefusal) answer
   pub kept : OnErr answer (new ≡ old)
 
@@ -131,7 +118,7 @@ pub record AnsExports {Word State : Type 0} (number : Word → ℕ) (state : Sta
     (old new : AnsBuffers Word State) (answer : Result (Unit {0}) Refusal) : Type 0 where
   pub all : OnOk answer (are (ans_state_of number state old) (stack_in number new.words new.len))
   pub behind : OnOk answer (PutsBehind old new)
-  pub asked : Asks WrongLength (IsWithin old) (Asks InvalidData (holds (ans_state_of number state old))
+  pub asked : Asks WrongLength (old.len ≤ length old.words) (Asks InvalidData (holds (ans_state_of number state old))
       (Otherwise (NoMemoryOrSpace (TooShortForExport are (length old.words) (ans_state_of number state old))))) answer
   pub kept : OnErr answer (new ≡ old)
 

@@ -1,5 +1,5 @@
 -- Contracts of the chain coder's calls: what each call does with the caller's coder, and when it returns each error.
-use Rattle.std.specs.Prelude.{◌≡◌, ℕ, ◌*◌, ◌^◌, ◌<◌, ◌≤◌, List, ◌∷◌, ◌++◌, [], length, map, reverse, take, Result, OnErr, OnOk}
+use Rattle.std.specs.Prelude.{◌≡◌, ℕ, ◌*◌, ◌<◌, ◌≤◌, List, ◌∷◌, ◌++◌, [], length, reverse, take, Result, OnErr, OnOk}
 use Rattle.constriction_base.specs.Models.{AreKnown, Item}
 use Rattle.constriction_base.specs.Tables.{AtEntry}
 use Rattle.constriction_base.specs.Windows.{IsInWindow}
@@ -9,8 +9,6 @@ use Rattle.constriction_chain.specs.Walk.{NeedsWord}
 use Rattle.constriction_inputs.specs.Buffers.{Appended, stack_in}
 use Rattle.constriction_inputs.specs.Coded.{AsksFit, Coded, items}
 use Rattle.constriction_inputs.specs.Refusals.{Asks, NoMemorySpaceOrData, Otherwise}
-use Rattle.constriction_inputs.specs.Weights.{by_weights}
-use Rattle.constriction_calls.specs.NarrowSymbols.{narrow_by_weights}
 use Rattle.constriction_calls.specs.declared.chain.ChainHeads.{ChainHeads}
 use Rattle.constriction_inputs.specs.declared.refusal.Refusal.{Refusal}
 use Rattle.constriction_inputs.specs.declared.refusal.Refusal.TheVariants.{ImpossibleSymbol, InvalidData, WrongLength}
@@ -146,16 +144,3 @@ abbrev pub ChainDecodesListBy : {Word State N M : Type 0} → numbers.Ghosts Wor
     → ChainBuffers Word State → ChainBuffers Word State → List ℕ → List ℕ → Result (Unit {0}) Refusal → Type 0
 ChainDecodesListBy word state P coded old new old_symbols new_symbols answer =
     ChainDecodesList word.number state.number word.BITS state.BITS P coded old new old_symbols new_symbols answer
-
--- `ChainDecodesListBy` with one table of weights for all symbols.
-abbrev pub ChainDecodesListByWeights : {Word State P N M : Type 0} → numbers.Ghosts Word N → numbers.Ghosts State M → ℕ → (P → ℕ) → List P
-    → ChainBuffers Word State → ChainBuffers Word State → List ℕ → List ℕ → Result (Unit {0}) Refusal → Type 0
-ChainDecodesListByWeights word state P number weights old new old_symbols new_symbols answer =
-    ChainDecodesListBy word state P (by_weights (map number weights)) old new old_symbols new_symbols answer
-
--- `ChainDecodesListBy` with one table of weights for all symbols, and symbols of a type with fewer numbers than
--- `usize`.
-abbrev pub ChainDecodesListNarrow : {Word State S P N M O : Type 0} → numbers.Ghosts Word N → numbers.Ghosts State M → numbers.Ghosts S O → ℕ → (P → ℕ) → List P
-    → ChainBuffers Word State → ChainBuffers Word State → List S → List S → Result (Unit {0}) Refusal → Type 0
-ChainDecodesListNarrow word state symbol P number weights old new old_symbols new_symbols answer =
-    ChainDecodesListBy word state P (narrow_by_weights (2 ^ symbol.BITS) (map number weights)) old new (map symbol.number old_symbols) (map symbol.number new_symbols) answer

@@ -2,7 +2,6 @@ pub mod AnsCalls
 pub mod ChainCalls
 pub mod ChainItems
 pub mod ChainWords
-pub mod NarrowSymbols
 pub mod RangeCalls
 pub mod StoreCalls
 pub mod SymbolBits

@@ -11,7 +11,6 @@ use Rattle.constriction_queue.specs.Symbols.{FindsAll, MayEnd, NarrowsAll}
 use Rattle.constriction_inputs.specs.Buffers.{Appended}
 use Rattle.constriction_inputs.specs.Coded.{AsksFit, Coded, items}
 use Rattle.constriction_inputs.specs.Refusals.{Asks, Otherwise, NoRefusal, NoMemoryOrSpace, NoMemoryOrInvalid}
-use Rattle.constriction_inputs.specs.Weights.{by_weights}
 use Rattle.constriction_inputs.specs.declared.refusal.Refusal.{Refusal}
 use Rattle.constriction_inputs.specs.declared.refusal.Refusal.TheVariants.{ImpossibleSymbol, InvalidData, NoMemory, NoSpace, WrongLength}
 use Rattle.constriction_words.specs.declared.bit_array.BitArray as numbers
@@ -196,13 +195,6 @@ pub record RangeDecodesList {State : Type 0} (state : State → ℕ) (w s precis
   pub asked : Asks WrongLength (old.pos ≤ length buffer) (AsksFit precision (coded old_symbols) (Asks InvalidData (ValidDecoder state w s old)
       (Otherwise (NoMemoryOrInvalid (NoListFromParts state w s buffer (λ symbols. items precision (coded symbols)) (length old_symbols) old))))) answer
   pub kept : OnErr answer ((new ≡ old) × (new_symbols ≡ old_symbols))
-
--- `RangeDecodesList` with the numbers and sizes in bits of two types, of words and of interval ends, and with one table
--- of weights for all symbols.
-abbrev pub RangeDecodesListByWeights : {Word State P N M : Type 0} → numbers.Ghosts Word N → numbers.Ghosts State M → ℕ → (P → ℕ) → List P → List Word
-    → DecoderParts State → DecoderParts State → List ℕ → List ℕ → Result (Unit {0}) Refusal → Type 0
-RangeDecodesListByWeights word state precision number weights words old new old_symbols new_symbols answer =
-    RangeDecodesList state.number word.BITS state.BITS precision (by_weights (map number weights)) (map word.number words) old new old_symbols new_symbols answer
 
 -- The contract of the call that makes a decoder of words: the decoder stands before the first symbol.
 pub record RangeBegins {Word State : Type 0} (number : Word → ℕ) (state : State → ℕ) (w s : ℕ) (words : List Word) (new : DecoderParts State) : Type 0 where

@@ -34,7 +34,7 @@ ghost use Rattle.std.specs.Prelude.{◌≡◌, ◌≤◌, length};
 use constriction_base::cursor::Cursor;
 use constriction_chain::ChainCoderHeads;
 use constriction_words::{BitArray, WordOf};
-pub use decoding::{decode, decode_by_weights, decode_narrow};
+pub use decoding::decode;
 pub use encoding::encode_reverse;
 pub use words::{from_words, into_words};
 

@@ -13,7 +13,6 @@
 
 pub mod ans;
 pub mod chain;
-mod narrow;
 pub mod range;
 pub mod store;
 pub mod symbol;

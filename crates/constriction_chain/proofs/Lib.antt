@@ -14,3 +14,6 @@ pub mod Refusals
 pub mod Rows
 pub mod NoCoder
 pub mod StepCalls
+pub mod Over
+pub mod Starts
+pub mod Ended

@@ -1,7 +1,8 @@
 -- Refusals in their order: what a check that went well or was refused says of the call that made it.
-use Rattle.std.proofs.Common.{◌≡◌, ◌⊎◌, ℕ, Ok, Err, Result, inl, inr}
+use Rattle.std.proofs.Common.{◌≡◌, ◌⊎◌, ℕ, List, length, replicate, Ok, Err, Result, inl, inr}
+use Rattle.std.proofs.lemmas.List.{length-replicate}
 use Rattle.constriction_inputs.specs.Coded.{AreFit, AsksFit, Coded}
-use Rattle.constriction_inputs.specs.Refusals.{Asks, NoMemoryOrSpace}
+use Rattle.constriction_inputs.specs.Refusals.{Asks, NoMemoryOrSpace, NoRefusal, Otherwise}
 use Rattle.constriction_inputs.specs.declared.refusal.Refusal.{Refusal}
 use Rattle.constriction_inputs.specs.declared.refusal.Refusal.TheVariants.{NoMemory, NoSpace}
 
@@ -25,6 +26,23 @@ module _ (precision : ℕ) (coded : Coded) where
   -- what comes behind one that went well
   pub fit_then : {T A : Type 0} {answer : Result T Refusal} → AreFit precision coded → A → AsksFit precision coded (λ answer. A) answer
   fit_then fit next = inr (fit.0, inr (fit.1, inr (fit.2, next)))
+
+  -- a check that was refused is so for each call
+  pub fit_refused : {T A : Type 0} (e : Refusal) → AsksFit {T = T} precision coded (Otherwise NoRefusal) (Err e) → AsksFit {T = T} precision coded (λ answer. A) (Err e)
+  fit_refused e asks = elim asks [
+    | inl lengths ↦ inl lengths
+    | inr (l, inl intervals) ↦ inr (l, inl intervals)
+    | inr (l, inr (i, inl weights)) ↦ inr (l, inr (i, inl weights))
+    | inr (l, inr (i, inr (w, never))) ↦ absurd never
+  ]
+
+-- a check that went well for all lists of so many symbols went well for one
+pub fit_some : {T : Type 0} {x : T} (precision : ℕ) (coded : List ℕ → Coded) (count : ℕ) → ((ns : List ℕ) → length ns ≡ count → AsksFit {T = T} precision (coded ns) (Otherwise NoRefusal) (Ok x))
+    → (symbols : List ℕ) × (length symbols ≡ count) × AreFit precision (coded symbols)
+fit_some precision coded count checked =
+    let zeros : List ℕ = replicate count 0 in
+    let many : length zeros ≡ count = length-replicate count 0 in
+    (zeros, many, fit_ok precision (coded zeros) (checked zeros many))
 
 -- want of room, or of memory
 pub room_of : {B : Type 0} (needs : ℕ → Type 0) (e : Refusal) (n : ℕ) → (e ≡ NoSpace n) ⊎ ((e ≡ NoMemory) × B) → needs n → NoMemoryOrSpace needs e

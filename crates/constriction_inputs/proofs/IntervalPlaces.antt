@@ -1,7 +1,6 @@
 -- Intervals at the positions of a list.
-use Rattle.std.proofs.Common.{◌≡◌, ℕ, zero, suc, ◌+◌, ◌-◌, ◌<◌, ◌≤◌, ◌^◌, List, [], ◌∷◌, length, get_or, map, refl, arith}
-use Rattle.std.proofs.lemmas.List.{length-map}
-use Rattle.constriction_base.specs.Models.{AreKnown, Item}
+use Rattle.std.proofs.Common.{◌≡◌, ℕ, zero, suc, ◌+◌, ◌<◌, ◌≤◌, ◌^◌, List, [], ◌∷◌, length, get_or, refl, arith}
+use Rattle.constriction_base.specs.Models.{AreKnown}
 use Rattle.constriction_base.proofs.Entries.{has_at}
 use Rattle.constriction_base.specs.laws.Weights.{weights_make_table}
 use Rattle.constriction_inputs.specs.Intervals.{AreIntervals, interval_items, interval_weights}

@@ -13,3 +13,6 @@ pub mod Pairs
 pub mod Places
 pub mod RowTables
 pub mod RowWeights
+pub mod Stacked
+pub mod KnownItems
+pub mod Kept

@@ -1,10 +1,11 @@
--- Items at the positions of a list, from the last to the first.
-use Rattle.std.proofs.Common.{◌≡◌, ℕ, zero, suc, ◌+◌, ◌-◌, ◌<◌, ◌≤◌, List, [], ◌∷◌, ◌++◌, length, drop, get_or, refl, ap, subst, sym, ◌∙◌, arith}
-use Rattle.std.proofs.lemmas.List.{get_or_read}
-use Rattle.constriction_base.specs.Models.{AreModels, IsModel, Item, item_of, pairs_of}
-use Rattle.constriction_base.specs.Steps.{IsStep, Step}
+-- Items at the positions of a list, and steps of a coder for them.
+use Rattle.std.proofs.Common.{◌≡◌, ℕ, zero, suc, take, reverse, add-one, ◌+◌, ◌-◌, ◌<◌, ◌≤◌, List, [], ◌∷◌, ◌++◌, length, drop, get_or, refl, ap, subst, sym, ◌∙◌, arith}
+use Rattle.std.proofs.lemmas.List.{get_or_read, reverse-append}
+use Rattle.constriction_base.specs.Models.{AreKnown, AreModels, IsModel, Item, Knows, item_of, pairs_of}
+use Rattle.constriction_base.specs.Steps.{IsStep, Step, Trace}
 use Rattle.constriction_base.proofs.Entering.{entry_is_step}
 use Rattle.constriction_inputs.specs.Items.{HasAt, HasInterval}
+use Rattle.constriction_base.proofs.Trace.{Trace-more}
 
 -- the item at a position stands before those behind it
 pub at_place : (items : List (Item ℕ)) (k : ℕ) (holds : Item ℕ → Type 0) → HasAt items k holds → (x : Item ℕ) × (drop k items ≡ x ∷ drop (suc k) items) × holds x
@@ -19,6 +20,24 @@ last_at items left holds some at =
     let one : suc (left - 1) ≡ left = omega (arith, some) in
     let found = at_place items (left - 1) holds at in
     (found.0, subst (λ (n : ℕ). drop (left - 1) items ≡ found.0 ∷ drop n items) one found.1, found.2)
+
+-- the item at a position stands behind those before it
+pub taken_at : (items : List (Item ℕ)) (k : ℕ) (holds : Item ℕ → Type 0) → HasAt items k holds → (x : Item ℕ) × (take (suc k) items ≡ take k items ++ (x ∷ [])) × holds x
+taken_at [] k holds at = absurd at
+taken_at (x ∷ items) zero holds at = (x, refl, at)
+taken_at (x ∷ items) (suc k) holds at = (let t = taken_at items k holds at in (t.0, ap (λ xs. x ∷ xs) t.1, t.2))
+
+-- what a property of an item says, says the item at a position
+pub has_more : (items : List (Item ℕ)) (k : ℕ) (holds more : Item ℕ → Type 0) → ((item : Item ℕ) → holds item → more item) → HasAt items k holds → HasAt items k more
+has_more [] k holds more each at = at
+has_more (x ∷ items) zero holds more each at = each x at
+has_more (x ∷ items) (suc k) holds more each at = has_more items k holds more each at
+
+-- where an item isn't known, not all are
+pub unknown : (items : List (Item ℕ)) (k : ℕ) → HasAt items k (λ item. Knows item.model item.symbol → ⊥) → AreKnown items → ⊥
+unknown [] k at known = absurd at
+unknown (x ∷ items) zero at known = at known.0
+unknown (x ∷ items) (suc k) at known = unknown items k at known.1
 
 -- symbols under tables, at a position
 pub pair_has : (precision : ℕ) (xs : List ℕ) (tables : List (List (ℕ × ℕ × ℕ))) (k : ℕ) (holds : Item ℕ → Type 0) → k < length xs → k < length tables
@@ -55,3 +74,26 @@ module _ (w precision bits : ℕ) (narrow : bits ≤ w) (items : List (Item ℕ)
   -- one model more
   pub models_more : AreModels w (drop left items) → AreModels w (drop (left - 1) items)
   models_more models = subst (λ (xs : List (Item ℕ)). AreModels w xs) (sym found.1) (lawful_at, models)
+
+-- the interval of an item at a position is a step
+pub is_step_at : (w precision bits : ℕ) (items : List (Item ℕ)) (k l p : ℕ) → HasAt items k (HasInterval precision bits l p) → bits ≤ w → IsStep w (record { precision = precision; left = l; p = p })
+is_step_at w precision bits items k l p at narrow =
+    let found = at_place items k (HasInterval precision bits l p) at in
+    let e = found.2.1 in
+    entry_is_step w precision bits l p found.0.model.table found.0.symbol e.lawful e.has e.sized narrow
+
+-- ---- steps of a coder for items at positions
+module _ {C : Type 0} (leads : Item ℕ → C → C → Type 0) (items : List (Item ℕ)) where
+  -- from the first to the last, one more
+  pub further : (k : ℕ) (a b c : C) → Trace leads (take k items) a b → HasAt items k (λ item. leads item b c) → Trace leads (take (k + 1) items) a c
+  further k a b c all at =
+      let found = taken_at items k (λ item. leads item b c) at in
+      rw (add-one, found.1) (Trace-more leads (take k items) found.0 a b c all found.2)
+
+  -- from the last to the first, one more
+  pub further_back : (left : ℕ) → 0 < left → (a b c : C) → Trace leads (reverse (drop left items)) a b → HasAt items (left - 1) (λ item. leads item b c)
+      → Trace leads (reverse (drop (left - 1) items)) a c
+  further_back left some a b c all at =
+      let found = last_at items left (λ item. leads item b c) some at in
+      subst (λ (xs : List (Item ℕ)). Trace leads xs a c) (sym (ap reverse found.1 ∙ reverse-append (found.0 ∷ []) (drop left items)))
+      (Trace-more leads (reverse (drop left items)) found.0 a b c all found.2)

@@ -7,6 +7,7 @@ pub mod Indexed
 pub mod Intervals
 pub mod Items
 pub mod Mixtures
+pub mod Narrow
 pub mod Quantized
 pub mod QuantizedCalls
 pub mod Refusals

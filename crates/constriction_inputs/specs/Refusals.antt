@@ -25,7 +25,8 @@ OnlyNoMemory other = ⊥
 -- Only `NoMemory` or `NoSpace` can come. If `NoSpace` comes, `needs` holds for the number of words in it.
 abbrev pub NoMemoryOrSpace : (ℕ → Type 0) → Refusal → Type 0
 NoMemoryOrSpace needs (NoSpace needed) = needs needed
-NoMemoryOrSpace needs other = OnlyNoMemory other
+NoMemoryOrSpace needs NoMemory = Unit {0}
+NoMemoryOrSpace needs other = ⊥
 
 -- The refusals of `NoMemoryOrSpace` or `OutOfData` can come. `OutOfData` comes only if `ends` holds.
 abbrev pub NoMemorySpaceOrData : Type 0 → (ℕ → Type 0) → Refusal → Type 0

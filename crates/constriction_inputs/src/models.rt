@@ -1,6 +1,7 @@
 //! The forms in which a caller passes the models of a list of symbols, and the models made from these forms.
 //!
 //! - [`Weights`]: one table of weights for all symbols.
+//! - [`NarrowWeights`]: the same for symbols of a type with few values, such as bytes.
 //! - [`Rows`]: a row of weights for each symbol.
 //! - [`Indexed`]: tables of weights, and the index of a table for each symbol.
 //! - [`Counts`]: a row of counts for each symbol.
@@ -11,9 +12,10 @@ mod counts;
 mod families;
 mod guided;
 mod indexed;
-mod lone;
 mod mixtures;
+mod narrow_weights;
 mod rows;
+pub mod table_or_row;
 pub mod weights;
 pub mod weights_model;
 
@@ -34,6 +36,7 @@ pub use counts::Counts;
 pub use families::Families;
 pub use indexed::Indexed;
 pub use mixtures::Mixtures;
+pub use narrow_weights::NarrowWeights;
 pub use rows::Rows;
 use std::alloc::Global;
 pub use weights::Weights;
@@ -148,6 +151,9 @@ pub trait Models<P: BitArray, const PRECISION: usize>: Drop {
 /// An implementor can decode with models of another type than the models that `list` returns. Calls that encode require
 /// only [`Models`], so their proofs don't depend on that type.
 pub trait DecoderModels<P: BitArray, const PRECISION: usize>: Models<P, PRECISION> {
+    /// The type of the decoded symbols.
+    type Symbol: Symbol;
+
     /// The type of the list of models to decode with.
     type DecoderList: DecoderModelList<P, PRECISION>;
 
@@ -161,6 +167,10 @@ pub trait DecoderModels<P: BitArray, const PRECISION: usize>: Models<P, PRECISIO
         ensures count { IfSome result (λ list. length (Self.DecoderList.tables list) ≡ count) }
         ensures items { IfSome result (λ list. AreTablesFor PRECISION (Self.coded self.now) count
             (Self.DecoderList.tables list)) };
+
+    // The type of the decoded symbols has a value for each symbol that the models have an entry for.
+    ghost kept_law: { (given : Self) (ns : List ℕ) → AreFit PRECISION (Self.coded given ns)
+        → AreKnown (items PRECISION (Self.coded given ns)) → Self.Symbol.kept ns ≡ ns };
 }
 
 /// A list of models for symbols that all have the same model. The list stores the model once.

@@ -6,7 +6,7 @@ use Rattle.constriction_base.specs.Models.{AreKnown, Item, Knows}
 use Rattle.constriction_base.specs.Steps.{IsSizes}
 use Rattle.constriction_interleaved.specs.Rows.{row}
 use Rattle.constriction_interleaved.proofs.LaneRows.{row_long}
-use Rattle.constriction_calls.specs.AnsCalls.{AnsBuffers, IsWithin}
+use Rattle.constriction_calls.specs.AnsCalls.{AnsBuffers}
 use Rattle.constriction_inputs.specs.Coded.{AreFit, Coded, items}
 use Rattle.constriction_inputs.specs.Refusals.{NoMemoryOrSpace}
 use Rattle.constriction_inputs.specs.declared.refusal.Refusal.{Refusal}
@@ -59,7 +59,7 @@ module _ {Word State : Type 0} (number : Word → ℕ) (state : State → ℕ) (
   abbrev old : State → ℕ → AnsBuffers Word State
   old d j = coder_at width d (lanes_of heads words lens) j
 
-  in_row : (j : ℕ) → j < length heads → (d : State) → IsWithin (old d j)
+  in_row : (j : ℕ) → j < length heads → (d : State) → (old d j).len ≤ length (old d j).words
   in_row j lt d =
       let row_of_words : length (row width j words) ≡ width = row_long width j (length heads) words lt are.word_rows in
       let below = are.within j lt in

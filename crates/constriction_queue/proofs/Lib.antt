@@ -31,3 +31,6 @@ pub mod WordsWithin
 pub mod Followed
 pub mod StepCalls
 pub mod Seeking
+pub mod Behind
+pub mod ReadingOn
+pub mod SealedSelf

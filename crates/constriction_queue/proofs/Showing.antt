@@ -68,3 +68,7 @@ behind_written number held top last ws all is =
     ∙ sym (drop-append_seam (reverse ws) (reverse (flushed_of number held top last)))
     ∙ ap (λ (l : List ℕ). drop (length (reverse ws)) l) (sym (reverse-append (flushed_of number held top last) ws) ∙ is)
     ∙ ap (λ n. drop n all) (length-reverse ws)
+
+-- numbers of a list that is turned twice
+pub turned : {Word : Type 0} (number : Word → ℕ) (xs : List Word) → reverse (map number (reverse xs)) ≡ map number xs
+turned number xs = sym (queue_is number (reverse xs) (sym (reverse-reverse xs)) refl)

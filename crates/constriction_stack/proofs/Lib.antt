@@ -15,3 +15,4 @@ mod BinaryRows
 pub mod ByProduct
 pub mod StepCalls
 pub mod LaneWords
+pub mod Over

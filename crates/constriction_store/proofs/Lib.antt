@@ -3,3 +3,4 @@ pub mod Symbols
 pub mod Indexed
 pub mod LookedUp
 pub mod Windows
+pub mod Lengths

@@ -29,3 +29,5 @@ pub mod TwoQueues
 pub mod Refusals
 pub mod CodewordLists
 pub mod TreeCodewords
+pub mod BitPlaces
+pub mod TreeWeights

@@ -12,9 +12,9 @@ ghost use Rattle.constriction_inputs.specs.Rows.{by_rows};
 ghost use Rattle.constriction_inputs.specs.Weights.{by_weights};
 ghost use Rattle.std.specs.Prelude.{map};
 
-use crate::ans::by_weights::encode_reverse_by_weights;
+use crate::ans::by_weights::{decode_narrow, encode_reverse_by_weights};
 use crate::codes::{code_of, code_without_space};
-use constriction_calls::ans::decoding::{decode, decode_narrow};
+use constriction_calls::ans::decoding::decode;
 use constriction_calls::ans::encoding::encode_reverse;
 use constriction_calls::ans::words::into_binary;
 use constriction_inputs::intervals::Intervals;
@@ -328,7 +328,7 @@ pub extern "C" fn constriction_ans_decode_bytes_u16(
     symbols: &mut [u8],
 ) -> u32
     ensures { AnsDecodesU16 result (narrow_from_u16 8 weights.now) words.now head.old len.old head.new len.new
-        (map (lowest 8) symbols.old) (map (lowest 8) symbols.new) }
+        symbols.old symbols.new }
 {
     let answer = decode_narrow::<_, _, u16, u8, 12>(alloc, head, words, len, weights, symbols);
     code_without_space(answer)
@@ -369,7 +369,7 @@ pub extern "C" fn constriction_ans_decode_shorts_u16(
     symbols: &mut [u16],
 ) -> u32
     ensures { AnsDecodesU16 result (narrow_from_u16 16 weights.now) words.now head.old len.old head.new len.new
-        (map (lowest 16) symbols.old) (map (lowest 16) symbols.new) }
+        symbols.old symbols.new }
 {
     let answer = decode_narrow::<_, _, u16, u16, 12>(alloc, head, words, len, weights, symbols);
     code_without_space(answer)

@@ -9,9 +9,8 @@ ghost use Rattle.constriction_inputs.specs.Weights.{by_weights};
 ghost use Rattle.constriction_stack.specs.Ans.{filled};
 ghost use Rattle.constriction_stack.specs.Binary.{binary_state};
 
-use crate::ans::by_weights::encode_reverse_by_weights;
+use crate::ans::by_weights::{decode_by_weights, encode_reverse_by_weights};
 use crate::codes::{code_of, code_without_space};
-use constriction_calls::ans::decoding::decode_by_weights;
 use constriction_calls::ans::words::{from_binary, from_compressed, into_compressed};
 use std::alloc::Global;
 

@@ -7,9 +7,9 @@ ghost use Rattle.constriction_c.specs.Words.{lowest};
 ghost use Rattle.constriction_calls.specs.declared.chain.Form.TheVariants.{InCompressed};
 ghost use Rattle.constriction_inputs.specs.Weights.{by_weights};
 
-use crate::chain::by_weights::encode_reverse_by_weights;
+use crate::chain::by_weights::{decode_by_weights, encode_reverse_by_weights};
 use crate::codes::{code_of, code_without_space};
-use constriction_calls::chain::{Form, decode_by_weights, from_words, into_words};
+use constriction_calls::chain::{Form, from_words, into_words};
 use std::alloc::Global;
 
 /// The two heads of a chain coder with 16-bit words, with the fields of [`ChainHeads`].

@@ -12,12 +12,10 @@ ghost use Rattle.constriction_inputs.specs.Rows.{by_rows};
 ghost use Rattle.constriction_inputs.specs.Weights.{by_weights};
 ghost use Rattle.std.specs.Prelude.{map};
 
-use crate::chain::by_weights::encode_reverse_by_weights;
+use crate::chain::by_weights::{decode_narrow, encode_reverse_by_weights};
 use crate::chain::u16::ChainHeadsU16;
 use crate::codes::{code_of, code_without_space};
-use constriction_calls::chain::{
-    Form, decode, decode_narrow, encode_reverse, from_words, into_words,
-};
+use constriction_calls::chain::{Form, decode, encode_reverse, from_words, into_words};
 use constriction_inputs::intervals::Intervals;
 use constriction_inputs::models::{Counts, Families, Indexed, Mixtures, Rows};
 use constriction_inputs::symbols::Symbols;
@@ -395,8 +393,7 @@ pub extern "C" fn constriction_chain_decode_bytes_u16(
 ) -> u32
     ensures { ChainDecodesU16 result needed.old needed.new (narrow_from_u16 8 weights.now)
         (chain_u16 heads.old compressed.now count.old remainders.old rest.old)
-        (chain_u16 heads.new compressed.now count.new remainders.new rest.new) (map (lowest 8) symbols.old)
-        (map (lowest 8) symbols.new) }
+        (chain_u16 heads.new compressed.now count.new remainders.new rest.new) symbols.old symbols.new }
 {
     let mut both = heads.parts();
     let answer = decode_narrow::<_, _, u16, u8, 12>(
@@ -450,8 +447,7 @@ pub extern "C" fn constriction_chain_decode_shorts_u16(
 ) -> u32
     ensures { ChainDecodesU16 result needed.old needed.new (narrow_from_u16 16 weights.now)
         (chain_u16 heads.old compressed.now count.old remainders.old rest.old)
-        (chain_u16 heads.new compressed.now count.new remainders.new rest.new) (map (lowest 16) symbols.old)
-        (map (lowest 16) symbols.new) }
+        (chain_u16 heads.new compressed.now count.new remainders.new rest.new) symbols.old symbols.new }
 {
     let mut both = heads.parts();
     let answer = decode_narrow::<_, _, u16, u16, 12>(

@@ -10,8 +10,7 @@ ghost use Rattle.constriction_calls.specs.RangeCalls.{RangeSeeks};
 ghost use Rattle.constriction_inputs.specs.Weights.{by_weights};
 
 use crate::codes::{code_of, code_without_space};
-use crate::range::by_weights::encode_by_weights;
-use constriction_calls::range::decoding::decode_by_weights;
+use crate::range::by_weights::{decode_by_weights, encode_by_weights};
 use constriction_calls::range::positions::{from_compressed, maybe_exhausted, seek};
 use constriction_calls::range::words::into_compressed;
 use std::alloc::Global;

@@ -13,9 +13,9 @@ ghost use Rattle.constriction_inputs.specs.Weights.{by_weights};
 ghost use Rattle.std.specs.Prelude.{length, map};
 
 use crate::codes::{code_of, code_without_space};
-use crate::range::by_weights::encode_by_weights;
+use crate::range::by_weights::{decode_narrow, encode_by_weights};
 use crate::range::u32::{RangeDecoderU32, RangeEncoderU32};
-use constriction_calls::range::decoding::{decode, decode_narrow};
+use constriction_calls::range::decoding::decode;
 use constriction_calls::range::encoding::encode;
 use constriction_calls::range::words::into_self_delimited;
 use constriction_inputs::intervals::Intervals;
@@ -347,8 +347,8 @@ pub extern "C" fn constriction_range_decode_bytes_u32(
     weights: &[u32],
     symbols: &mut [u8],
 ) -> u32
-    ensures { RangeDecodesU32 result (narrow_from_u32 8 weights.now) words.now decoder.old decoder.new
-        (map (lowest 8) symbols.old) (map (lowest 8) symbols.new) }
+    ensures { RangeDecodesU32 result (narrow_from_u32 8 weights.now) words.now decoder.old decoder.new symbols.old
+        symbols.new }
 {
     let mut parts = decoder.parts();
     let answer = decode_narrow::<_, _, u32, u8, 24>(alloc, &mut parts, words, weights, symbols);
@@ -391,8 +391,8 @@ pub extern "C" fn constriction_range_decode_shorts_u32(
     weights: &[u32],
     symbols: &mut [u16],
 ) -> u32
-    ensures { RangeDecodesU32 result (narrow_from_u32 16 weights.now) words.now decoder.old decoder.new
-        (map (lowest 16) symbols.old) (map (lowest 16) symbols.new) }
+    ensures { RangeDecodesU32 result (narrow_from_u32 16 weights.now) words.now decoder.old decoder.new symbols.old
+        symbols.new }
 {
     let mut parts = decoder.parts();
     let answer = decode_narrow::<_, _, u32, u16, 24>(alloc, &mut parts, words, weights, symbols);

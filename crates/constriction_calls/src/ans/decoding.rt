@@ -1,20 +1,17 @@
 //! Decoding symbols from a state that the caller keeps. The calls write no words.
 
-ghost use Rattle.std.specs.Prelude.{◌≡◌, ◌≤◌, ◌^◌, length, map};
+ghost use Rattle.std.specs.Prelude.{◌≡◌, ◌≤◌, ℕ, List, length};
 ghost use Rattle.constriction_base.specs.Models.{pairs_of};
 ghost use Rattle.constriction_base.specs.Steps.{IsSizes};
-ghost use Rattle.constriction_calls.specs.AnsCalls.{AnsDecodesListBy, AnsDecodesListByWeights, coder_of, ans_state_of};
-ghost use Rattle.constriction_calls.specs.NarrowSymbols.{narrow_by_weights};
+ghost use Rattle.constriction_calls.specs.AnsCalls.{AnsDecodesListBy, coder_of, ans_state_of};
 ghost use Rattle.constriction_stack.specs.Symbols.{Decodes, DecodesAll};
 
-use crate::narrow::{has_numbers, narrow_into};
 use constriction_base::cursor::Cursor;
 use constriction_base::errors::CoderError;
 use constriction_base::model::{DecoderModel, EntropyModel};
-use constriction_inputs::models::{DecoderModelList, DecoderModels, Models, Weights};
+use constriction_inputs::models::{DecoderModelList, DecoderModels, Models};
 use constriction_inputs::refusal::Refusal;
-use constriction_inputs::rows::Row;
-use constriction_inputs::rows::adding::is_total;
+use constriction_inputs::symbol::Symbol;
 use constriction_stack::coder::AnsCoder;
 use constriction_stream::decoding::Decode;
 use constriction_words::{BitArray, WordOf};
@@ -41,12 +38,13 @@ pub fn decode<
     words: &[Word],
     len: &mut usize,
     models: &G,
-    symbols: &mut [usize],
+    symbols: &mut [G::Symbol],
 ) -> Result<(), Refusal>
     requires sizes { IsSizes Word.BITS State.BITS }
     requires precision { (1 ≤ PRECISION) × (PRECISION ≤ P.BITS) }
     ensures call { AnsDecodesListBy Word.BitArray State.BitArray PRECISION (G.coded models.now)
-        words.now head.old len.old head.new len.new symbols.old symbols.new result }
+        words.now head.old len.old head.new len.new
+        (G.Symbol.numbers symbols.old) (G.Symbol.numbers symbols.new) result }
 {
     if *len > words.len() {
         return Err(Refusal::WrongLength);
@@ -61,87 +59,6 @@ pub fn decode<
     Ok(())
 }
 
-/// Decodes symbols into `symbols`, with one table of weights for all symbols.
-///
-/// For one symbol the call searches the weights. For more symbols it first builds a table, or a lookup model as
-/// [`Weights`] says. The call changes `head` and `len` as [`decode`] does.
-///
-/// # Errors
-///
-/// The call returns `WrongLength`, `WrongWeights` or `NoMemory` in the cases that [`crate::ans`] lists.
-pub fn decode_by_weights<
-    Word: WordOf<State>,
-    State: BitArray,
-    P: WordOf<Word>,
-    const PRECISION: usize,
->(
-    alloc: Global,
-    head: &mut State,
-    words: &[Word],
-    len: &mut usize,
-    weights: &[P],
-    symbols: &mut [usize],
-) -> Result<(), Refusal>
-    requires sizes { IsSizes Word.BITS State.BITS }
-    requires precision { (1 ≤ PRECISION) × (PRECISION ≤ P.BITS) }
-    ensures call { AnsDecodesListByWeights Word.BitArray State.BitArray PRECISION P.number weights.now
-        words.now head.old len.old head.new len.new symbols.old symbols.new result }
-{
-    if symbols.len() <= 1
-        && let Some(row) = Row::<P, PRECISION>::new(weights)
-    {
-        return decode::<Word, State, P, _, PRECISION>(alloc, head, words, len, &row, symbols);
-    }
-    let table = Weights { weights };
-    decode::<Word, State, P, _, PRECISION>(alloc, head, words, len, &table, symbols)
-}
-
-/// Decodes symbols of a type such as `u8` into `symbols`, with one table of weights for all symbols.
-///
-/// The call first decodes the symbols into a temporary list of `usize`. It changes `head` and `len` as [`decode`] does.
-///
-/// # Errors
-///
-/// The call returns the errors of [`decode_by_weights`], and `WrongLength` if an index of `weights` doesn't fit `S`.
-pub fn decode_narrow<
-    Word: WordOf<State>,
-    State: BitArray,
-    P: WordOf<Word>,
-    S: WordOf<usize>,
-    const PRECISION: usize,
->(
-    alloc: Global,
-    head: &mut State,
-    words: &[Word],
-    len: &mut usize,
-    weights: &[P],
-    symbols: &mut [S],
-) -> Result<(), Refusal>
-    requires sizes { IsSizes Word.BITS State.BITS }
-    requires precision { (1 ≤ PRECISION) × (PRECISION ≤ P.BITS) }
-    ensures call { AnsDecodesListBy Word.BitArray State.BitArray PRECISION
-        (narrow_by_weights (2 ^ S.BITS) (map P.number weights.now)) words.now head.old len.old head.new len.new
-        (map S.number symbols.old) (map S.number symbols.new) result }
-{
-    if *len > words.len() || !has_numbers::<S>(weights.len()) {
-        return Err(Refusal::WrongLength);
-    }
-    if !is_total::<P, PRECISION>(weights) {
-        return Err(Refusal::WrongWeights);
-    }
-    let Ok(mut numbers) = vec![in alloc; 0usize; symbols.len()] else {
-        return Err(Refusal::NoMemory);
-    };
-    let wide = numbers.as_mut_slice();
-    match decode_by_weights::<_, _, P, PRECISION>(alloc, head, words, len, weights, wide) {
-        Ok(()) => {
-            narrow_into(wide, symbols);
-            Ok(())
-        }
-        Err(refusal) => Err(refusal),
-    }
-}
-
 /// Decodes symbols into `symbols` with a list of models. Returns the new head and the number of words below it.
 ///
 /// The state is `head` and the first `len` words of `words`. The caller proves that `len` isn't past the end of
@@ -152,25 +69,24 @@ fn decode_by<
     State: BitArray,
     P: WordOf<Word>,
     L: DecoderModelList<P, PRECISION>,
+    S: Symbol,
     const PRECISION: usize,
->(head: State, words: &[Word], len: usize, models: &mut L, symbols: &mut [usize]) -> (State, usize)
+>(head: State, words: &[Word], len: usize, models: &mut L, symbols: &mut [S]) -> (State, usize)
     requires sizes { IsSizes Word.BITS State.BITS }
     requires within { len ≤ length words.now }
     requires count { length symbols.now ≡ length (L.tables models.now) }
-    ensures decoded { DecodesAll Word.BITS State.BITS
-        (pairs_of PRECISION (λ table. table) symbols.new (L.tables models.old))
+    ensures decoded { (ns : List ℕ) × (length ns ≡ length symbols.old) × (S.numbers symbols.new ≡ S.kept ns)
+        × DecodesAll Word.BITS State.BITS (pairs_of PRECISION (λ table. table) ns (L.tables models.old))
         (ans_state_of Word.number State.number (coder_of head words.now len))
         (ans_state_of Word.number State.number (coder_of result.0 words.now result.1)) }
     ensures left { result.1 ≤ len }
     ensures count { length symbols.new ≡ length symbols.old }
 {
-    let mut coder: AnsCoder<Word, State, Cursor<Word, &[Word]>> = AnsCoder::from_raw_parts(
-        Cursor::new_at_write_end(&words[..len]),
-        head,
-    );
+    let lent = Cursor::new_at_write_end(&words[..len]);
+    let mut coder = AnsCoder::<Word, State, _>::from_raw_parts(lent, head);
     for place in 0..symbols.len() {
         models.select(place);
-        symbols[place] = decode_next(&mut coder, models.model());
+        symbols[place] = S::of(decode_next(&mut coder, models.model()));
     }
     let (cursor, new_head) = coder.into_raw_parts();
     let (_, left) = cursor.into_buf_and_pos();

@@ -103,10 +103,7 @@ fn encode_single_item<
     ensures { IfSome result (λ made. CodesAlone Word.number State.number Word.BITS State.BITS
         (L.list_items list.old) head made.0.items made.1) }
 {
-    let mut coder: AnsCoder<Word, State, Vec<Word>> = AnsCoder::from_raw_parts(
-        Vec::new(alloc),
-        head,
-    );
+    let mut coder = AnsCoder::<Word, State, Vec<Word>>::from_raw_parts(Vec::new(alloc), head);
     let found = list.interval(0)?;
     let (left, p, reciprocal) = found;
     match coder.encode_interval::<P, PRECISION>(left, p, reciprocal) {
@@ -164,15 +161,10 @@ fn encode_into<
     'items: while rest > 0 {
         let found = list.interval(rest - 1)?;
         let (left, p, reciprocal) = found;
-        let p = P::from_nonzero(p);
+        let (begin, length) = (left.widen().widen(), P::from_nonzero(p).widen().widen());
+        let bits = PRECISION as u32;
         let (next, more) = encode_onto::<Word, State>(
-            top,
-            room,
-            len,
-            left.widen().widen(),
-            p.widen().widen(),
-            reciprocal,
-            PRECISION as u32,
+            top, room, len, begin, length, reciprocal, bits,
         );
         top = next;
         len = more;
@@ -197,10 +189,7 @@ fn encode_ahead<
     ensures { IfSome result (λ made. CodesAlone Word.number State.number Word.BITS State.BITS
         (L.list_items list.old) head made.0.items made.1) }
 {
-    let mut coder: AnsCoder<Word, State, Vec<Word>> = AnsCoder::from_raw_parts(
-        Vec::new(alloc),
-        head,
-    );
+    let mut coder = AnsCoder::<Word, State, Vec<Word>>::from_raw_parts(Vec::new(alloc), head);
     let mut rest = list.count();
     if rest == 0 {
         return Some(coder.into_raw_parts());

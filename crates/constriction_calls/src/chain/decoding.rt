@@ -1,29 +1,26 @@
 //! Decoding symbols from compressed words.
 
-ghost use Rattle.std.specs.Prelude.{◌≡◌, ◌⊎◌, ◌+◌, ◌<◌, ◌≤◌, ◌^◌, ℕ, List, length, map, reverse, IfErr, IfOk, OnErr};
+ghost use Rattle.std.specs.Prelude.{◌≡◌, ◌⊎◌, ◌+◌, ◌<◌, ◌≤◌, ℕ, List, length, map, reverse, IfErr, IfOk, OnErr};
 ghost use Rattle.std.specs.Prelude.{OnOk};
 ghost use Rattle.constriction_base.specs.Models.{pairs_of};
 ghost use Rattle.constriction_chain.specs.Chain.{IsSized};
 ghost use Rattle.constriction_chain.specs.Symbols.{ChainDecodesAll};
 ghost use Rattle.constriction_inputs.specs.Buffers.{Appended};
-ghost use Rattle.constriction_calls.specs.ChainCalls.{AreHeadsOf, ChainDecodesListBy, ChainDecodesListByWeights};
-ghost use Rattle.constriction_calls.specs.ChainCalls.{ChainDecodesListNarrow, LacksCompressed, chain_buffers};
+ghost use Rattle.constriction_calls.specs.ChainCalls.{AreHeadsOf, ChainDecodesListBy, LacksCompressed, chain_buffers};
 ghost use Rattle.constriction_chain.specs.Fits.{CoderFits};
 ghost use Rattle.constriction_inputs.specs.Coded.{AreFit, items};
 ghost use Rattle.constriction_inputs.specs.declared.refusal.Refusal.TheVariants as refusals;
 
 use crate::chain::{ChainHeads, keep};
-use crate::narrow::{has_numbers, narrow_into};
 use constriction_base::backends::{Holds, ReadWords, Stack, WriteWords};
 use constriction_base::cursor::Cursor;
 use constriction_base::errors::CoderError;
 use constriction_base::model::{DecoderModel, EntropyModel};
 use constriction_chain::{ChainCoder, ChainCoderHeads};
 use constriction_inputs::buffers::append;
-use constriction_inputs::models::{DecoderModelList, DecoderModels, Models, Weights};
+use constriction_inputs::models::{DecoderModelList, DecoderModels, Models};
 use constriction_inputs::refusal::Refusal;
-use constriction_inputs::rows::Row;
-use constriction_inputs::rows::adding::is_total;
+use constriction_inputs::symbol::put_numbers;
 use constriction_stream::decoding::Decode;
 use constriction_words::{BitArray, WordOf};
 use std::alloc::Global;
@@ -39,13 +36,14 @@ pub(crate) type Taking<'a, Word, State, const PRECISION: usize> = ChainCoder<
 
 /// Decodes symbols into `symbols`, each with its own model.
 ///
-/// The coder is `heads`, the first `compressed_len` words of `compressed`, and the first `remainders_len` words of
-/// `remainders`. The call reads these compressed words from the last to the first, and writes new words after these
-/// remainders. It sets `heads`, `compressed_len` and `remainders_len` to their values after the decodes.
+/// The coder is `heads`, the first `len` words of `compressed`, and the first `rest` words of `remainders`. The call
+/// reads these compressed words from the last to the first, and writes new words after these remainders. It sets
+/// `heads`, `len` and `rest` to their values after the decodes.
 ///
 /// # Errors
 ///
 /// The call returns each error that [`crate::chain`] lists, except `ImpossibleSymbol`.
+#[tactic(auto, using(constriction_inputs::proofs::Asking::fit_some))]
 pub fn decode<
     Word: WordOf<State>,
     State: BitArray,
@@ -56,166 +54,39 @@ pub fn decode<
     alloc: Global,
     heads: &mut ChainHeads<Word, State>,
     compressed: &[Word],
-    compressed_len: &mut usize,
+    len: &mut usize,
     remainders: &mut [Word],
-    remainders_len: &mut usize,
+    rest: &mut usize,
     models: &G,
-    symbols: &mut [usize],
+    symbols: &mut [G::Symbol],
 ) -> Result<(), Refusal>
     requires sized { IsSized Word.BITS State.BITS PRECISION }
     requires within { PRECISION ≤ P.BITS }
     requires fits { CoderFits Word.row State.row }
     ensures call { ChainDecodesListBy Word.BitArray State.BitArray PRECISION (G.coded models.now)
-        (chain_buffers heads.old compressed.now compressed_len.old remainders.old remainders_len.old)
-        (chain_buffers heads.new compressed.now compressed_len.new remainders.new remainders_len.new)
-        symbols.old symbols.new result }
+        (chain_buffers heads.old compressed.now len.old remainders.old rest.old)
+        (chain_buffers heads.new compressed.now len.new remainders.new rest.new)
+        (G.Symbol.numbers symbols.old) (G.Symbol.numbers symbols.new) result }
 {
-    if *compressed_len > compressed.len() || *remainders_len > remainders.len() {
+    if *len > compressed.len() || *rest > remainders.len() {
         return Err(Refusal::WrongLength);
     }
     models.check(symbols.len())?;
     let Some(both) = ChainCoderHeads::new(heads.compressed, heads.remainders) else {
         return Err(Refusal::InvalidData);
     };
-    let lent = Cursor::new_at_write_end(&compressed[..*compressed_len]);
+    let lent = Cursor::new_at_write_end(&compressed[..*len]);
     let mut coder = ChainCoder::from_raw_parts(lent, Vec::new(alloc), both);
     let again = match decode_list(alloc, &mut coder, models, symbols.len()) {
         Ok(again) => again,
         Err(refusal) => return Err(refusal),
     };
-    match finish_decoding(coder, heads, compressed_len, remainders, remainders_len) {
+    match finish_decoding(coder, heads, len, remainders, rest) {
         Ok(()) => {}
         Err(error) => return Err(error),
     }
-    symbols.copy_from_slice(again.as_slice());
+    put_numbers(symbols, again.as_slice());
     Ok(())
-}
-
-/// Decodes symbols into `symbols`, with one table of weights for all symbols.
-///
-/// For one symbol the call searches the weights. For more symbols it first builds a table, or a lookup model as
-/// [`Weights`] says. The call changes the coder as [`decode`] does.
-///
-/// # Errors
-///
-/// The call returns the errors of [`decode`] except `WrongInterval`.
-pub fn decode_by_weights<
-    Word: WordOf<State>,
-    State: BitArray,
-    P: WordOf<Word>,
-    const PRECISION: usize,
->(
-    alloc: Global,
-    heads: &mut ChainHeads<Word, State>,
-    compressed: &[Word],
-    compressed_len: &mut usize,
-    remainders: &mut [Word],
-    remainders_len: &mut usize,
-    weights: &[P],
-    symbols: &mut [usize],
-) -> Result<(), Refusal>
-    requires sized { IsSized Word.BITS State.BITS PRECISION }
-    requires within { PRECISION ≤ P.BITS }
-    requires fits { CoderFits Word.row State.row }
-    ensures call { ChainDecodesListByWeights Word.BitArray State.BitArray PRECISION P.number weights.now
-        (chain_buffers heads.old compressed.now compressed_len.old remainders.old remainders_len.old)
-        (chain_buffers heads.new compressed.now compressed_len.new remainders.new remainders_len.new)
-        symbols.old symbols.new result }
-{
-    if symbols.len() <= 1
-        && let Some(row) = Row::<P, PRECISION>::new(weights)
-    {
-        return decode::<Word, State, P, _, PRECISION>(
-            alloc,
-            heads,
-            compressed,
-            compressed_len,
-            remainders,
-            remainders_len,
-            &row,
-            symbols,
-        );
-    }
-    let table = Weights { weights };
-    decode::<Word, State, P, _, PRECISION>(
-        alloc,
-        heads,
-        compressed,
-        compressed_len,
-        remainders,
-        remainders_len,
-        &table,
-        symbols,
-    )
-}
-
-/// Decodes symbols of a type such as `u8` into `symbols`, with one table of weights for all symbols.
-///
-/// The call first decodes the symbols into a temporary list of `usize`. It changes the coder as [`decode`] does.
-///
-/// # Errors
-///
-/// The call returns the errors of [`decode_by_weights`], and `WrongLength` if an index of `weights` doesn't fit `S`.
-pub fn decode_narrow<
-    Word: WordOf<State>,
-    State: BitArray,
-    P: WordOf<Word>,
-    S: WordOf<usize>,
-    const PRECISION: usize,
->(
-    alloc: Global,
-    heads: &mut ChainHeads<Word, State>,
-    compressed: &[Word],
-    compressed_len: &mut usize,
-    remainders: &mut [Word],
-    remainders_len: &mut usize,
-    weights: &[P],
-    symbols: &mut [S],
-) -> Result<(), Refusal>
-    requires sized { IsSized Word.BITS State.BITS PRECISION }
-    requires within { PRECISION ≤ P.BITS }
-    requires fits { CoderFits Word.row State.row }
-    ensures call { ChainDecodesListNarrow Word.BitArray State.BitArray S.BitArray PRECISION P.number weights.now
-        (chain_buffers heads.old compressed.now compressed_len.old remainders.old remainders_len.old)
-        (chain_buffers heads.new compressed.now compressed_len.new remainders.new remainders_len.new)
-        symbols.old symbols.new result }
-{
-    if *compressed_len > compressed.len() || *remainders_len > remainders.len() {
-        return Err(Refusal::WrongLength);
-    }
-    if !has_numbers::<S>(weights.len()) {
-        return Err(Refusal::WrongLength);
-    }
-    if !is_total::<P, PRECISION>(weights) {
-        return Err(Refusal::WrongWeights);
-    }
-    if ChainCoderHeads::<Word, State, PRECISION>::new(
-        heads.compressed,
-        heads.remainders,
-    ).is_none()
-    {
-        return Err(Refusal::InvalidData);
-    }
-    let Ok(mut numbers) = vec![in alloc; 0usize; symbols.len()] else {
-        return Err(Refusal::NoMemory);
-    };
-    let wide = numbers.as_mut_slice();
-    match decode_by_weights::<Word, State, P, PRECISION>(
-        alloc,
-        heads,
-        compressed,
-        compressed_len,
-        remainders,
-        remainders_len,
-        weights,
-        wide,
-    ) {
-        Ok(()) => {
-            narrow_into(wide, symbols);
-            Ok(())
-        }
-        Err(refusal) => Err(refusal),
-    }
 }
 
 /// Decodes `count` symbols, each with its own model, and returns the symbols.
@@ -296,10 +167,10 @@ fn decode_with_list<
     Ok(symbols)
 }
 
-/// Appends the words of the remainders of `coder` to `remainders`, and adds their number to `remainders_len`.
+/// Appends the words of the remainders of `coder` to `remainders`, and adds their number to `rest`.
 ///
-/// The call also sets `heads` to the heads of `coder`, and `compressed_len` to its number of compressed words.
-/// The caller proves that `remainders_len` is at most the length of `remainders`.
+/// The call also sets `heads` to the heads of `coder`, and `len` to its number of compressed words.
+/// The caller proves that `rest` is at most the length of `remainders`.
 ///
 /// # Errors
 ///
@@ -310,24 +181,24 @@ fn decode_with_list<
 fn finish_decoding<'a, Word: WordOf<State>, State: BitArray, const PRECISION: usize>(
     coder: Taking<'a, Word, State, PRECISION>,
     heads: &mut ChainHeads<Word, State>,
-    compressed_len: &mut usize,
+    len: &mut usize,
     remainders: &mut [Word],
-    remainders_len: &mut usize,
+    rest: &mut usize,
 ) -> Result<(), Refusal>
-    requires { remainders_len.now ≤ length remainders.now }
+    requires { rest.now ≤ length remainders.now }
     ensures heads { OnOk result (AreHeadsOf Word.number State.number coder.entry.state heads.new) }
-    ensures compressed { OnOk result (compressed_len.new ≡ length coder.entry.state.compressed) }
+    ensures compressed { OnOk result (len.new ≡ length coder.entry.state.compressed) }
     ensures remainders { OnOk result ((added : List Word)
         × (map Word.number (reverse added) ≡ coder.entry.state.remainders)
-        × Appended remainders.old remainders_len.old added remainders.new remainders_len.new) }
+        × Appended remainders.old rest.old added remainders.new rest.new) }
     ensures err { IfErr result (λ e. (e ≡ refusals.NoMemory)
-        ⊎ ((e ≡ refusals.NoSpace (remainders_len.old + length coder.entry.state.remainders))
-        × (length remainders.old < remainders_len.old + length coder.entry.state.remainders))) }
-    ensures kept { OnErr result ((heads.new ≡ heads.old) × (compressed_len.new ≡ compressed_len.old)
-        × (remainders.new ≡ remainders.old) × (remainders_len.new ≡ remainders_len.old)) }
+        ⊎ ((e ≡ refusals.NoSpace (rest.old + length coder.entry.state.remainders))
+        × (length remainders.old < rest.old + length coder.entry.state.remainders))) }
+    ensures kept { OnErr result ((heads.new ≡ heads.old) × (len.new ≡ len.old)
+        × (remainders.new ≡ remainders.old) × (rest.new ≡ rest.old)) }
 {
     let (words, written, both) = coder.into_raw_parts();
-    append(written.as_slice(), remainders, remainders_len)?;
-    keep(words, both, heads, compressed_len);
+    append(written.as_slice(), remainders, rest)?;
+    keep(words, both, heads, len);
     Ok(())
 }

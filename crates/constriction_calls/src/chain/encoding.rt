@@ -31,10 +31,9 @@ type Putting<'a, Word, State, const PRECISION: usize> = ChainCoder<
 
 /// Encodes items from the last to the first.
 ///
-/// An item is a symbol with its model, or an interval. The coder is `heads`, the first `compressed_len` words of
-/// `compressed`, and the first `remainders_len` words of `remainders`. The call reads these remainders from the last to
-/// the first, and writes new words after these compressed words. It sets `heads`, `compressed_len` and `remainders_len`
-/// to their values after the encodes.
+/// An item is a symbol with its model, or an interval. The coder is `heads`, the first `len` words of `compressed`, and
+/// the first `rest` words of `remainders`. The call reads these remainders from the last to the first, and writes new
+/// words after these compressed words. It sets `heads`, `len` and `rest` to their values after the encodes.
 ///
 /// # Errors
 ///
@@ -49,19 +48,19 @@ pub fn encode_reverse<
     alloc: Global,
     heads: &mut ChainHeads<Word, State>,
     compressed: &mut [Word],
-    compressed_len: &mut usize,
+    len: &mut usize,
     remainders: &[Word],
-    remainders_len: &mut usize,
+    rest: &mut usize,
     items: &I,
 ) -> Result<(), Refusal>
     requires sized { IsSized Word.BITS State.BITS PRECISION }
     requires within { PRECISION ≤ P.BITS }
     requires fits { CoderFits Word.row State.row }
     ensures call { ChainEncodesListBy Word.BitArray State.BitArray PRECISION (I.coded items.now)
-        (chain_buffers heads.old compressed.old compressed_len.old remainders.now remainders_len.old)
-        (chain_buffers heads.new compressed.new compressed_len.new remainders.now remainders_len.new) result }
+        (chain_buffers heads.old compressed.old len.old remainders.now rest.old)
+        (chain_buffers heads.new compressed.new len.new remainders.now rest.new) result }
 {
-    if *compressed_len > compressed.len() || *remainders_len > remainders.len() {
+    if *len > compressed.len() || *rest > remainders.len() {
         return Err(Refusal::WrongLength);
     }
     items.check()?;
@@ -70,14 +69,7 @@ pub fn encode_reverse<
     };
     let refusal = match items.list(alloc, true) {
         Some(mut list) => match encode_list::<Word, State, P, I::List, PRECISION>(
-            alloc,
-            both,
-            heads,
-            compressed,
-            compressed_len,
-            remainders,
-            remainders_len,
-            &mut list,
+            alloc, both, heads, compressed, len, remainders, rest, &mut list,
         ) {
             Ok(()) => return Ok(()),
             Err(refusal) => refusal,
@@ -113,44 +105,31 @@ fn encode_list<
     both: ChainCoderHeads<Word, State, PRECISION>,
     heads: &mut ChainHeads<Word, State>,
     compressed: &mut [Word],
-    compressed_len: &mut usize,
+    len: &mut usize,
     remainders: &[Word],
-    remainders_len: &mut usize,
+    rest: &mut usize,
     list: &mut L,
 ) -> Result<(), Refusal>
     requires fits { CoderFits Word.row State.row }
     requires heads { both ≡ (heads.now.compressed, heads.now.remainders) }
-    requires compressed { compressed_len.now ≤ length compressed.now }
-    requires remainders { remainders_len.now ≤ length remainders.now }
+    requires compressed { len.now ≤ length compressed.now }
+    requires remainders { rest.now ≤ length remainders.now }
     ensures { ChainEncodesItems Word.number State.number Word.BITS State.BITS (L.list_items list.old)
-        (chain_buffers heads.old compressed.old compressed_len.old remainders.now remainders_len.old)
-        (chain_buffers heads.new compressed.new compressed_len.new remainders.now remainders_len.new) result }
+        (chain_buffers heads.old compressed.old len.old remainders.now rest.old)
+        (chain_buffers heads.new compressed.new len.new remainders.now rest.new) result }
 {
     if list.count() == 1 {
         let mut room = [Word::nothing()];
         return encode_within::<Word, State, P, L, PRECISION>(
-            &mut room,
-            both,
-            heads,
-            compressed,
-            compressed_len,
-            remainders,
-            remainders_len,
-            list,
+            &mut room, both, heads, compressed, len, remainders, rest, list,
         );
     }
     let Ok(mut room) = vec![in alloc; Word::nothing(); list.count()] else {
         return Err(Refusal::NoMemory);
     };
+    let room = room.as_mut_slice();
     encode_within::<Word, State, P, L, PRECISION>(
-        room.as_mut_slice(),
-        both,
-        heads,
-        compressed,
-        compressed_len,
-        remainders,
-        remainders_len,
-        list,
+        room, both, heads, compressed, len, remainders, rest, list,
     )
 }
 
@@ -171,20 +150,20 @@ fn encode_within<
     both: ChainCoderHeads<Word, State, PRECISION>,
     heads: &mut ChainHeads<Word, State>,
     compressed: &mut [Word],
-    compressed_len: &mut usize,
+    len: &mut usize,
     remainders: &[Word],
-    remainders_len: &mut usize,
+    rest: &mut usize,
     list: &mut L,
 ) -> Result<(), Refusal>
     requires fits { CoderFits Word.row State.row }
     requires heads { both ≡ (heads.now.compressed, heads.now.remainders) }
-    requires compressed { compressed_len.now ≤ length compressed.now }
-    requires remainders { remainders_len.now ≤ length remainders.now }
+    requires compressed { len.now ≤ length compressed.now }
+    requires remainders { rest.now ≤ length remainders.now }
     ensures { ChainEncodesItems Word.number State.number Word.BITS State.BITS (L.list_items list.old)
-        (chain_buffers heads.old compressed.old compressed_len.old remainders.now remainders_len.old)
-        (chain_buffers heads.new compressed.new compressed_len.new remainders.now remainders_len.new) result }
+        (chain_buffers heads.old compressed.old len.old remainders.now rest.old)
+        (chain_buffers heads.new compressed.new len.new remainders.now rest.new) result }
 {
-    let lent = Cursor::new_at_write_end(&remainders[..*remainders_len]);
+    let lent = Cursor::new_at_write_end(&remainders[..*rest]);
     let mut coder = ChainCoder::from_raw_parts(Cursor::new_at_write_beginning(room), lent, both);
     match encode_list_items::<P, Putting<'_, Word, State, PRECISION>, L, PRECISION>(
         &mut coder, list,
@@ -192,7 +171,7 @@ fn encode_within<
         Ok(()) => {}
         Err(refusal) => return Err(refusal),
     }
-    match finish_encoding(coder, heads, compressed, compressed_len, remainders_len) {
+    match finish_encoding(coder, heads, compressed, len, rest) {
         Ok(()) => Ok(()),
         Err(error) => Err(error),
     }
@@ -333,10 +312,10 @@ impl<'a, Word: WordOf<State>, State: BitArray, P: WordOf<Word>, const PRECISION:
     ghost width_law = { P.width_law };
 }
 
-/// Appends the compressed words of `coder` to `compressed`, and adds their number to `compressed_len`.
+/// Appends the compressed words of `coder` to `compressed`, and adds their number to `len`.
 ///
-/// The call also sets `heads` to the heads of `coder`, and `remainders_len` to its number of words of remainders.
-/// The caller proves that `compressed_len` is at most the length of `compressed`.
+/// The call also sets `heads` to the heads of `coder`, and `rest` to its number of words of remainders. The caller
+/// proves that `len` is at most the length of `compressed`.
 ///
 /// # Errors
 ///
@@ -348,24 +327,24 @@ fn finish_encoding<'a, Word: WordOf<State>, State: BitArray, const PRECISION: us
     coder: Putting<'a, Word, State, PRECISION>,
     heads: &mut ChainHeads<Word, State>,
     compressed: &mut [Word],
-    compressed_len: &mut usize,
-    remainders_len: &mut usize,
+    len: &mut usize,
+    rest: &mut usize,
 ) -> Result<(), Refusal>
-    requires { compressed_len.now ≤ length compressed.now }
+    requires { len.now ≤ length compressed.now }
     ensures heads { OnOk result (AreHeadsOf Word.number State.number coder.entry.state heads.new) }
-    ensures remainders { OnOk result (remainders_len.new ≡ length coder.entry.state.remainders) }
+    ensures remainders { OnOk result (rest.new ≡ length coder.entry.state.remainders) }
     ensures compressed { OnOk result ((added : List Word)
         × (map Word.number (reverse added) ≡ coder.entry.state.compressed)
-        × Appended compressed.old compressed_len.old added compressed.new compressed_len.new) }
+        × Appended compressed.old len.old added compressed.new len.new) }
     ensures err { IfErr result (λ e. (e ≡ refusals.NoMemory)
-        ⊎ ((e ≡ refusals.NoSpace (compressed_len.old + length coder.entry.state.compressed))
-        × (length compressed.old < compressed_len.old + length coder.entry.state.compressed))) }
-    ensures kept { OnErr result ((heads.new ≡ heads.old) × (remainders_len.new ≡ remainders_len.old)
-        × (compressed.new ≡ compressed.old) × (compressed_len.new ≡ compressed_len.old)) }
+        ⊎ ((e ≡ refusals.NoSpace (len.old + length coder.entry.state.compressed))
+        × (length compressed.old < len.old + length coder.entry.state.compressed))) }
+    ensures kept { OnErr result ((heads.new ≡ heads.old) × (rest.new ≡ rest.old)
+        × (compressed.new ≡ compressed.old) × (len.new ≡ len.old)) }
 {
     let (written, words, both) = coder.into_raw_parts();
     let (room, count) = written.into_buf_and_pos();
-    append(&room[..count], compressed, compressed_len)?;
-    keep(words, both, heads, remainders_len);
+    append(&room[..count], compressed, len)?;
+    keep(words, both, heads, rest);
     Ok(())
 }

@@ -104,13 +104,8 @@ pub fn build<Word: WordOf<State>, State: BitArray, P: WordOf<Word>, const PRECIS
         (store_in positions.old lowers.old ranges.old words.old len.old)
         (store_in positions.new lowers.new ranges.new words.new len.new) result }
 {
-    if !fit(
-        symbols.len(),
-        lengths,
-        positions.len(),
-        lowers.len(),
-        ranges.len(),
-    ) {
+    let (places, lows, widths) = (positions.len(), lowers.len(), ranges.len());
+    if !fit(symbols.len(), lengths, places, lows, widths) {
         return Err(Refusal::WrongLength);
     }
     if !is_total::<P, PRECISION>(weights) {

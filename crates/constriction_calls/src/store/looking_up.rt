@@ -5,7 +5,7 @@ ghost use Rattle.constriction_base.specs.Steps.{IsSizes};
 ghost use Rattle.constriction_calls.specs.StoreCalls.{StoreDecodesList};
 
 use crate::range::decoding::decode_count;
-use constriction_inputs::models::{DecoderModels, Weights};
+use constriction_inputs::models::Weights;
 use constriction_inputs::refusal::Refusal;
 use constriction_inputs::rows::adding::is_total;
 use constriction_queue::RangeCoderState;
@@ -53,13 +53,9 @@ pub fn chunk<Word: WordOf<State>, State: BitArray, P: WordOf<Word>, const PRECIS
     let Ok(state) = RangeCoderState::<Word, State>::new(lower, range) else {
         return Err(Refusal::InvalidData);
     };
-    let given = Weights { weights };
-    let Some(mut list) = DecoderModels::<P, PRECISION>::decoder_list(&given, alloc, symbols.len())
-    else {
-        return Err(Refusal::NoMemory);
-    };
+    let models = Weights { weights };
     let decoder = decoder_at::<Word, State>(words, pos, state);
-    match decode_count::<Word, State, P, _, PRECISION>(alloc, decoder, &mut list, symbols.len()) {
+    match decode_count::<Word, State, P, _, PRECISION>(alloc, decoder, &models, symbols.len()) {
         Ok((again, _)) => {
             symbols.copy_from_slice(&again);
             Ok(())

@@ -4,6 +4,7 @@ ghost use Rattle.std.specs.Prelude.{◌≡◌, ◌↔◌, ◌+◌, ◌*◌, ◌<
 ghost use Rattle.constriction_inputs.specs.Counts.{AreCountRows, IsCountPrecision, by_counts, count_tables};
 ghost use Rattle.constriction_inputs.specs.Mixtures.{row_at_index};
 ghost use Rattle.constriction_models.specs.Categorical.{MakeCategorical, categorical};
+ghost use Rattle.std.proofs.Common.{refl};
 
 use crate::models::families::are_below;
 use crate::models::{DecoderModels, Each, ModelList, Models};
@@ -68,6 +69,8 @@ impl<'a, P: WordOf<u32>, const PRECISION: usize> Models<P, PRECISION> for Counts
 }
 
 impl<'a, P: WordOf<u32>, const PRECISION: usize> DecoderModels<P, PRECISION> for Counts<'a> {
+    type Symbol = usize;
+
     type DecoderList = Each<CategoricalCounts<'a, P, PRECISION>>;
 
     fn decoder_list(
@@ -80,6 +83,8 @@ impl<'a, P: WordOf<u32>, const PRECISION: usize> DecoderModels<P, PRECISION> for
             Err(_) => None,
         }
     }
+
+    ghost kept_law = { λ given ns fit known. refl };
 }
 
 /// Rows of counts that are checked. A look-up adds up the counts of its row.

@@ -10,6 +10,7 @@ ghost use Rattle.constriction_inputs.specs.Quantized.{family_arguments, family_o
 ghost use Rattle.constriction_inputs.specs.QuantizedCalls.{AsksFamily};
 ghost use Rattle.constriction_inputs.specs.Refusals.{Asks, Otherwise, NoRefusal};
 ghost use Rattle.constriction_inputs.specs.declared.refusal.Refusal.TheVariants as refusals;
+ghost use Rattle.std.proofs.Common.{refl};
 
 use crate::models::{DecoderModelList, DecoderModels, ModelList, Models, entry_of};
 use crate::refusal::Refusal;
@@ -86,6 +87,8 @@ impl<'a, P: WordOf<u32>, const PRECISION: usize> Models<P, PRECISION> for Famili
 }
 
 impl<'a, P: WordOf<u32>, const PRECISION: usize> DecoderModels<P, PRECISION> for Families<'a> {
+    type Symbol = usize;
+
     type DecoderList = FamilyList<'a, P, FamilyModel<P, PRECISION>, PRECISION>;
 
     fn decoder_list(
@@ -107,6 +110,8 @@ impl<'a, P: WordOf<u32>, const PRECISION: usize> DecoderModels<P, PRECISION> for
             model,
         })
     }
+
+    ghost kept_law = { λ given ns fit known. refl };
 }
 
 /// The models of a family, one for each symbol to encode. A look-up makes the model that it needs.

@@ -9,6 +9,7 @@ ghost use Rattle.constriction_inputs.specs.Rows.{AreTotals};
 ghost use Rattle.constriction_inputs.specs.Weights.{IsTotal};
 ghost use Rattle.constriction_inputs.specs.WeightsModels.{sized_of_either, two_of_either};
 ghost use Rattle.constriction_inputs.specs.laws.Rows.{two_weights};
+ghost use Rattle.std.proofs.Common.{refl};
 
 use crate::known::is_known;
 use crate::models::families::are_below;
@@ -176,6 +177,8 @@ impl<'a, P: BitArray, const PRECISION: usize> Models<P, PRECISION> for Indexed<'
 }
 
 impl<'a, P: BitArray, const PRECISION: usize> DecoderModels<P, PRECISION> for Indexed<'a, P> {
+    type Symbol = usize;
+
     type DecoderList = IndexedList<'a, P, PRECISION>;
 
     fn decoder_list(&self, alloc: Global, count: usize) -> Option<IndexedList<'a, P, PRECISION>> {
@@ -198,6 +201,8 @@ impl<'a, P: BitArray, const PRECISION: usize> DecoderModels<P, PRECISION> for In
             None => None,
         }
     }
+
+    ghost kept_law = { λ given ns fit known. refl };
 }
 
 /// Models, and for each symbol the index of its model.

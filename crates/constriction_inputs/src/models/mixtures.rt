@@ -9,6 +9,7 @@ ghost use Rattle.constriction_models.specs.Quantizers.{symbol_count, first_symbo
 ghost use Rattle.constriction_inputs.specs.Mixtures.{AreMixable, by_mixture, components_of, mixture_tables, or_lone};
 ghost use Rattle.constriction_inputs.specs.Mixtures.{row_at_index};
 ghost use Rattle.constriction_inputs.specs.Quantized.{family_of, symbols_in};
+ghost use Rattle.std.proofs.Common.{refl};
 
 use crate::models::families::are_places;
 use crate::models::{DecoderModelList, DecoderModels, Families, ModelList, Models, entry_of};
@@ -133,11 +134,15 @@ impl<'a, P: WordOf<u32>, const PRECISION: usize> Models<P, PRECISION> for Mixtur
 }
 
 impl<'a, P: WordOf<u32>, const PRECISION: usize> DecoderModels<P, PRECISION> for Mixtures<'a> {
+    type Symbol = usize;
+
     type DecoderList = MixtureList<'a, P, PRECISION>;
 
     fn decoder_list(&self, alloc: Global, count: usize) -> Option<MixtureList<'a, P, PRECISION>> {
         Models::<P, PRECISION>::list(self, alloc, count, false)
     }
+
+    ghost kept_law = { λ given ns fit known. refl };
 }
 
 /// A list of models of mixtures. The list keeps only one mixture's components in memory. A list of no models needs no

@@ -4,6 +4,7 @@ ghost use Rattle.std.specs.Prelude.{◌≡◌, ◌+◌, ◌*◌, ◌<◌, ◌≤
 ghost use Rattle.constriction_inputs.specs.Mixtures.{row_at_index};
 ghost use Rattle.constriction_inputs.specs.Rows.{by_rows, row_tables};
 ghost use Rattle.constriction_inputs.specs.Weights.{IsTotal};
+ghost use Rattle.std.proofs.Common.{refl};
 
 use crate::known::all_known_in_rows;
 use crate::models::{DecoderModels, Each, ModelList, Models, entry_of};
@@ -64,6 +65,8 @@ impl<'a, P: BitArray, const PRECISION: usize> Models<P, PRECISION> for Rows<'a, 
 }
 
 impl<'a, P: BitArray, const PRECISION: usize> DecoderModels<P, PRECISION> for Rows<'a, P> {
+    type Symbol = usize;
+
     type DecoderList = Each<Row<'a, P, PRECISION>>;
 
     fn decoder_list(&self, alloc: Global, count: usize) -> Option<Each<Row<'a, P, PRECISION>>> {
@@ -72,6 +75,8 @@ impl<'a, P: BitArray, const PRECISION: usize> DecoderModels<P, PRECISION> for Ro
             Err(_) => None,
         }
     }
+
+    ghost kept_law = { λ given ns fit known. refl };
 }
 
 /// Rows of weights whose totals are checked. A look-up adds up the weights before the symbol in its row.

@@ -3,9 +3,11 @@
 ghost use Rattle.std.specs.Prelude.{◌≡◌, ◌≤◌, map, IfSome, IsTrue};
 ghost use Rattle.constriction_base.specs.Tables.{table_of};
 ghost use Rattle.constriction_base.specs.WeightTables.{entries, HasReciprocals};
-ghost use Rattle.constriction_inputs.specs.Weights.{by_weights};
+ghost use Rattle.constriction_inputs.specs.Weights.{by_weights, IsTotal};
+ghost use Rattle.std.proofs.Common.{refl};
 
 use crate::known::is_known;
+use crate::models::table_or_row::TableOrRow;
 use crate::models::weights_model::WeightsModel;
 use crate::models::{DecoderModels, ModelList, Models, One};
 use crate::refusal::Refusal;
@@ -18,16 +20,10 @@ use constriction_models::lookup::ContiguousLookupDecoderModel;
 use constriction_words::{BitArray, Reciprocal};
 use std::alloc::Global;
 
-/// The model of a list of weights: a [`WeightTable`], or a lookup model with a row for each quantile.
-pub type TableOrRows<P, const PRECISION: usize> = WeightsModel<
-    WeightTable<P, PRECISION>,
+/// The model of a list of weights to decode with: a [`TableOrRow`], or a lookup model with a row for each quantile.
+pub type TableOrRows<'a, P, const PRECISION: usize> = WeightsModel<
+    TableOrRow<'a, P, PRECISION>,
     ContiguousLookupDecoderModel<WeightTable<P, PRECISION>, PRECISION>,
->;
-
-/// The model of a list of weights: a [`WeightTable`], or a [`Row`] whose look-up adds up weights.
-pub type TableOrRow<'a, P, const PRECISION: usize> = WeightsModel<
-    WeightTable<P, PRECISION>,
-    Row<'a, P, PRECISION>,
 >;
 
 /// One table of weights for all symbols to encode or decode.
@@ -35,7 +31,7 @@ pub type TableOrRow<'a, P, const PRECISION: usize> = WeightsModel<
 /// `weights[i]` is the weight of symbol `i`. The weights have to add up to `2 ^ PRECISION`. A symbol of weight 0 is
 /// impossible, and so is a symbol past the end of the list of weights.
 ///
-/// To encode a single symbol, `list` makes no table: the look-up adds up the weights before the symbol.
+/// For a single symbol, `list` and `decoder_list` make no table: the look-up adds up the weights before the symbol.
 ///
 /// To decode at least `2 ^ PRECISION` symbols at a precision of at most 14 bits, `decoder_list` makes a lookup model,
 /// which decodes a symbol in less time than a table of weights. While the list exists, the lookup model takes 6 bytes
@@ -84,7 +80,9 @@ impl<'a, P: BitArray, const PRECISION: usize> Models<P, PRECISION> for Weights<'
             let row = Row::of_total(self.weights);
             return Some(WeightsList {
                 models: One {
-                    model: WeightsModel::Rows(row),
+                    model: TableOrRow {
+                        model: WeightsModel::Rows(row),
+                    },
                     count,
                     place: 0,
                 },
@@ -93,7 +91,9 @@ impl<'a, P: BitArray, const PRECISION: usize> Models<P, PRECISION> for Weights<'
         match table_by(alloc, self.weights, divides) {
             Some(table) => Some(WeightsList {
                 models: One {
-                    model: WeightsModel::Table(table),
+                    model: TableOrRow {
+                        model: WeightsModel::Table(table),
+                    },
                     count,
                     place: 0,
                 },
@@ -141,9 +141,15 @@ impl<'a, P: BitArray, const PRECISION: usize> ModelList<P, PRECISION>
 }
 
 impl<'a, P: BitArray, const PRECISION: usize> DecoderModels<P, PRECISION> for Weights<'a, P> {
-    type DecoderList = One<TableOrRows<P, PRECISION>>;
+    type Symbol = usize;
 
-    fn decoder_list(&self, alloc: Global, count: usize) -> Option<One<TableOrRows<P, PRECISION>>> {
+    type DecoderList = One<TableOrRows<'a, P, PRECISION>>;
+
+    fn decoder_list(
+        &self,
+        alloc: Global,
+        count: usize,
+    ) -> Option<One<TableOrRows<'a, P, PRECISION>>> {
         match decoder_by(alloc, self.weights, count) {
             Some(model) => Some(One {
                 model,
@@ -153,34 +159,47 @@ impl<'a, P: BitArray, const PRECISION: usize> DecoderModels<P, PRECISION> for We
             None => None,
         }
     }
+
+    ghost kept_law = { λ given ns fit known. refl };
 }
 
 /// Returns the model of the symbols `0`, `1`, .. with the weights `weights`, for decoding `count` symbols.
 ///
-/// The model has rows if `PRECISION` is at most 14, `count` is at least `2 ^ PRECISION`, and the rows can be made. The
-/// rows can't be made if there is no memory for them, or if a symbol above 65535 has a weight above 0. Without rows the
-/// model is a table without reciprocals. The call returns `None` if the weights don't add up to `2 ^ PRECISION`, or if
-/// there is no memory for the table.
-pub fn decoder_by<P: BitArray, const PRECISION: usize>(
+/// The model is a row of the weights if `count` is at most 1. It is a lookup model if `PRECISION` is at most 14,
+/// `count` is at least `2 ^ PRECISION`, and its rows can be made. The rows can't be made if there is no memory for
+/// them, or if a symbol above 65535 has a weight above 0. Otherwise the model is a table without reciprocals. The call
+/// returns `None` if there is no memory for the table. The caller proves that the weights add up to `2 ^ PRECISION`.
+pub fn decoder_by<'a, P: BitArray, const PRECISION: usize>(
     alloc: Global,
-    weights: &[P],
+    weights: &'a [P],
     count: usize,
-) -> Option<TableOrRows<P, PRECISION>>
-    requires { (1 ≤ PRECISION) × (PRECISION ≤ P.BITS) }
-    ensures { IfSome result (λ model. ⟦<TableOrRows<P, PRECISION> as EntropyModel<PRECISION>>⟧.table model
+) -> Option<TableOrRows<'a, P, PRECISION>>
+    requires sizes { (1 ≤ PRECISION) × (PRECISION ≤ P.BITS) }
+    requires total { IsTotal PRECISION (map P.number weights.now) }
+    ensures { IfSome result (λ model. ⟦<TableOrRows<'a, P, PRECISION> as EntropyModel<PRECISION>>⟧.table model
         ≡ table_of (map P.number weights.now)) }
 {
+    if count <= 1 {
+        let row = Row::of_total(weights);
+        return Some(WeightsModel::Table(TableOrRow {
+            model: WeightsModel::Rows(row),
+        }));
+    }
     let Some(table) = table_by(alloc, weights, false) else {
         return None;
     };
     if PRECISION > 14 || count < 1usize << PRECISION {
-        return Some(WeightsModel::Table(table));
+        return Some(WeightsModel::Table(TableOrRow {
+            model: WeightsModel::Table(table),
+        }));
     }
     if let Ok(rows) = ContiguousLookupDecoderModel::new(alloc, table) {
         return Some(WeightsModel::Rows(rows));
     }
     match table_by(alloc, weights, false) {
-        Some(table) => Some(WeightsModel::Table(table)),
+        Some(table) => Some(WeightsModel::Table(TableOrRow {
+            model: WeightsModel::Table(table),
+        })),
         None => None,
     }
 }

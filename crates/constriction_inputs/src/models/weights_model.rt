@@ -9,8 +9,8 @@ use constriction_words::{BitArray, Reciprocal};
 /// A model in one of two forms, which a program chooses at run time.
 ///
 /// [`Weights`](crate::models::Weights) chooses a table of weights, or a lookup model for long lists to decode, or the
-/// caller's weights themselves for a single symbol to encode. A lookup model decodes a symbol in less time than a
-/// table, but takes more time and memory to make.
+/// caller's weights themselves for a single symbol. A lookup model decodes a symbol in less time than a table, but takes
+/// more time and memory to make.
 ///
 /// # Examples
 ///
@@ -22,9 +22,9 @@ use constriction_words::{BitArray, Reciprocal};
 /// ```
 #[derive(Drop)]
 pub enum WeightsModel<T, R> {
-    /// A table of weights.
+    /// A table or a row of weights.
     Table(T),
-    /// A model that isn't a table of weights: a lookup model with a row for each quantile, or a row of weights.
+    /// A row of weights, or a model with a row for each quantile.
     Rows(R),
 }
 

@@ -1,7 +1,7 @@
 use Rattle.std.proofs.Common.{◌≡◌, ◌∙◌, [], arith, drop, inr, length, refl, take}
 use Rattle.std.proofs.lemmas.List.{drop_all, length-drop, length-take-le}
 use Rattle.constriction_inputs.proofs.Places.{is_step, models_more}
-use Rattle.constriction_lanes.proofs.OneLane.{codes_more}
+use Rattle.constriction_calls.proofs.AnsPlaces.{codes_more}
 use Rattle.constriction_lanes.proofs.RowItems.{at_row}
 use Rattle.constriction_lanes.proofs.encoding.encode_row.Goals as goal
 

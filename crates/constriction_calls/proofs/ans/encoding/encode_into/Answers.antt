@@ -19,8 +19,8 @@ items-init g c =
       coded = rw end refl;
     }
 
-pub overflow_cast-encode_onto : goal.overflow_cast-encode_onto
-overflow_cast-encode_onto g c =
+pub overflow_cast-bits : goal.overflow_cast-bits
+overflow_cast-bits g c =
     let items = g.L.ItemList.list_items c.args.list.now in
     let step = is_step g.Word.BitArray.BITS g.row.PRECISION g.P.BitArray.BITS g.met.P.WordOf.width_law items c.items.rest c.items-test.true _ _ (rw c.items.invariant.same at c.in_ok-found.ensures.found) in
     omega (arith, step.within_word, g.met.Word.BitArray.bits_law.1)
@@ -29,7 +29,7 @@ pub encode_onto-next-requires-clause-step : goal.encode_onto-next-requires-claus
 encode_onto-next-requires-clause-step g c =
     let items = g.L.ItemList.list_items c.args.list.now in
     let step = is_step g.Word.BitArray.BITS g.row.PRECISION g.P.BitArray.BITS g.met.P.WordOf.width_law items c.items.rest c.items-test.true _ _ (rw c.items.invariant.same at c.in_ok-found.ensures.found) in
-    rw (c.widen-in-items.ensures, c.widen.ensures, c.widen-in-items-3.ensures, c.widen-in-items-2.ensures, c.from_nonzero-p.ensures) step
+    rw (c.widen-begin.ensures, c.widen.ensures, c.widen-length.ensures, c.widen-in-items.ensures, c.from_nonzero.ensures) step
 
 pub items-preserved : goal.items-preserved
 items-preserved g c =
@@ -37,7 +37,7 @@ items-preserved g c =
     let items = g.L.ItemList.list_items c.args.list.now in
     let kept = c.items.invariant in
     let call = c.encode_onto-next in
-    let pushed = rw (c.widen-in-items.ensures, c.widen.ensures, c.widen-in-items-3.ensures, c.widen-in-items-2.ensures, c.from_nonzero-p.ensures) at (call.ensures.encoded kept.valid) in
+    let pushed = rw (c.widen-begin.ensures, c.widen.ensures, c.widen-length.ensures, c.widen-in-items.ensures, c.from_nonzero.ensures) at (call.ensures.encoded kept.valid) in
     let at = rw kept.same at c.in_ok-found.ensures.found in
     record {
       same = c.in_ok-found.ensures.items ∙ kept.same;

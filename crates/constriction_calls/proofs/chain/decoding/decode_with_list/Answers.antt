@@ -3,7 +3,8 @@ use Rattle.constriction_base.specs.Models.{pairs_of}
 use Rattle.constriction_base.proofs.Trace.{Trace-more}
 use Rattle.constriction_chain.specs.Symbols.{ChainDecodesOne}
 use Rattle.constriction_inputs.proofs.Pairs.{pairs_next}
-use Rattle.constriction_calls.proofs.ChainSteps.{ends_at, ends_pairs}
+use Rattle.constriction_calls.proofs.ChainPlaces.{ends_pairs}
+use Rattle.constriction_chain.proofs.Ended.{ends_at}
 use Rattle.constriction_calls.proofs.chain.decoding.decode_with_list.Goals as goal
 
 pub loop-place-preserved : goal.loop-place-preserved

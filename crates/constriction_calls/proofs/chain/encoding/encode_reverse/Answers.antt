@@ -7,11 +7,11 @@ use Rattle.constriction_calls.proofs.chain.encoding.encode_reverse.Goals as goal
 pub returns-in-Ok : goal.returns-in-Ok
 returns-in-Ok g c =
     let coded = g.I.Items.coded c.args.items.now in
-    let old = chain_buffers c.args.heads.now c.args.compressed.now c.args.compressed_len.now c.args.remainders.now c.args.remainders_len.now in
-    let within : AreInUse old = (omega (arith, c.if-compressed_len-compressed.false), omega (arith, c.if-remainders_len-remainders.false)) in
+    let old = chain_buffers c.args.heads.now c.args.compressed.now c.args.len.now c.args.remainders.now c.args.rest.now in
+    let within : AreInUse old = (omega (arith, c.if-len-compressed.false), omega (arith, c.if-rest-remainders.false)) in
     let right = c.in-Some.ensures.variant.0 refl in
     let now = c.encode_list.new in
     record {
       call = puts_ended g.Word.BitArray.number g.State.BitArray.number g.Word.BitArray.BITS g.State.BitArray.BITS g.row.PRECISION old within coded (fit_ok g.row.PRECISION coded c.in_ok-check.ensures)
-          (record { some = right.0; window = right.1 }) _ c.in-Some-list.ensures.items (chain_buffers now.heads now.compressed now.compressed_len c.args.remainders.now now.remainders_len) c.in-Ok.ensures;
+          (record { some = right.0; window = right.1 }) _ c.in-Some-list.ensures.items (chain_buffers now.heads now.compressed now.len c.args.remainders.now now.rest) c.in-Ok.ensures;
     }

@@ -13,13 +13,13 @@ returns-in-Err g c =
     let w = g.Word.BitArray.BITS in
     let s = g.State.BitArray.BITS in
     let items = g.L.ItemList.list_items c.args.list.now in
-    let old = chain_buffers c.args.heads.now c.args.compressed.now c.args.compressed_len.now c.args.remainders.now c.args.remainders_len.now in
-    let is : c.from_raw_parts-coder.result.state ≡ state (number c.args.heads.now.compressed) (g.State.BitArray.number c.args.heads.now.remainders) [] (stack_in number c.args.remainders.now c.args.remainders_len.now)
-    = ap (λ coder. coder.state) c.from_raw_parts-coder.ensures.value ∙ rw (c.requires.heads, c.new_at_write_end-lent.ensures, c.new_at_write_beginning.ensures, take-length (take c.args.remainders_len.now c.args.remainders.now)) refl in
+    let old = chain_buffers c.args.heads.now c.args.compressed.now c.args.len.now c.args.remainders.now c.args.rest.now in
+    let is : c.from_raw_parts-coder.result.state ≡ state (number c.args.heads.now.compressed) (g.State.BitArray.number c.args.heads.now.remainders) [] (stack_in number c.args.remainders.now c.args.rest.now)
+    = ap (λ coder. coder.state) c.from_raw_parts-coder.ensures.value ∙ rw (c.requires.heads, c.new_at_write_end-lent.ensures, c.new_at_write_beginning.ensures, take-length (take c.args.rest.now c.args.remainders.now)) refl in
     items_stopped number g.State.BitArray.number w s g.row.PRECISION old items c.in-Err.refusal (elim c.in-Err.ensures.refused [
       | inl memory ↦ inr (rw memory tt)
       | inr (inl never) ↦ inl never
-      | inr (inr ends) ↦ inr (rw ends.0 (lacks_in number w s _ _ c.args.compressed.now c.args.compressed_len.now c.args.remainders.now c.args.remainders_len.now g.met.Word.BitArray.number_law (reverse items) (rw is at ends.1)))
+      | inr (inr ends) ↦ inr (rw ends.0 (lacks_in number w s _ _ c.args.compressed.now c.args.len.now c.args.remainders.now c.args.rest.now g.met.Word.BitArray.number_law (reverse items) (rw is at ends.1)))
     ]) old refl
 
 pub returns-in-Err-finish_encoding : goal.returns-in-Err-finish_encoding
@@ -28,15 +28,15 @@ returns-in-Err-finish_encoding g c =
     let w = g.Word.BitArray.BITS in
     let s = g.State.BitArray.BITS in
     let items = g.L.ItemList.list_items c.args.list.now in
-    let old = chain_buffers c.args.heads.now c.args.compressed.now c.args.compressed_len.now c.args.remainders.now c.args.remainders_len.now in
-    let is : c.from_raw_parts-coder.result.state ≡ state (number c.args.heads.now.compressed) (g.State.BitArray.number c.args.heads.now.remainders) [] (stack_in number c.args.remainders.now c.args.remainders_len.now)
-    = ap (λ coder. coder.state) c.from_raw_parts-coder.ensures.value ∙ rw (c.requires.heads, c.new_at_write_end-lent.ensures, c.new_at_write_beginning.ensures, take-length (take c.args.remainders_len.now c.args.remainders.now)) refl in
+    let old = chain_buffers c.args.heads.now c.args.compressed.now c.args.len.now c.args.remainders.now c.args.rest.now in
+    let is : c.from_raw_parts-coder.result.state ≡ state (number c.args.heads.now.compressed) (g.State.BitArray.number c.args.heads.now.remainders) [] (stack_in number c.args.remainders.now c.args.rest.now)
+    = ap (λ coder. coder.state) c.from_raw_parts-coder.ensures.value ∙ rw (c.requires.heads, c.new_at_write_end-lent.ensures, c.new_at_write_beginning.ensures, take-length (take c.args.rest.now c.args.remainders.now)) refl in
     let now = c.finish_encoding.new in
     let kept = c.in-Err-finish_encoding.ensures.kept in
     items_stopped number g.State.BitArray.number w s g.row.PRECISION old items c.in-Err-finish_encoding.error (inr (of_room _ _ _ _ c.in-Err-finish_encoding.ensures.err
-    (needs_room_in number w s _ _ c.args.compressed.now c.args.compressed_len.now c.args.remainders.now c.args.remainders_len.now g.met.Word.BitArray.number_law (reverse items) c.encode_list_items.new.coder.state
+    (needs_room_in number w s _ _ c.args.compressed.now c.args.len.now c.args.remainders.now c.args.rest.now g.met.Word.BitArray.number_law (reverse items) c.encode_list_items.new.coder.state
     c.requires.compressed (rw is at c.in-Ok.ensures.put))))
-    (chain_buffers now.heads now.compressed now.compressed_len c.args.remainders.now now.remainders_len) (rw (kept.0, kept.1, kept.2, kept.3) refl)
+    (chain_buffers now.heads now.compressed now.len c.args.remainders.now now.rest) (rw (kept.0, kept.1, kept.2, kept.3) refl)
 
 pub returns-in-Ok-finish_encoding : goal.returns-in-Ok-finish_encoding
 returns-in-Ok-finish_encoding g c =
@@ -44,12 +44,12 @@ returns-in-Ok-finish_encoding g c =
     let w = g.Word.BitArray.BITS in
     let s = g.State.BitArray.BITS in
     let items = g.L.ItemList.list_items c.args.list.now in
-    let is : c.from_raw_parts-coder.result.state ≡ state (number c.args.heads.now.compressed) (g.State.BitArray.number c.args.heads.now.remainders) [] (stack_in number c.args.remainders.now c.args.remainders_len.now)
-    = ap (λ coder. coder.state) c.from_raw_parts-coder.ensures.value ∙ rw (c.requires.heads, c.new_at_write_end-lent.ensures, c.new_at_write_beginning.ensures, take-length (take c.args.remainders_len.now c.args.remainders.now)) refl in
+    let is : c.from_raw_parts-coder.result.state ≡ state (number c.args.heads.now.compressed) (g.State.BitArray.number c.args.heads.now.remainders) [] (stack_in number c.args.remainders.now c.args.rest.now)
+    = ap (λ coder. coder.state) c.from_raw_parts-coder.ensures.value ∙ rw (c.requires.heads, c.new_at_write_end-lent.ensures, c.new_at_write_beginning.ensures, take-length (take c.args.rest.now c.args.remainders.now)) refl in
     let e = c.in-Ok-finish_encoding.ensures in
     let now = c.finish_encoding.new in
-    let put = put_in number w s _ _ c.args.compressed.now c.args.compressed_len.now c.args.remainders.now c.args.remainders_len.now g.met.Word.BitArray.number_law (reverse items) _ _ now.remainders_len
-    e.compressed.0 now.compressed now.compressed_len c.encode_list_items.new.coder.state c.requires.remainders (rw is at c.in-Ok.ensures.put) e.heads.0 e.heads.1 e.remainders e.compressed.1 e.compressed.2 in
+    let put = put_in number w s _ _ c.args.compressed.now c.args.len.now c.args.remainders.now c.args.rest.now g.met.Word.BitArray.number_law (reverse items) _ _ now.rest
+    e.compressed.0 now.compressed now.len c.encode_list_items.new.coder.state c.requires.remainders (rw is at c.in-Ok.ensures.put) e.heads.0 e.heads.1 e.remainders e.compressed.1 e.compressed.2 in
     record {
       put = put.1;
       taken = (refl, put.0);

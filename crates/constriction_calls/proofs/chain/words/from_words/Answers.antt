@@ -3,7 +3,9 @@ use Rattle.std.specs.declared.convert.Infallible.{Infallible}
 use Rattle.constriction_base.specs.Backends.{Reads}
 use Rattle.constriction_base.specs.declared.backends.semantics.Stack.{Stack}
 use Rattle.constriction_calls.specs.declared.chain.Form.TheVariants.{InBinary, InCompressed, InRemainders}
-use Rattle.constriction_calls.proofs.ChainWords.{all_taken, begins_at, begins_none, no_binary, no_compressed, no_remainders, of_binary, of_compressed, of_remainders}
+use Rattle.constriction_calls.proofs.ChainWords.{begins_at, begins_none, of_binary, of_compressed, of_remainders}
+use Rattle.constriction_chain.proofs.Starts.{no_binary, no_compressed, no_remainders}
+use Rattle.constriction_inputs.proofs.Stacked.{all_taken}
 use Rattle.constriction_calls.proofs.chain.words.from_words.Goals as goal
 
 pub returns-in-Ok : goal.returns-in-Ok

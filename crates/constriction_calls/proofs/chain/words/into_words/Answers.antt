@@ -2,7 +2,8 @@ use Rattle.std.proofs.Common.{◌≡◌, ◌≤◌, ◌∙◌, ℕ, [], Err, ap,
 use Rattle.constriction_chain.proofs.Chains.{state}
 use Rattle.constriction_inputs.specs.Buffers.{stack_in}
 use Rattle.constriction_calls.specs.declared.chain.Form.TheVariants.{InBinary, InCompressed, InRemainders}
-use Rattle.constriction_calls.proofs.ChainWords.{binary_above, binary_heads, compressed_above, ends_at, heads_above}
+use Rattle.constriction_calls.proofs.ChainWords.{binary_heads, ends_at}
+use Rattle.constriction_chain.proofs.Starts.{binary_above, compressed_above, heads_above}
 use Rattle.constriction_calls.proofs.chain.words.into_words.Goals as goal
 
 pub returns-in-Ok : goal.returns-in-Ok

@@ -1,10 +1,14 @@
-use Rattle.std.proofs.Common.{◌≡◌, ◌∙◌, ◌-◌, ◌≤◌, ℕ, List, ap, arith, length, map, refl, rules, sym}
+use Rattle.std.proofs.Common.{inl, inr, refl, ◌≡◌, ◌∙◌, ◌-◌, ◌≤◌, ℕ, List, ap, arith, length, map, rules, sym}
 use Rattle.std.proofs.lemmas.List.{length-map}
+use Rattle.std.proofs.lemmas.Result.{err_from_is_err_and}
+use Rattle.constriction_queue.specs.Range.{QuantileInInterval, narrowed_by}
 use Rattle.constriction_inputs.specs.Coded.{items}
 use Rattle.constriction_calls.specs.RangeCalls.{ValidDecoder}
-use Rattle.constriction_inputs.proofs.Asking.{fit_ok}
+use Rattle.constriction_inputs.proofs.Asking.{fit_ok, fit_refused, fit_then}
+use Rattle.constriction_inputs.proofs.KnownItems.{known_by}
 use Rattle.constriction_calls.proofs.RangeAnswers.{takes_after, takes_fault, words_moved}
-use Rattle.constriction_calls.proofs.RangeTaking.{finds_same, stands_on, stands_read}
+use Rattle.constriction_queue.proofs.ReadingOn.{finds_same}
+use Rattle.constriction_calls.proofs.RangeSteps.{stands_on, stands_read}
 use Rattle.constriction_calls.proofs.range.decoding.decode.Goals as goal
 
 pub returns-in-Ok : goal.returns-in-Ok
@@ -16,33 +20,35 @@ returns-in-Ok g c =
     let P = g.row.PRECISION in
     let coded = g.G.Models.coded c.args.models.now in
     let buffer = map number c.args.words.now in
-    let symbols = c.args.symbols.now in
+    let counts = g.G.Symbol.Symbol.count_law in
+    let symbols = g.G.Symbol.Symbol.numbers c.args.symbols.now in
+    let put = g.G.Symbol.Symbol.numbers c.put_numbers.new.symbols in
     let old = c.args.decoder.now in
     let new = c.decoder_parts.result in
     let d = c.in-Ok.last in
     let again = c.in-Ok.again.items in
     let size = length-map c.args.words.now number in
     let within : old.pos ≤ length buffer = omega (arith, c.if-decoder-words.false, size) in
-    let fit = fit_ok P (coded symbols) (c.in_ok-check.ensures symbols refl) in
+    let fit = fit_ok P (coded symbols) (c.in_ok-check.ensures symbols (counts c.args.symbols.now)) in
     let is : ValidDecoder state w s old = search rules in
-    let same : c.copy_from_slice.new.self ≡ again = c.copy_from_slice.ensures.after ∙ c.deref.ensures.value in
-    let count : length c.copy_from_slice.new.self ≡ length symbols = ap length same ∙ c.in-Ok.ensures.count in
-    let are = sym (c.in-Some-decoder_list.ensures.items again c.in-Ok.ensures.count) in
+    let count : length put ≡ length symbols = counts c.put_numbers.new.symbols ∙ (c.put_numbers.ensures.count ∙ sym (counts c.args.symbols.now)) in
+    let kept = c.put_numbers.ensures.numbers ∙ ap g.G.Symbol.Symbol.kept c.deref.ensures.value in
     record {
-      call = takes_after state w s P coded buffer old symbols within fit is new c.copy_from_slice.new.self
+      call = takes_after state w s P coded buffer old symbols within fit is new put
           (λ words run at.
           let got = c.in-Ok.ensures.decoded words run (stands_read state w s buffer words run old c.in-Some.reading at c.in-Some.ensures.read) in
-          let found = finds_same w s words _ (items P (coded again)) run got.0 are got.1 in (
+          let same : put ≡ again = kept ∙ g.met.G.DecoderModels.kept_law c.args.models.now again (fit_ok P (coded again) (c.in_ok-check.ensures again c.in-Ok.ensures.count))
+          (known_by (λ e a b. QuantileInInterval w s words e a × (b ≡ narrowed_by w s e a)) (items P (coded again)) run got.0 got.1) in (
             got.0,
-            finds_same w s words (items P (coded again)) (items P (coded c.copy_from_slice.new.self)) run got.0 (ap (λ (xs : List ℕ). items P (coded xs)) (sym same)) found,
-            stands_on state w s buffer words (items P (coded again)) run got.0 old new d at found got.2 c.decoder_parts.ensures.lower c.decoder_parts.ensures.range c.decoder_parts.ensures.point
+            finds_same w s words (items P (coded again)) (items P (coded put)) run got.0 (ap (λ (xs : List ℕ). items P (coded xs)) (sym same)) got.1,
+            stands_on state w s buffer words (items P (coded again)) run got.0 old new d at got.1 got.2 c.decoder_parts.ensures.lower c.decoder_parts.ensures.range c.decoder_parts.ensures.point
                 (c.decoder_parts.ensures.pos ∙ ap (λ n. n - length d.words) (sym size)),
           ))
           (omega (arith, c.decoder_parts.ensures.pos, size)) count;
     }
 
-pub returns : goal.returns
-returns g c =
+pub returns-in-Err : goal.returns-in-Err
+returns-in-Err g c =
     let number = g.Word.BitArray.number in
     let state = g.State.BitArray.number in
     let w = g.Word.BitArray.BITS in
@@ -50,16 +56,49 @@ returns g c =
     let P = g.row.PRECISION in
     let coded = g.G.Models.coded c.args.models.now in
     let buffer = map number c.args.words.now in
-    let symbols = c.args.symbols.now in
+    let counts = g.G.Symbol.Symbol.count_law in
+    let symbols = g.G.Symbol.Symbol.numbers c.args.symbols.now in
     let old = c.args.decoder.now in
     let within : old.pos ≤ length buffer = omega (arith, c.if-decoder-words.false, length-map c.args.words.now number) in
-    let fit = fit_ok P (coded symbols) (c.in_ok-check.ensures symbols refl) in
+    let fit = fit_ok P (coded symbols) (c.in_ok-check.ensures symbols (counts c.args.symbols.now)) in
     let is : ValidDecoder state w s old = search rules in
     record {
       call = takes_fault state w s P coded buffer old symbols within fit is c.in-Err.refusal
           (words_moved c.in-Err.refusal
           (λ none words others run last at all count.
-          none words others run last (stands_read state w s buffer words run old c.in-Some.reading at c.in-Some.ensures.read)
-          (finds_same w s words (items P (coded others)) _ run last (c.in-Some-decoder_list.ensures.items others count) all) count)
+          none words others run last (stands_read state w s buffer words run old c.in-Some.reading at c.in-Some.ensures.read) all (count ∙ counts c.args.symbols.now))
           c.in-Err.ensures.err);
     }
+
+pub returns-in_err-check : goal.returns-in_err-check
+returns-in_err-check g c =
+    let symbols = g.G.Symbol.Symbol.numbers c.args.symbols.now in
+    let within : c.args.decoder.now.pos ≤ length (map g.Word.BitArray.number c.args.words.now) = omega (arith, c.if-decoder-words.false, length-map c.args.words.now g.Word.BitArray.number) in
+    let told = err_from_is_err_and c.from_residual.result c.from_residual.ensures.1 in
+    rw (told.1, told.2)
+    record {
+      call = record {
+        taken = tt;
+        within = tt;
+        asked = inr (
+          within,
+          fit_refused g.row.PRECISION (g.G.Models.coded c.args.models.now symbols) c.in_err-check.field-0.0 (c.in_err-check.ensures symbols (g.G.Symbol.Symbol.count_law c.args.symbols.now)),
+        );
+        kept = (refl, refl);
+      };
+    }
+
+pub returns-in_default : goal.returns-in_default
+returns-in_default g c =
+    let symbols = g.G.Symbol.Symbol.numbers c.args.symbols.now in
+    let coded = g.G.Models.coded c.args.models.now symbols in
+    let within : c.args.decoder.now.pos ≤ length (map g.Word.BitArray.number c.args.words.now) = omega (arith, c.if-decoder-words.false, length-map c.args.words.now g.Word.BitArray.number) in
+    let fit = fit_ok g.row.PRECISION coded (c.in_ok-check.ensures symbols (g.G.Symbol.Symbol.count_law c.args.symbols.now)) in
+    let no : ValidDecoder g.State.BitArray.number g.Word.BitArray.BITS g.State.BitArray.BITS c.args.decoder.now → ⊥ = search rules in
+    record { call = record { taken = tt; within = tt; asked = inr (within, fit_then g.row.PRECISION coded fit (inl (no, refl))); kept = (refl, refl) } }
+
+pub decode_count-requires-clause-fit : goal.decode_count-requires-clause-fit
+decode_count-requires-clause-fit g c =
+    let symbols = g.G.Symbol.Symbol.numbers c.args.symbols.now in
+    let counts = g.G.Symbol.Symbol.count_law c.args.symbols.now in
+    (symbols, counts, fit_ok g.row.PRECISION (g.G.Models.coded c.args.models.now symbols) (c.in_ok-check.ensures symbols counts))

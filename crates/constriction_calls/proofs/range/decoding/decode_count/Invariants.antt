@@ -9,7 +9,7 @@ abbrev pub invariant-loop-i : goal.invariant-loop-i
 invariant-loop-i g l =
     let w = g.Word.BitArray.BITS in
     let s = g.State.BitArray.BITS in
-    let tables = g.L.DecoderModelList.tables l.fn.list in
+    let tables = g.G.DecoderList.DecoderModelList.tables l.initial.list in
     let items = pairs_of g.row.PRECISION (λ (table : List (ℕ × ℕ × ℕ)). table) in
     record {
       counted : length l.again.items ≡ l.i;
@@ -19,5 +19,5 @@ invariant-loop-i g l =
       left : (words symbols : List ℕ) (old last : Run) → StandsAt w s words old l.fn.decoder → FindsAll w s words (items symbols tables) old last
           → length symbols ≡ l.fn.count
           → (mid : Run) × StandsAt w s words mid l.decoder × FindsAll w s words (items (drop l.i symbols) (drop l.i tables)) mid last;
-      tables : g.L.DecoderModelList.tables l.list ≡ tables;
+      tables : g.G.DecoderList.DecoderModelList.tables l.list ≡ tables;
     }

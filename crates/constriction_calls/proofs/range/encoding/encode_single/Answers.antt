@@ -1,12 +1,13 @@
 use Rattle.std.proofs.Common.{◌≡◌, arith, length, refl}
 use Rattle.std.proofs.lemmas.List.{take_all}
 use Rattle.constriction_queue.specs.Encoder.{run_by}
-use Rattle.constriction_calls.proofs.RangePlaces.{is_step_at, narrows_more}
+use Rattle.constriction_calls.proofs.RangeSteps.{narrows_more}
+use Rattle.constriction_inputs.proofs.Places.{is_step_at}
 use Rattle.constriction_calls.proofs.range.encoding.encode_single.Goals as goal
 
 pub encode_interval-requires-clause-step : goal.encode_interval-requires-clause-step
 encode_interval-requires-clause-step g c =
-    is_step_at g.Word.BitArray.BITS g.State.BitArray.BITS g.row.PRECISION g.P.BitArray.BITS (g.I.List.ItemList.list_items c.in_ok-list.list) 0 _ _ c.in_ok-found.ensures.found g.met.P.WordOf.width_law
+    is_step_at g.Word.BitArray.BITS g.row.PRECISION g.P.BitArray.BITS (g.I.List.ItemList.list_items c.in_ok-list.list) 0 _ _ c.in_ok-found.ensures.found g.met.P.WordOf.width_law
 
 pub returns-in-Ok-clause-narrowed : goal.returns-in-Ok-clause-narrowed
 returns-in-Ok-clause-narrowed g c =

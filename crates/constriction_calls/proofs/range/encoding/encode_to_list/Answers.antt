@@ -1,13 +1,14 @@
 use Rattle.std.proofs.Common.{◌∙◌, arith}
 use Rattle.std.proofs.lemmas.List.{take_all}
 use Rattle.constriction_queue.specs.Encoder.{run_by}
-use Rattle.constriction_calls.proofs.RangePlaces.{is_step_at, narrows_more}
+use Rattle.constriction_calls.proofs.RangeSteps.{narrows_more}
+use Rattle.constriction_inputs.proofs.Places.{is_step_at}
 use Rattle.constriction_calls.proofs.range.encoding.encode_to_list.Goals as goal
 
 pub encode_interval-requires-clause-step : goal.encode_interval-requires-clause-step
 encode_interval-requires-clause-step g c =
     let items = g.L.ItemList.list_items c.args.list.now in
-    is_step_at g.Word.BitArray.BITS g.State.BitArray.BITS g.row.PRECISION g.P.BitArray.BITS items c.loop-i.i _ _ (rw c.loop-i.invariant.items at c.in_ok-found.ensures.found) g.met.P.WordOf.width_law
+    is_step_at g.Word.BitArray.BITS g.row.PRECISION g.P.BitArray.BITS items c.loop-i.i _ _ (rw c.loop-i.invariant.items at c.in_ok-found.ensures.found) g.met.P.WordOf.width_law
 
 pub encode_interval-requires-clause-symbols_left : goal.encode_interval-requires-clause-symbols_left
 encode_interval-requires-clause-symbols_left g c =

@@ -1,7 +1,8 @@
 use Rattle.std.proofs.Common.{◌∙◌, ◌≤◌, ap, arith, drop, inr, length, map, pow_pos, rules, sym}
 use Rattle.std.proofs.lemmas.List.{length-map}
 use Rattle.constriction_calls.specs.RangeCalls.{ValidDecoder}
-use Rattle.constriction_calls.proofs.RangeTaking.{as_number, may_end, stands_read}
+use Rattle.constriction_queue.proofs.ReadingOn.{as_number, may_end}
+use Rattle.constriction_calls.proofs.RangeSteps.{stands_read}
 use Rattle.constriction_calls.proofs.range.positions.maybe_exhausted.Goals as goal
 
 pub returns-in-Some : goal.returns-in-Some

@@ -2,7 +2,7 @@ use Rattle.std.proofs.Common.{◌≡◌, ◌∙◌, ◌+◌, ◌-◌, ◌≤◌,
 use Rattle.std.proofs.lemmas.List.{drop-drop, length-drop, take_all}
 use Rattle.constriction_queue.proofs.Seals.{words_of_numbers}
 use Rattle.constriction_calls.specs.RangeCalls.{RangeBegins}
-use Rattle.constriction_calls.proofs.RangeTaking.{sought_kept}
+use Rattle.constriction_queue.proofs.ReadingOn.{sought_kept}
 use Rattle.constriction_calls.proofs.range.positions.seek.Goals as goal
 use Rattle.constriction_base.proofs.Guards.{map-drop}
 

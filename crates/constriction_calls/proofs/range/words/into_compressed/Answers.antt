@@ -4,7 +4,7 @@ use Rattle.constriction_queue.specs.Range.{Run, sealed}
 use Rattle.constriction_calls.specs.RangeCalls.{CanEncode, IsSealed, RangeBuffers, count_needed}
 use Rattle.constriction_inputs.specs.declared.refusal.Refusal.TheVariants as refusals
 use Rattle.constriction_calls.proofs.RangeAnswers.{count_is, seals_after, seals_room}
-use Rattle.constriction_calls.proofs.RangeBuffers.{turned}
+use Rattle.constriction_queue.proofs.Showing.{turned}
 use Rattle.constriction_calls.proofs.range.words.into_compressed.Goals as goal
 
 pub returns-then-count-buffer : goal.returns-then-count-buffer

@@ -2,7 +2,7 @@ use Rattle.std.proofs.Common.{◌∙◌, length, map, refl, ap, arith, rules}
 use Rattle.std.proofs.lemmas.List.{length-map}
 use Rattle.constriction_store.specs.Stores.{entry_at}
 use Rattle.constriction_inputs.specs.Weights.{IsTotal}
-use Rattle.constriction_calls.proofs.Stacked.{lie_within}
+use Rattle.constriction_inputs.proofs.Stacked.{lie_within}
 use Rattle.constriction_calls.proofs.StoreAnswers.{kept_store, space_refused}
 use Rattle.constriction_calls.proofs.StoreIndex.{as_many}
 use Rattle.constriction_calls.proofs.store.building.build.Goals as goal

@@ -7,7 +7,6 @@ use Rattle.constriction_queue.specs.States.{lower_of, range_of}
 use Rattle.constriction_store.specs.Stores.{run_from}
 use Rattle.constriction_inputs.specs.Weights.{IsTotal, weights_model}
 use Rattle.constriction_calls.proofs.RangeAnswers.{words_moved}
-use Rattle.constriction_calls.proofs.RangeTaking.{finds_same}
 use Rattle.constriction_calls.proofs.StoreAnswers.{chunk_given, look_up_refused}
 use Rattle.constriction_calls.proofs.store.looking_up.chunk.Goals as goal
 
@@ -25,8 +24,7 @@ returns-in-Ok-decode_count g c =
     let there_is : there ≡ run_from c.args.pos (state c.args.lower) (state c.args.range) = ap₂ (λ (l r : ℕ). run_from c.args.pos l r) c.in-Ok.ensures.lower c.in-Ok.ensures.range in
     let again = c.in-Ok-decode_count.again.items in
     let got = c.in-Ok-decode_count.ensures.decoded words there c.decoder_at-decoder.ensures.decoder in
-    let by_weights = finds_same w s words _ (items_of (weights_model g.row.PRECISION weights) again) there got.0 (sym (c.in-Some.ensures.items again c.in-Ok-decode_count.ensures.count)) got.1 in
-    let found = subst (λ (r : Run). FindsAll w s words (items_of (weights_model g.row.PRECISION weights) again) r got.0) there_is by_weights in
+    let found = subst (λ (r : Run). FindsAll w s words (items_of (weights_model g.row.PRECISION weights) again) r got.0) there_is got.1 in
     let same = c.copy_from_slice.ensures.after ∙ c.deref.ensures.value in
     record {
       call = chunk_given state w s g.row.PRECISION weights words c.args.pos c.args.lower c.args.range c.args.symbols.now
@@ -36,8 +34,8 @@ returns-in-Ok-decode_count g c =
           );
     }
 
-pub returns : goal.returns
-returns g c =
+pub returns-in-Err : goal.returns-in-Err
+returns-in-Err g c =
     let number = g.Word.BitArray.number in
     let state = g.State.BitArray.number in
     let w = g.Word.BitArray.BITS in
@@ -53,6 +51,6 @@ returns g c =
           (omega (arith, c.if-pos-words.false, length-map c.args.words.now number)) total least c.in-Err.refusal (words_moved c.in-Err.refusal
           (λ none symbols held.
           let all = subst (λ (r : Run). FindsAll w s words (items_of (weights_model g.row.PRECISION weights) symbols) r held.1.0) (sym there_is) held.1.1 in
-          none words symbols there held.1.0 c.decoder_at-decoder.ensures.decoder (finds_same w s words _ _ there held.1.0 (c.in-Some.ensures.items symbols held.0) all) held.0)
+          none words symbols there held.1.0 c.decoder_at-decoder.ensures.decoder all held.0)
           c.in-Err.ensures.err) _ refl;
     }

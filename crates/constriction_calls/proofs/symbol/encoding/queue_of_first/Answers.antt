@@ -1,6 +1,6 @@
 use Rattle.std.proofs.Common.{◌≡◌, ◌∙◌, ◌++◌, ◌∷◌, [], ap, drop, map, sym}
 use Rattle.constriction_symbol.specs.Bits.{bits_of_words}
-use Rattle.constriction_calls.proofs.SymbolPlaces.{off_one, one_longer}
+use Rattle.constriction_symbol.proofs.BitPlaces.{off_one, one_longer}
 use Rattle.constriction_calls.proofs.symbol.encoding.queue_of_first.Goals as goal
 
 pub loop-done-preserved : goal.loop-done-preserved

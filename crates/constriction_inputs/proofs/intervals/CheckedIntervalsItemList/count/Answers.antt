@@ -1,4 +1,4 @@
-use Rattle.std.proofs.Common.{◌≡◌, ◌∙◌, arith, length, map, sym}
+use Rattle.std.proofs.Common.{◌∙◌, arith, map, sym}
 use Rattle.std.proofs.lemmas.List.{length-map}
 use Rattle.constriction_inputs.proofs.IntervalPlaces.{items_counted}
 use Rattle.constriction_inputs.proofs.intervals.CheckedIntervalsItemList.count.Goals as goal

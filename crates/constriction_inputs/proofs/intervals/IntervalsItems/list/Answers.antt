@@ -1,4 +1,4 @@
-use Rattle.std.proofs.Common.{◌≡◌, ◌∙◌, ◌+◌, ◌<◌, ◌≤◌, ◌^◌, ℕ, arith, get_or, length, map, sym}
+use Rattle.std.proofs.Common.{◌∙◌, ◌+◌, ◌<◌, ◌≤◌, ◌^◌, ℕ, arith, get_or, length, map, sym}
 use Rattle.std.proofs.lemmas.List.{length-map}
 use Rattle.constriction_inputs.proofs.IntervalPlaces.{each_within, items_counted}
 use Rattle.constriction_inputs.proofs.intervals.IntervalsItems.list.Goals as goal

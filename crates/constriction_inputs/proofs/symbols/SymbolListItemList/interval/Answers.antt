@@ -1,4 +1,4 @@
-use Rattle.std.proofs.Common.{◌≡◌, ◌<◌, ℕ, List, arith, get_or, length, refl}
+use Rattle.std.proofs.Common.{ℕ, List, arith, refl}
 use Rattle.constriction_base.specs.Models.{Knows}
 use Rattle.constriction_inputs.proofs.Pairs.{pairs_counted}
 use Rattle.constriction_inputs.specs.Items.{HasInterval}

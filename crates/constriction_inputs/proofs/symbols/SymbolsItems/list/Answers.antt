@@ -1,4 +1,4 @@
-use Rattle.std.proofs.Common.{◌≡◌, ℕ, List, arith}
+use Rattle.std.proofs.Common.{ℕ, List, arith}
 use Rattle.constriction_inputs.proofs.Pairs.{pairs_counted}
 use Rattle.constriction_inputs.proofs.symbols.SymbolsItems.list.Goals as goal
 

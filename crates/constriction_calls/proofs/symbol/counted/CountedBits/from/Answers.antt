@@ -2,7 +2,7 @@ use Rattle.std.proofs.Common.{◌≡◌, ◌∙◌, ◌*◌, ◌-◌, ◌/◌, �
 use Rattle.std.proofs.lemmas.List.{length-map, take_rest}
 use Rattle.constriction_symbol.specs.Bits.{bits_of_words}
 use Rattle.constriction_symbol.proofs.Lengths.{length_words}
-use Rattle.constriction_calls.proofs.SymbolPlaces.{from_bit}
+use Rattle.constriction_symbol.proofs.BitPlaces.{from_bit}
 use Rattle.constriction_calls.proofs.symbol.counted.CountedBits.from.Goals as goal
 
 pub invariant_of-bits : goal.invariant_of-bits

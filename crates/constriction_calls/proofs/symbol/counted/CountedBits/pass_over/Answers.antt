@@ -1,4 +1,4 @@
-use Rattle.constriction_calls.proofs.SymbolPlaces.{one_further}
+use Rattle.constriction_symbol.proofs.BitPlaces.{one_further}
 use Rattle.constriction_calls.proofs.symbol.counted.CountedBits.pass_over.Goals as goal
 
 pub loop-done-preserved : goal.loop-done-preserved

@@ -1,7 +1,7 @@
 use Rattle.std.proofs.Common.{◌≡◌, ◌∙◌, ◌-◌, ◌^◌, ap, map}
 use Rattle.std.proofs.lemmas.Iterator.{items_from_drains, YieldsList-from_slice}
 use Rattle.constriction_symbol.specs.Huffman.{huffman}
-use Rattle.constriction_calls.proofs.SymbolTrees.{fit_numbers}
+use Rattle.constriction_symbol.proofs.TreeWeights.{fit_numbers}
 use Rattle.constriction_calls.proofs.symbol.trees.TreeCodes.encoder.Goals as goal
 
 pub returns-in-Ok : goal.returns-in-Ok

@@ -1,7 +1,5 @@
-use Rattle.std.proofs.Common.{◌+◌, ◌*◌, ◌<◌, ◌≤◌, ℕ, List, [], arith, length, rules, subst, sym}
+use Rattle.std.proofs.Common.{◌<◌, ℕ, List, [], arith, subst, sym}
 use Rattle.constriction_base.specs.Tables.{Impossible}
-use Rattle.constriction_models.specs.Categorical.{MakeCategorical}
-use Rattle.constriction_inputs.specs.Mixtures.{row_at_index}
 use Rattle.constriction_inputs.proofs.CountTables.{entry_listed, table_at, tables_counted}
 use Rattle.constriction_inputs.proofs.MixtureTables.{row_ends}
 use Rattle.constriction_inputs.proofs.models.counts.CountListModelList.interval.Goals as goal

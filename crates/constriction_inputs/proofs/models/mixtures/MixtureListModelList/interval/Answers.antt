@@ -1,7 +1,6 @@
-use Rattle.std.proofs.Common.{◌≡◌, ℕ, List, [], get_or, subst}
+use Rattle.std.proofs.Common.{ℕ, List, subst}
 use Rattle.constriction_base.specs.Tables.{Impossible}
 use Rattle.constriction_inputs.specs.Items.{IsEntryOf}
-use Rattle.constriction_inputs.specs.Mixtures.{ByMixture, mixture_tables}
 use Rattle.constriction_inputs.proofs.Places.{table_turned}
 use Rattle.constriction_inputs.proofs.models.mixtures.MixtureListModelList.interval.Goals as goal
 

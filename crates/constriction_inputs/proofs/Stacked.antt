@@ -1,6 +1,6 @@
 -- Words put behind others in a buffer, seen as a stack: those that were put last lie on top.
 use Rattle.std.proofs.Common.{◌≡◌, ◌∙◌, ◌+◌, ◌-◌, ◌≤◌, ℕ, List, ◌++◌, length, map, take, drop, reverse, refl, sym, ap, arith}
-use Rattle.std.proofs.Math.Seq.{drop-append_seam}
+use Rattle.std.proofs.Math.Seq.{drop-append_seam, take-length}
 use Rattle.std.proofs.lemmas.List.{drop-map, length-append, length-map, length-reverse, length-take, length-take-le, map-append, reverse-append, take-take}
 use Rattle.constriction_base.proofs.Turns.{drop_turned}
 use Rattle.constriction_inputs.specs.Buffers.{Appended, stack_in}
@@ -39,3 +39,14 @@ module _ {W : Type 0} (number : W → ℕ) where
 pub lie_within : {W : Type 0} (old added new : List W) (len new_len : ℕ) → len ≤ length old → Appended old len added new new_len → new_len ≤ length new
 lie_within old added new len new_len inside a =
     omega (arith, a.count, ap length a.words, length-append (take len old) added, length-take-le len old inside, length-take new_len new)
+
+-- the words that a cursor has left are the first of a buffer
+pub left_in : {W : Type 0} (number : W → ℕ) (words buf : List W) (pos : ℕ) (t cs : List ℕ) → cs ≡ map number (reverse (take pos buf)) → pos ≤ length buf
+    → map number (reverse (take (length words) words)) ≡ t ++ cs → (pos ≤ length words) × (cs ≡ stack_in number words pos)
+left_in number words buf pos t cs are within is =
+    let rest = rest_in number words (length words) t cs (omega arith) is in
+    let count : length cs ≡ pos = ap length are ∙ length_in number buf pos within in
+    (omega (arith, rest.0, count), rest.1 ∙ ap (λ (n : ℕ). stack_in number words n) count)
+
+pub all_taken : {W : Type 0} (number : W → ℕ) (words : List W) → map number (reverse (take (length words) words)) ≡ map number (reverse words)
+all_taken {W} number words = ap (λ (ws : List W). map number (reverse ws)) (take-length words)

@@ -1,5 +1,5 @@
--- A range encoder over the words of a caller does the same as one over no words: the words below are a multiple that a
--- step carries along. Lists of words have the last word first.
+-- A range encoder above other words does the same as one above none: the words below are a multiple that a step carries
+-- along. Lists of words have the last word first.
 use Rattle.std.proofs.Common.{◌≡◌, ℕ, zero, suc, ◌+◌, ◌-◌, ◌*◌, ◌/◌, ◌%◌, ◌^◌, ◌<◌, ◌≤◌, ◌==◌, if◌then◌else◌, List, [], ◌∷◌, ◌++◌, length, refl, sym, ap, ◌∙◌, inl, inr, arith, pow_pos, append_assoc, append-nil, length-append, eq-eqb, ne_eqb, div-lt_iff_lt-mul, mul-le-mul_right}
 use native.Mathlib.Nat.{pow-suc, pow-zero, add-mul-div_right, add-mul-mod_self_right}
 use Rattle.std.specs.Prelude.{reverse}

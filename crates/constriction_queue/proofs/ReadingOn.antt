@@ -2,7 +2,7 @@
 use Rattle.std.proofs.Common.{◌≡◌, ℕ, ◌+◌, ◌-◌, ◌*◌, ◌/◌, ◌<◌, ◌≤◌, ◌^◌, ◌⊎◌, ◌↔◌, ◌==◌, Bool, true, false, IsTrue, eq-eqb, List, [], ◌∷◌, ◌++◌, Ok, Err, inl, inr, length, drop, refl, sym, ap, ◌∙◌, subst, arith, pow_pos, mod-eq_of_lt, zero-add}
 use Rattle.std.specs.Int.{from_bool}
 use Rattle.std.proofs.lemmas.Bool.{cases_lt, eqb-true, false≢true}
-use Rattle.std.proofs.lemmas.List.{drop-drop, drop_all, length-drop}
+use Rattle.std.proofs.lemmas.List.{drop_all, length-drop}
 use Rattle.constriction_base.specs.declared.backends.reading.Holds as holding
 use Rattle.constriction_base.specs.declared.backends.reading.ReadWords as reading
 use Rattle.constriction_base.specs.declared.errors.CoderError.{CoderError}
@@ -18,8 +18,6 @@ use Rattle.constriction_queue.specs.Calls as calls
 use Rattle.constriction_queue.proofs.Narrowing.{by_growth}
 use Rattle.constriction_queue.proofs.Sought.{sought_is_at}
 use Rattle.constriction_queue.proofs.WordsRead.{first_point}
-use Rattle.constriction_calls.specs.RangeCalls.{IsRead, StandsOver}
-use Rattle.constriction_calls.specs.declared.range.parts.DecoderParts.{DecoderParts}
 use Rattle.constriction_queue.specs.Symbols.{Finds, FindsAll, MayEnd}
 use Rattle.constriction_queue.proofs.ComingBack.{one_decode}
 use Rattle.constriction_queue.proofs.StepCalls.{found_quantile}
@@ -27,14 +25,14 @@ use Rattle.constriction_queue.proofs.StepCalls.{decode_of, ended_of, nears_of}
 
 -- ---- where a cursor stands
 -- so many words are left that those before them are these
-rest_of : {A : Type 0} (k : ℕ) (xs : List A) → drop (length xs - length (drop k xs)) xs ≡ drop k xs
+pub rest_of : {A : Type 0} (k : ℕ) (xs : List A) → drop (length xs - length (drop k xs)) xs ≡ drop k xs
 rest_of k xs = elim (cases_lt (length xs) k) [
   | inl past ↦ drop_all (length xs - length (drop k xs)) xs (omega (arith, length-drop k xs)) ∙ sym (drop_all k xs (omega arith))
   | inr within ↦ (let same : length xs - length (drop k xs) ≡ k = omega (arith, length-drop k xs) in rw same refl)
 ]
 
 -- a decoder reads on and never back
-moves_on : {S : Type 0} (w s : ℕ) (words : List ℕ) (items : List (Item S)) (old last : Run) → FindsAll w s words items old last → old.moves ≤ last.moves
+pub moves_on : {S : Type 0} (w s : ℕ) (words : List ℕ) (items : List (Item S)) (old last : Run) → FindsAll w s words items old last → old.moves ≤ last.moves
 moves_on w s words [] old last all = omega (arith, ap (λ (r : Run). r.moves) all)
 moves_on w s words (item ∷ items) old last (between, (left, p, has, (takes, is)), all) =
     let e : Step = record { precision = item.model.precision; left = left; p = p } in
@@ -42,26 +40,6 @@ moves_on w s words (item ∷ items) old last (between, (left, p, has, (takes, is
     let here : between.moves ≡ (narrowed_by w s e old).moves = ap (λ (r : Run). r.moves) is in
     let rest = moves_on w s words items between last all in
     omega (arith, more, here, rest)
-
-module _ {State B : Type 0} (state : State → ℕ) (w s : ℕ) (buffer words : List ℕ) where
-  -- a decoder of the numbers stands where these do
-  pub stands_read : (run : Run) (d : DecoderParts State) (decoder : Decoder B) → StandsOver state w s buffer words run d → IsRead state buffer d decoder → StandsAt w s words run decoder
-  stands_read run d decoder at is =
-      record { lower_is = is.lower ∙ at.lower_is; range_is = is.range ∙ at.range_is; point_is = is.point ∙ at.point_is; rest_is = is.words ∙ at.rest_is }
-
-  -- and so do the numbers of a decoder that read on
-  pub stands_on : (items : List (Item ℕ)) (run last : Run) (old new : DecoderParts State) (d : Decoder B) → StandsOver state w s buffer words run old
-      → FindsAll w s words items run last → StandsAt w s words last d → state new.lower ≡ d.lower → state new.range ≡ d.range → state new.point ≡ d.point
-      → new.pos ≡ length buffer - length d.words → StandsOver state w s buffer words last new
-  stands_on items run last old new d at all there lower_is range_is point_is pos_is =
-      let moves = moves_on w s words items run last all in
-      let k : ℕ = last.moves - run.moves in
-      let sum : last.moves + s / w ≡ run.moves + s / w + k = omega (arith, moves) in
-      let left : d.words ≡ drop (old.pos + k) buffer =
-      there.rest_is ∙ ap (λ n. drop n words) sum ∙ sym (drop-drop k (run.moves + s / w) words) ∙ ap (λ ws. drop k ws) (sym at.rest_is) ∙ drop-drop k old.pos buffer in
-      let rest : drop new.pos buffer ≡ d.words =
-      ap (λ n. drop n buffer) (pos_is ∙ ap (λ (ws : List ℕ). length buffer - length ws) left) ∙ rest_of (old.pos + k) buffer ∙ sym left in
-      record { lower_is = lower_is ∙ there.lower_is; range_is = range_is ∙ there.range_is; point_is = point_is ∙ there.point_is; rest_is = rest ∙ there.rest_is }
 
 -- a decoder that began at a position, and took its interval
 pub sought_kept : (w s : ℕ) (words part rest : List ℕ) (there : Run) (place lower range first_lower first_range point : ℕ) → IsSizes w s → AreWords w words → AreWords w part

@@ -1,13 +1,11 @@
 -- A coder without words below its head does the same as one over any words: the words below stay.
-use Rattle.std.proofs.Common.{◌≡◌, ℕ, ◌≤◌, List, [], ◌∷◌, ◌++◌, length, map, take, reverse, refl, ap, inl, inr, arith}
-use Rattle.std.proofs.lemmas.List.{length-take, take-take}
+use Rattle.std.proofs.Common.{ℕ, List, [], ◌∷◌, ◌++◌, ap, inl, inr, arith}
 use Rattle.constriction_base.specs.Steps.{Step, IsStep, IsSizes}
 use Rattle.constriction_base.specs.Models.{Item, AreModels}
 use Rattle.constriction_base.proofs.Entering.{entry_is_step}
 use Rattle.constriction_stack.specs.Ans.{AnsState, IsNormalized, IsPush}
 use Rattle.constriction_stack.specs.Symbols.{EncodesAll}
 use Rattle.constriction_stack.proofs.Pushing.{only_push, push_written, push_kept}
-use Rattle.constriction_inputs.specs.Buffers.{stack_in}
 
 -- a state, and more words below it
 abbrev over : AnsState → List ℕ → AnsState
@@ -31,8 +29,3 @@ encodes_over w s rest (item ∷ items) old new z ms v all =
     let h : IsStep w step = entry_is_step w item.model.precision item.model.precision all.1.0 all.1.1 item.model.table item.symbol m.lawful all.1.2 (m.some_bits, omega arith) m.within_word in
     let first = push_over w s step rest old all.0 z h v all.1.3 in
     (over all.0 rest, (all.1.0, all.1.1, all.1.2, first), encodes_over w s rest items all.0 new z ms.1 first.valid all.2)
-
--- the state of a coder that reads the first words of a buffer
-pub lent_state : {W : Type 0} (number : W → ℕ) (head pos left len : ℕ) (lent words : List W) → lent ≡ take len words → pos ≤ length lent → left ≡ pos
-    → ◌≡◌ {A = AnsState} (record { head = head; words = map number (reverse (take pos lent)) }) (record { head = head; words = stack_in number words left })
-lent_state number head pos left len lent words is within same = rw (is, same, take-take pos len words (omega (arith, length-take len words, ap length is))) refl

@@ -1,8 +1,0 @@
-use Rattle.std.proofs.Common.{map, ap}
-use Rattle.constriction_base.specs.Tables.{table_of}
-use Rattle.constriction_inputs.proofs.Listing.{items_listed}
-use Rattle.constriction_inputs.proofs.models.lone.RowModels.list.Goals as goal
-
-pub returns-clause-items : goal.returns-clause-items
-returns-clause-items g c =
-    λ others many. items_listed g.row.PRECISION _ others (table_of (map g.P.BitArray.number c.args.self.now.weights.now)) _ many (ap (λ weights. table_of (map g.P.BitArray.number weights)) c.of_total.ensures)
