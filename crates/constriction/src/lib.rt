@@ -104,9 +104,9 @@
 //!   which many symbols are coded. [`stream::model::CumulativeError`] is the error of making this model.
 //! - [`stream::model::weights_of_counts`]: a function that returns the weights for a histogram's counts.
 //!   [`stream::model::CountsError`] is the error of computing these weights.
-//! - [`stream::model::counts_of_floats`], [`stream::model::put_quick_counts`]: functions that compute counts from floats,
-//!   for `weights_of_counts` and for `CategoricalCounts`. [`stream::model::FloatsError`] is the error of floats that have
-//!   no counts.
+//! - [`stream::model::counts_of_floats`], [`stream::model::put_quick_counts`]: functions that compute counts from
+//!   floats, for `weights_of_counts` and for `CategoricalCounts`. [`stream::model::FloatsError`] is the error of floats
+//!   that have no counts.
 //! - [`stream::model::ContiguousLookupDecoderModel`]: a model for decoding that stores the symbol of each quantile.
 //!   [`stream::model::LookupError`] is the error of building this model.
 //!

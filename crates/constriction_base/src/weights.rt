@@ -239,7 +239,8 @@ impl<Probability: BitArray, const PRECISION: usize> WeightTable<Probability, PRE
         requires { PRECISION ≤ 63 }
         ensures count { IfOk result (λ made. length made.items ≡ length self.now.starts.items) }
         ensures rows { IfOk result (λ made.
-            AreSymbolRows Probability.number (map Probability.number self.now.starts.items) (2 ^ PRECISION) made.items) }
+            AreSymbolRows Probability.number (map Probability.number self.now.starts.items) (2 ^ PRECISION)
+            made.items) }
     {
         let mut made = Vec::with_capacity(alloc, self.starts.len())?;
         for symbol in 0..self.starts.len() {

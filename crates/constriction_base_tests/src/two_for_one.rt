@@ -1,6 +1,7 @@
 //! A caller over any backend, which reads a word and writes two words in its place.
 
-ghost use Rattle.std.specs.Prelude.{◌≡◌, ◌+◌, ◌-◌, ◌<◌, ◌≤◌, ◌∷◌, ◌⊎◌, Option, Result, Ok, Err, Some, None, OnOk, OnErr, IfOk, IfErr, length, reverse, take, drop, slice_get};
+ghost use Rattle.std.specs.Prelude.{◌≡◌, ◌+◌, ◌-◌, ◌<◌, ◌≤◌, ◌∷◌, ◌⊎◌, Option, Result, Ok, Err, Some, None};
+ghost use Rattle.std.specs.Prelude.{OnOk, OnErr, IfOk, IfErr, length, reverse, take, drop, slice_get};
 ghost use Rattle.constriction_base_tests.specs.declared.two_for_one.Refusal.TheVariants as refusal;
 ghost use Rattle.constriction_base.specs.declared.errors.BoundedWriteError.TheVariants.{OutOfSpace};
 
@@ -30,17 +31,22 @@ pub fn two_for_one<Word: BitArray, Backend: ReadWords<Word, Stack> + WriteWords<
 ) -> Result<Option<Word>, Refusal<Word, Backend::ReadError, Backend::WriteError>>
     ensures ok { IfOk result (λ taken. (taken ≡ slice_get (Backend.words backend.old) 0)
         × (Backend.words backend.new ≡ above ∷ below ∷ drop 1 (Backend.words backend.old))) }
-    ensures read { (e : Backend.ReadError) → result ≡ Err (refusal.Read e) → Backend.words backend.new ≡ Backend.words backend.old }
+    ensures read { (e : Backend.ReadError) → result ≡ Err (refusal.Read e)
+        → Backend.words backend.new ≡ Backend.words backend.old }
     ensures prepare { (taken : Option Word) (e : Backend.WriteError) → result ≡ Err (refusal.Prepare taken e) →
         (Backend.words backend.new ≡ drop 1 (Backend.words backend.old))
-        × ((left : Backend) × Backend.reads backend.old (Ok taken) left × Backend.prepare_fails left 2 e × (Backend.room left ≤ Backend.room backend.new)) }
+        × ((left : Backend) × Backend.reads backend.old (Ok taken) left × Backend.prepare_fails left 2 e
+        × (Backend.room left ≤ Backend.room backend.new)) }
     ensures first { (e : Backend.WriteError) → result ≡ Err (refusal.First e) →
         (Backend.words backend.new ≡ drop 1 (Backend.words backend.old))
-        × ((left : Backend) × (taken : Option Word) × Backend.reads backend.old (Ok taken) left × Backend.write_fails left e × (Backend.room left ≡ 0)) }
+        × ((left : Backend) × (taken : Option Word) × Backend.reads backend.old (Ok taken) left
+        × Backend.write_fails left e × (Backend.room left ≡ 0)) }
     ensures second { (e : Backend.WriteError) → result ≡ Err (refusal.Second e) →
         (Backend.words backend.new ≡ below ∷ drop 1 (Backend.words backend.old))
-        × ((left : Backend) × (last : Backend) × (taken : Option Word) × Backend.reads backend.old (Ok taken) left × Backend.write_fails last e × (Backend.room left ≤ 1)) }
-    ensures made { Backend.makes_room → (e : Backend.WriteError) → ((result ≡ Err (refusal.First e)) ⊎ (result ≡ Err (refusal.Second e))) → ⊥ }
+        × ((left : Backend) × (last : Backend) × (taken : Option Word) × Backend.reads backend.old (Ok taken) left
+        × Backend.write_fails last e × (Backend.room left ≤ 1)) }
+    ensures made { Backend.makes_room → (e : Backend.WriteError)
+        → ((result ≡ Err (refusal.First e)) ⊎ (result ≡ Err (refusal.Second e))) → ⊥ }
 {
     let taken = match backend.read() {
         Ok(taken) => taken,
@@ -93,8 +99,10 @@ pub fn two_for_one_before(
     above: u32,
 ) -> Result<Option<u32>, BoundedWriteError>
     requires { 0 < words.old.pos }
-    ensures ok { OnOk result (reverse (take words.new.pos words.new.buf.now) ≡ above ∷ below ∷ drop 1 (reverse (take words.old.pos words.old.buf.now))) }
-    ensures beginning { OnErr result (reverse (take words.new.pos words.new.buf.now) ≡ below ∷ drop 1 (reverse (take words.old.pos words.old.buf.now))) }
+    ensures ok { OnOk result (reverse (take words.new.pos words.new.buf.now)
+        ≡ above ∷ below ∷ drop 1 (reverse (take words.old.pos words.old.buf.now))) }
+    ensures beginning { OnErr result (reverse (take words.new.pos words.new.buf.now)
+        ≡ below ∷ drop 1 (reverse (take words.old.pos words.old.buf.now))) }
     ensures full { IfErr result (λ e. (e ≡ OutOfSpace) × (words.old.pos ≡ length words.old.buf.now)) }
 {
     // The contract of `buf` says that the position is within the buffer.

@@ -85,7 +85,8 @@ impl<'a, P: BitArray, L: ModelList<P, PRECISION>, S: Symbol, const PRECISION: us
 > for SymbolList<'a, P, L, S, PRECISION> {
     const LOOKS_AHEAD: bool = L::LOOKS_AHEAD;
 
-    ghost list_items = { λ list. pairs_of PRECISION (λ table. table) (S.numbers list.symbols.now) (L.tables list.models) };
+    ghost list_items = { λ list. pairs_of PRECISION (λ table. table) (S.numbers list.symbols.now)
+        (L.tables list.models) };
 
     #[inline]
     fn count(&self) -> usize {

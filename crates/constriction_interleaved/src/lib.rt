@@ -1,8 +1,8 @@
 //! Decoding from many stack coders in one call.
 //!
 //! A call takes the steps of several coders in turn. A coder side by side with others is called a lane. The module
-//! [`constriction_stack::lanes`] has the steps of one lane, and says why lanes that take turns are fast. A lane makes of
-//! its words exactly what an [`AnsCoder`](constriction_stack::AnsCoder) makes of them.
+//! [`constriction_stack::lanes`] has the steps of one lane, and says why lanes that take turns are fast. A lane makes
+//! of its words exactly what an [`AnsCoder`](constriction_stack::AnsCoder) makes of them.
 //!
 //! - [`decoding`]: decoding lists of symbols from any number of lanes under one model.
 //!

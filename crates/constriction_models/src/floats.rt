@@ -321,7 +321,8 @@ pub fn put_quick_counts(floats: &[u64], counts: &mut [u32]) -> Result<(), Floats
     requires { length floats.now ≡ length counts.now }
     ensures counts { IfOk result (λ _. counts.new ≡ quick_counts floats.now) }
     ensures table { IfOk result
-        (λ _. (precision : ℕ) → precision ≤ 31 → length floats.now < 2 ^ precision → MakeCategorical precision counts.new) }
+        (λ _. (precision : ℕ) → precision ≤ 31 → length floats.now < 2 ^ precision
+        → MakeCategorical precision counts.new) }
     ensures unchanged { IfErr result (λ _. counts.new ≡ counts.old) }
     ensures invalid { IsErrOf result FloatsError.Invalid ↔ (list_all is_probability floats.now ≡ false) }
     ensures empty { IsErrOf result FloatsError.Empty

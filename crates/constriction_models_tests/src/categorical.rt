@@ -27,8 +27,8 @@ fn is_found(
     found == symbol && begins == left && u16::from_nonzero(length) == p
 }
 
-/// Returns whether `symbol` has the interval of length `p` that begins at `left`, and the first and the last quantile of
-/// the interval decode to `symbol`.
+/// Returns whether `symbol` has the interval of length `p` that begins at `left`, and the first and the last quantile
+/// of the interval decode to `symbol`.
 fn is_interval(model: &CategoricalCounts<u16, 8>, symbol: usize, left: u16, p: u16) -> bool {
     let last = left.saturating_add(p).saturating_sub(1);
     match model.left_cumulative_and_probability(&symbol) {

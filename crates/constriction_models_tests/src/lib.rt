@@ -6,8 +6,8 @@
 //! - Calls that need memory succeed if there is enough memory.
 //! - A caller can make each call.
 //!
-//! `tests/run_unproved` runs the tests of `tests/unproved/constriction_models_tests` without a proof. They cover many ranges at
-//! each word width, and many symbols.
+//! `tests/run_unproved` runs the tests of `tests/unproved/constriction_models_tests` without a proof. They cover many
+//! ranges at each word width, and many symbols.
 //!
 //! `tests/models expected` prints the expected values of [`intervals`], [`mixtures`] and [`weights`]. It computes the
 //! intervals from the formulas of the distributions. It computes the weights with its own code. It doesn't use this

@@ -7,8 +7,8 @@
 //! - A caller can make each call.
 //!
 //! Only these tests fail if a build or a look-up always reports that there is no memory.
-//! `tests/run_unproved` runs the tests of `tests/unproved/constriction_store_tests` without a proof. They cover each word width,
-//! and the texts of errors.
+//! `tests/run_unproved` runs the tests of `tests/unproved/constriction_store_tests` without a proof. They cover each
+//! word width, and the texts of errors.
 //!
 //! The expected values come from a separate computation with an integer of unlimited size. The helpers of [`stores`]
 //! have no contract, and make the calls of a store for most tests.

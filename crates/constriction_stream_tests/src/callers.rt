@@ -1,6 +1,7 @@
 //! Callers that are generic over coders, and use only the coders' traits.
 
-ghost use Rattle.std.specs.Prelude.{◌≡◌, ◌<◌, ◌≤◌, ◌↔◌, ◌∷◌, ◌++◌, List, length, reverse, IfOk, IfErr, IfSome, MatchOption, Ok, Err};
+ghost use Rattle.std.specs.Prelude.{◌≡◌, ◌<◌, ◌≤◌, ◌↔◌, ◌∷◌, ◌++◌, List, length, reverse, IfOk, IfErr, IfSome};
+ghost use Rattle.std.specs.Prelude.{MatchOption, Ok, Err};
 ghost use Rattle.constriction_base.specs.declared.errors.CoderError.TheVariants as coder_error;
 ghost use Rattle.constriction_stream.specs.Lists.{StepsAll};
 ghost use Rattle.constriction_stream.specs.Symbols.{EncodesSymbol, DecodesSymbol};
@@ -49,11 +50,12 @@ where
     M: EncoderModel<8>,
     M::Probability: WordOf<C::Word>,
     requires { length symbols.now ≤ C.symbols_left coder.old }
-    ensures ok { IfOk result (λ _. StepsAll (λ old symbol result new. EncodesSymbol C.encodes C.is_impossible_symbol 8 (M.table model.now) symbol old result new)
+    ensures ok { IfOk result (λ _. StepsAll (λ old symbol result new.
+        EncodesSymbol C.encodes C.is_impossible_symbol 8 (M.table model.now) symbol old result new)
         coder.old symbols.now coder.new) }
-    ensures err { IfErr result (λ e. (coded : List M.Symbol) × (fault : M.Symbol) × (more : List M.Symbol) × (symbols.now ≡ coded ++ fault ∷ more)
-        × (between : C) × StepsAll (λ old symbol result new. EncodesSymbol C.encodes C.is_impossible_symbol 8 (M.table model.now) symbol old result new)
-        coder.old coded between
+    ensures err { IfErr result (λ e. (coded : List M.Symbol) × (fault : M.Symbol) × (more : List M.Symbol)
+        × (symbols.now ≡ coded ++ fault ∷ more) × (between : C) × StepsAll (λ old symbol result new.
+        EncodesSymbol C.encodes C.is_impossible_symbol 8 (M.table model.now) symbol old result new) coder.old coded between
         × EncodesSymbol C.encodes C.is_impossible_symbol 8 (M.table model.now) fault between (Err e) coder.new) }
 {
     coder.encode_iid_symbols(symbols, model)
@@ -72,7 +74,8 @@ where
     C::BackendError: Drop,
     M: DecoderModel<8>,
     M::Probability: WordOf<C::Word>,
-    ensures { MatchOption result ⊥ (λ answer. DecodesSymbol C.decodes C.halts 8 (M.table model.now) coder.old answer coder.new) }
+    ensures { MatchOption result ⊥ (λ answer.
+        DecodesSymbol C.decodes C.halts 8 (M.table model.now) coder.old answer coder.new) }
 {
     let mut symbols = coder.decode_iid_symbols(3, model);
     symbols.next()
@@ -144,8 +147,8 @@ where
     C::BackendError: Drop,
     M: DecoderModel<8>,
     M::Probability: WordOf<C::Word>,
-    ensures { MatchOption result (coder.new ≡ coder.old) (λ answer. (model : M) × (more : List M) × (models.now ≡ model ∷ more)
-        × DecodesSymbol C.decodes C.halts 8 (M.table model) coder.old answer coder.new) }
+    ensures { MatchOption result (coder.new ≡ coder.old) (λ answer. (model : M) × (more : List M)
+        × (models.now ≡ model ∷ more) × DecodesSymbol C.decodes C.halts 8 (M.table model) coder.old answer coder.new) }
 {
     let mut symbols = coder.decode_symbols(models);
     symbols.next()
@@ -184,7 +187,8 @@ where
     M: EncoderModel<8>,
     M::Probability: WordOf<C::Word>,
     requires { length symbols.now ≤ C.symbols_left coder.old }
-    ensures { IfOk result (λ _. StepsAll (λ old symbol result new. EncodesSymbol C.encodes C.is_impossible_symbol 8 (M.table model.now) symbol old result new)
+    ensures { IfOk result (λ _. StepsAll (λ old symbol result new.
+        EncodesSymbol C.encodes C.is_impossible_symbol 8 (M.table model.now) symbol old result new)
         coder.old (reverse symbols.now) coder.new) }
 {
     coder.encode_iid_symbols_reverse(symbols, model)

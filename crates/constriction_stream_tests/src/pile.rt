@@ -1,6 +1,7 @@
 //! The coder of these tests: a pile of quantiles, with room for a limited number of quantiles.
 
-ghost use Rattle.std.specs.Prelude.{◌≡◌, ◌+◌, ◌-◌, ◌%◌, ◌<◌, ◌∷◌, ◌++◌, [], ℕ, vec_len, IsTrue, MatchResult, alloc_error, Result, Ok, ⊤};
+ghost use Rattle.std.specs.Prelude.{◌≡◌, ◌+◌, ◌-◌, ◌%◌, ◌<◌, ◌∷◌, ◌++◌, [], ℕ, vec_len, IsTrue, MatchResult};
+ghost use Rattle.std.specs.Prelude.{alloc_error, Result, Ok, ⊤};
 ghost use Rattle.std.specs.Bool.{OnFalse};
 ghost use Rattle.constriction_base.specs.Tables.{Covers};
 ghost use Rattle.constriction_base.specs.declared.errors.CoderError.{CoderError};
@@ -108,7 +109,8 @@ impl Encode<8> for Pile {
     }
 
     fn maybe_full(&self) -> bool
-        ensures room { OnFalse result (⊤ → HasRoom (⟦<Pile as Encode<8>>⟧.encodes) (⟦<Pile as Encode<8>>⟧.is_lack_of_room) self.now) }
+        ensures room { OnFalse result (⊤ → HasRoom (⟦<Pile as Encode<8>>⟧.encodes)
+            (⟦<Pile as Encode<8>>⟧.is_lack_of_room) self.now) }
         ensures promise { OnFalse result (vec_len self.now.quantiles < self.now.limit) }
         ensures full { self.now.limit ≡ vec_len self.now.quantiles → IsTrue result }
     {
@@ -126,7 +128,8 @@ impl Decode<8> for Pile {
     ghost decodes = { λ old e result new. (result ≡ Ok tt) × (new.limit ≡ old.limit)
         × ((q : ℕ) × (old.quantiles.items ≡ new.quantiles.items ++ q ∷ []) × Covers e.left e.p (q % 256)) };
 
-    ghost halts = { λ old error new. (error ≡ coder_error.Frontend empty.Empty) × (old.quantiles.items ≡ []) × (new.quantiles.items ≡ []) × (new.limit ≡ old.limit) };
+    ghost halts = { λ old error new. (error ≡ coder_error.Frontend empty.Empty) × (old.quantiles.items ≡ [])
+        × (new.quantiles.items ≡ []) × (new.limit ≡ old.limit) };
 
     ghost has_data = { λ pile. 0 < vec_len pile.quantiles };
 

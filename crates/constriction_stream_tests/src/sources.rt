@@ -14,7 +14,8 @@ impl<'a, T> Iterator for Ones<'a, T> {
     type Item = &'a T;
 
     ghost next_gives = { λ old result new. (new.one ≡ old.one)
-        × MatchOption result ((old.count ≡ 0) × (new.count ≡ 0)) (λ one. (one ≡ old.one) × (old.count ≡ new.count + 1)) };
+        × MatchOption result ((old.count ≡ 0) × (new.count ≡ 0))
+        (λ one. (one ≡ old.one) × (old.count ≡ new.count + 1)) };
 
     ghost remaining = { λ ones. at_most ones.count };
 

@@ -8,7 +8,8 @@ use constriction_words::{BitArray, Reciprocal};
 
 /// Returns the sum of `first` and `second`, or `None` if the sum doesn't fit the type.
 pub fn sum<W: BitArray>(first: W, second: W) -> Option<W>
-    ensures { MatchOption result (2 ^ W.BITS ≤ W.number first + W.number second) (λ sum. W.number sum ≡ W.number first + W.number second) }
+    ensures { MatchOption result (2 ^ W.BITS ≤ W.number first + W.number second)
+        (λ sum. W.number sum ≡ W.number first + W.number second) }
 {
     if W::greatest().minus(first).is_below(second) {
         return None;

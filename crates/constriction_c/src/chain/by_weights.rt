@@ -150,9 +150,11 @@ pub fn decode_narrow<
     requires sized { IsSized Word.BITS State.BITS PRECISION }
     requires within { PRECISION ≤ P.BITS }
     requires fits { CoderFits Word.row State.row }
-    ensures call { ChainDecodesListBy Word.BitArray State.BitArray PRECISION (narrow_by_weights S.many (map P.number weights.now))
+    ensures call { ChainDecodesListBy Word.BitArray State.BitArray PRECISION
+        (narrow_by_weights S.many (map P.number weights.now))
         (chain_buffers heads.old compressed.now len.old remainders.old rest.old)
-        (chain_buffers heads.new compressed.now len.new remainders.new rest.new) (S.numbers symbols.old) (S.numbers symbols.new) result }
+        (chain_buffers heads.new compressed.now len.new remainders.new rest.new)
+        (S.numbers symbols.old) (S.numbers symbols.new) result }
 {
     let models = NarrowWeights {
         weights,

@@ -25,7 +25,8 @@ pub extern "C" fn constriction_ans_lanes_encode_reverse_u16(
     needed: &mut usize,
 ) -> u32
     ensures { LanesEncodeU16 result needed.old needed.new (length symbols.now)
-        (by_weights (map (lowest 16) weights.now) symbols.now) heads.old words.old lens.old heads.new words.new lens.new }
+        (by_weights (map (lowest 16) weights.now) symbols.now) heads.old words.old lens.old
+        heads.new words.new lens.new }
 {
     let answer = encode_reverse_by_weights::<_, _, u16, _, 12>(
         alloc, heads, words, lens, weights, symbols,

@@ -24,7 +24,8 @@ pub extern "C" fn constriction_ans_lanes_encode_reverse_u32(
     needed: &mut usize,
 ) -> u32
     ensures { LanesEncodeU32 result needed.old needed.new (length symbols.now)
-        (by_weights (map (lowest 32) weights.now) symbols.now) heads.old words.old lens.old heads.new words.new lens.new }
+        (by_weights (map (lowest 32) weights.now) symbols.now) heads.old words.old lens.old
+        heads.new words.new lens.new }
 {
     let answer = encode_reverse_by_weights::<_, _, u32, _, 24>(
         alloc, heads, words, lens, weights, symbols,

@@ -179,8 +179,8 @@ fn encode_single<
     ensures can { IfSome result
         (λ _. CanEncode Word.number State.number Word.BITS State.BITS parts (I.item_count items.now)) }
     ensures narrowed { IfSome result (λ made. Narrowed Word.number State.number Word.BITS State.BITS
-        (arguments.items PRECISION (I.coded items.now)) (run_of_parts Word.number State.number Word.BITS State.BITS parts [])
-        made.0.now made.1) }
+        (arguments.items PRECISION (I.coded items.now))
+        (run_of_parts Word.number State.number Word.BITS State.BITS parts []) made.0.now made.1) }
 {
     if items.count() != 1 || parts.held > 1 {
         return None;

@@ -170,7 +170,8 @@ pub struct MixtureList<'a, P: WordOf<u32>, const PRECISION: usize> {
     ghost weighed: { length mixtures.weights.now ≡ mixtures.width * count },
     ghost located: { length mixtures.components.locations.now ≡ length mixtures.weights.now },
     ghost stretched: { length mixtures.components.scales.now ≡ length mixtures.weights.now },
-    ghost scaled: { (k : ℕ) → k < length mixtures.components.scales.now → 0 < get_or mixtures.components.scales.now k 0 },
+    ghost scaled: { (k : ℕ) → k < length mixtures.components.scales.now
+        → 0 < get_or mixtures.components.scales.now k 0 },
     ghost mixable: { AreMixable mixtures.width count mixtures.weights.now },
     ghost room: { 0 < count → mixtures.width ≤ vec_capacity mixed.components },
     ghost filled: { place < count →

@@ -35,9 +35,11 @@ impl<'a, P: BitArray, const PRECISION: usize> EntropyModel<PRECISION>
 
     type Probability = P;
 
-    ghost table = { λ m. ⟦<WeightsModel<WeightTable<P, PRECISION>, Row<'a, P, PRECISION>> as EntropyModel<PRECISION>>⟧.table m.model };
+    ghost table = { λ m. ⟦<WeightsModel<WeightTable<P, PRECISION>, Row<'a, P, PRECISION>>
+        as EntropyModel<PRECISION>>⟧.table m.model };
 
-    ghost lawful = { λ m. ⟦<WeightsModel<WeightTable<P, PRECISION>, Row<'a, P, PRECISION>> as EntropyModel<PRECISION>>⟧.lawful m.model };
+    ghost lawful = { λ m. ⟦<WeightsModel<WeightTable<P, PRECISION>, Row<'a, P, PRECISION>>
+        as EntropyModel<PRECISION>>⟧.lawful m.model };
 
     ghost sized = { λ m. Prim.search rules };
 

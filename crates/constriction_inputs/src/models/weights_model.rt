@@ -9,8 +9,8 @@ use constriction_words::{BitArray, Reciprocal};
 /// A model in one of two forms, which a program chooses at run time.
 ///
 /// [`Weights`](crate::models::Weights) chooses a table of weights, or a lookup model for long lists to decode, or the
-/// caller's weights themselves for a single symbol. A lookup model decodes a symbol in less time than a table, but takes
-/// more time and memory to make.
+/// caller's weights themselves for a single symbol. A lookup model decodes a symbol in less time than a table, but
+/// takes more time and memory to make.
 ///
 /// # Examples
 ///

@@ -264,8 +264,8 @@ pub static VALUES: [u64; 2049] = [
 
 /// Estimates of where the distribution function reaches 0, 1/1024, 2/1024, .., 1.
 ///
-/// Each number is the distance from the first place of the table `VALUES`, in 65536ths of the table's spacing. A decoder
-/// begins its search at an estimate. No proof depends on these numbers.
+/// Each number is the distance from the first place of the table `VALUES`, in 65536ths of the table's spacing. A
+/// decoder begins its search at an estimate. No proof depends on these numbers.
 #[rattlefmt::skip]
 pub static GUESSES: [u32; 1025] = [
     43850633, 52574385, 54029998, 54882373, 55487770, 55957886, 56342224, 56667548,

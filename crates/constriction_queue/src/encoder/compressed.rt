@@ -173,7 +173,8 @@ impl<'a, Word: BitArray> Model for RangeCompressedIter<'a, Word> {
 
     ghost Value = { List ℕ };
 
-    ghost view = { λ i. map Word.number i.below.now ++ flushed_in_order Word.number i.seal.held i.seal.point i.seal.zero };
+    ghost view = { λ i. map Word.number i.below.now
+        ++ flushed_in_order Word.number i.seal.held i.seal.point i.seal.zero };
 
     ghost invariant = { λ _. Unit {0} };
 }

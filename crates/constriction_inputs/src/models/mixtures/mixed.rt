@@ -148,7 +148,8 @@ pub(super) fn fill_from_row(
     requires room { width ≤ vec_capacity components.now }
     ensures components { weighted ⟦<FamilyDistribution as CumulativeDistribution>⟧.below components.new.items
         ≡ components_of (Some family)
-        (row_at_index width place weights.now) (row_at_index width place locations.now) (row_at_index width place scales.now) }
+        (row_at_index width place weights.now) (row_at_index width place locations.now)
+        (row_at_index width place scales.now) }
     ensures some { 0
         < total_weight (weighted ⟦<FamilyDistribution as CumulativeDistribution>⟧.below components.new.items) }
     ensures most { total_weight (weighted ⟦<FamilyDistribution as CumulativeDistribution>⟧.below components.new.items)
