@@ -55,7 +55,8 @@ where
         coder.old symbols.now coder.new) }
     ensures err { IfErr result (λ e. (coded : List M.Symbol) × (fault : M.Symbol) × (more : List M.Symbol)
         × (symbols.now ≡ coded ++ fault ∷ more) × (between : C) × StepsAll (λ old symbol result new.
-        EncodesSymbol C.encodes C.is_impossible_symbol 8 (M.table model.now) symbol old result new) coder.old coded between
+        EncodesSymbol C.encodes C.is_impossible_symbol 8 (M.table model.now) symbol old result new)
+        coder.old coded between
         × EncodesSymbol C.encodes C.is_impossible_symbol 8 (M.table model.now) fault between (Err e) coder.new) }
 {
     coder.encode_iid_symbols(symbols, model)
