@@ -248,15 +248,23 @@ def imports(text, body):
     for path, names in re.findall(r"^((?:ghost )?use [\w:.]+(?:::|\.))\{?([^:{};]+)\}?;$", text, re.M):
         used = {it for it in re.findall(r"[^\s,]+", names) if re.search(rf"(?<![\w`]){it.strip('◌')}(?![\w`])", body)}
         found[path] = sorted(used | set(found.get(path, ())), key=lambda it: (it[0] != "◌", it))
-    lines = [path + listed(names, path.startswith("ghost")) + ";" for path, names in found.items() if names]
+    lines = [it for path, names in found.items() if names for it in uses(path, names)]
     ghost = sorted(it for it in lines if it.startswith("ghost"))
     return "\n".join([*ghost, "", *sorted(set(lines) - set(ghost), key=lambda it: ("crate" not in it, it))])
 
 
-def listed(names, is_ghost):
+def uses(path, names):
+    """Returns the imports of a module's names. Those of definitions are lines of at most 120 characters."""
+    if not path.startswith("ghost"):
+        return [f"{path}{listed(names)};"]
+    rows = textwrap.wrap(", ".join(names), 120 - len(path) - len("{};"))
+    return [f"{path}{{{row.rstrip(',')}}};" for row in rows]
+
+
+def listed(names):
     """Returns the names of a module in the layout of `rt fmt`: in lines of at most 100 characters."""
     text = ", ".join(names)
-    if is_ghost or len(names) > 1 and len(text) < 60:
+    if len(names) > 1 and len(text) < 60:
         return f"{{{text}}}"
     return text if len(names) == 1 else "{\n" + textwrap.indent(textwrap.fill(f"{text},", 96), " " * 4) + "\n}"
 

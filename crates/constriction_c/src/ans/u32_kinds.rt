@@ -1,7 +1,8 @@
 // Written by tools/sizes from u32.rt.
 //! More C functions of the stack coder: other models, symbols of 8 and 16 bits, and words in binary form.
 
-ghost use Rattle.constriction_c.specs.U32.{AnsDecodesU32, AnsEncodesU32, AnsExportsU32, intervals_from_u32, narrow_from_u32};
+ghost use Rattle.constriction_c.specs.U32.{AnsDecodesU32, AnsEncodesU32, AnsExportsU32, intervals_from_u32};
+ghost use Rattle.constriction_c.specs.U32.{narrow_from_u32};
 ghost use Rattle.constriction_c.specs.Words.{lowest};
 ghost use Rattle.constriction_calls.specs.AnsCalls.{AreBinary, HasBinary};
 ghost use Rattle.constriction_inputs.specs.Counts.{by_counts};

@@ -1,7 +1,8 @@
 // Written by tools/sizes from u32_kinds.rt.
 //! More C functions of the chain coder: other models, symbols of 8 and 16 bits, binary form, and words of remainders.
 
-ghost use Rattle.constriction_c.specs.U16.{ChainBeginsU16, ChainDecodesU16, ChainEncodesU16, ChainEndsU16, chain_u16, intervals_from_u16, narrow_from_u16};
+ghost use Rattle.constriction_c.specs.U16.{ChainBeginsU16, ChainDecodesU16, ChainEncodesU16, ChainEndsU16, chain_u16};
+ghost use Rattle.constriction_c.specs.U16.{intervals_from_u16, narrow_from_u16};
 ghost use Rattle.constriction_c.specs.Words.{lowest};
 ghost use Rattle.constriction_calls.specs.declared.chain.Form.TheVariants.{InBinary, InRemainders};
 ghost use Rattle.constriction_inputs.specs.Counts.{by_counts};

@@ -1,7 +1,8 @@
 // Written by tools/sizes from u32.rt.
 //! More C functions of the chain coder: other models, symbols of 8 and 16 bits, binary form, and words of remainders.
 
-ghost use Rattle.constriction_c.specs.U32.{ChainBeginsU32, ChainDecodesU32, ChainEncodesU32, ChainEndsU32, chain_u32, intervals_from_u32, narrow_from_u32};
+ghost use Rattle.constriction_c.specs.U32.{ChainBeginsU32, ChainDecodesU32, ChainEncodesU32, ChainEndsU32, chain_u32};
+ghost use Rattle.constriction_c.specs.U32.{intervals_from_u32, narrow_from_u32};
 ghost use Rattle.constriction_c.specs.Words.{lowest};
 ghost use Rattle.constriction_calls.specs.declared.chain.Form.TheVariants.{InBinary, InRemainders};
 ghost use Rattle.constriction_inputs.specs.Counts.{by_counts};

@@ -1,7 +1,8 @@
 // Written by tools/sizes from u32.rt.
 //! More C functions of the range coder: other models, symbols of 8 and 16 bits, and self-delimiting words.
 
-ghost use Rattle.constriction_c.specs.U32.{RangeDecodesU32, RangeEncodesU32, RangeEndsU32, intervals_from_u32, narrow_from_u32};
+ghost use Rattle.constriction_c.specs.U32.{RangeDecodesU32, RangeEncodesU32, RangeEndsU32, intervals_from_u32};
+ghost use Rattle.constriction_c.specs.U32.{narrow_from_u32};
 ghost use Rattle.constriction_c.specs.Words.{lowest};
 ghost use Rattle.constriction_calls.specs.RangeCalls.{IsSelfSealed, RangeSeals};
 ghost use Rattle.constriction_inputs.specs.Counts.{by_counts};
