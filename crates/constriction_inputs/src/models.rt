@@ -14,8 +14,10 @@ mod guided;
 mod indexed;
 mod mixtures;
 mod narrow_weights;
+pub mod row_lookup;
 mod rows;
 pub mod table_or_row;
+pub mod table_or_rows;
 pub mod weights;
 pub mod weights_model;
 

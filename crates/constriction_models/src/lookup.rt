@@ -5,8 +5,8 @@
 //! and a symbol takes 2 bytes. A load instruction can itself multiply an index by these sizes. At a precision of 12
 //! bits, both lists together then take 24 KiB, so they fit the first-level cache.
 
-ghost use Rattle.std.specs.Prelude.{◌≡◌, ◌+◌, ◌^◌, ◌<◌, ◌≤◌, IfOk, IfSome, IsErrOf, IsNone};
-ghost use Rattle.constriction_base.specs.Tables.{Has, Covers};
+ghost use Rattle.std.specs.Prelude.{◌≡◌, ◌+◌, ◌^◌, ◌<◌, ◌≤◌, ℕ, List, IfOk, IfSome, IsErrOf, IsNone};
+ghost use Rattle.constriction_base.specs.Tables.{Has, Covers, IsTable};
 ghost use Rattle.constriction_models.specs.Lookup.{AreRows, HasHighSymbol, HasLowSymbols};
 
 use constriction_base::model::{DecoderModel, EncoderModel, EntropyModel};
@@ -37,13 +37,31 @@ pub enum LookupError {
 
 /// The start and the length of the interval that holds a quantile.
 #[derive(Drop, Clone, Copy)]
-struct Row<P: Copy + Drop, N: Copy + Drop> {
-    left: P,
-    weight: N,
+pub struct Row<P: Copy + Drop, N: Copy + Drop> {
+    pub left: P,
+    pub weight: N,
 }
 
 /// A list of rows whose starts and lengths have the probability type `P`.
 type Rows<P> = Vec<Row<P, <P as BitArray>::NonZero>>;
+
+/// The interval and the symbol of each quantile under a model.
+///
+/// # Examples
+///
+/// ```
+/// let model = UniformModel::<u8, 8>::new(10)?;
+/// if let Some(rows) = LookupRows::new(alloc, &model) {
+///     rows.find::<8>(60) // (2, 50, 25): symbol 2 has the quantiles from 50 to 74
+/// }
+/// ```
+#[derive(Drop)]
+pub struct LookupRows<P: BitArray> {
+    /// The interval that holds each quantile.
+    pub rows: Rows<P>,
+    /// The symbol of each quantile.
+    pub symbols: Vec<u16>,
+}
 
 /// A model of the symbols `0`, `1`, .. with a row for each quantile, so that one look-up finds a quantile's symbol.
 ///
@@ -64,12 +82,9 @@ pub struct ContiguousLookupDecoderModel<
     const PRECISION: usize,
 > {
     model: M,
-    /// The interval that holds each quantile.
-    rows: Rows<M::Probability>,
-    /// The symbol of each quantile.
-    symbols: Vec<u16>,
+    rows: LookupRows<M::Probability>,
     ghost found: { AreRows M.Probability.number M.Probability.nonzero_number (M.table model)
-        symbols.items rows.items (2 ^ PRECISION) },
+        rows.symbols.items rows.rows.items (2 ^ PRECISION) },
 }
 
 /// Returns the row of `quantile`, and the symbol and the end of the interval that holds `quantile`.
@@ -163,6 +178,45 @@ fn reason_against<M: DecoderModel<PRECISION, Symbol = usize>, const PRECISION: u
     LookupError::Memory
 }
 
+impl<P: BitArray> LookupRows<P> {
+    /// Makes the rows of `model`. The caller proves that `PRECISION` is at most 16 bits.
+    ///
+    /// The call returns `None` if the model has a symbol above 65535, or if there is no memory for the rows. See the
+    /// type's documentation for an example.
+    pub fn new<M: DecoderModel<PRECISION, Symbol = usize, Probability = P>, const PRECISION: usize>(
+        alloc: Global,
+        model: &M,
+    ) -> Option<Self>
+        requires { PRECISION ≤ 16 }
+        ensures found { IfSome result (λ made. AreRows P.number P.nonzero_number (M.table model.now)
+            made.symbols.items made.rows.items (2 ^ PRECISION)) }
+        ensures fits { IfSome result (λ _. HasLowSymbols (M.table model.now)) }
+    {
+        match rows_of(alloc, model) {
+            Some((rows, symbols)) => Some(LookupRows { rows, symbols }),
+            None => None,
+        }
+    }
+
+    /// Returns the symbol of `quantile`, and the start and the length of the interval that holds `quantile`.
+    ///
+    /// The caller proves that these are the rows of a model, and that `quantile` is below `2 ^ PRECISION`.
+    #[inline(always)]
+    pub fn find<const PRECISION: usize>(&self, quantile: P) -> (usize, P, <P as BitArray>::NonZero)
+        requires rows { (table : List (ℕ × ℕ × ℕ)) × AreRows P.number P.nonzero_number table
+            self.now.symbols.items self.now.rows.items (2 ^ PRECISION) }
+        requires quantile { P.number quantile < 2 ^ PRECISION }
+        ensures { (table : List (ℕ × ℕ × ℕ)) → IsTable PRECISION table → AreRows P.number P.nonzero_number table
+            self.now.symbols.items self.now.rows.items (2 ^ PRECISION)
+            → Has table result.0 (P.number result.1) (P.nonzero_number result.2)
+            × Covers (P.number result.1) (P.nonzero_number result.2) (P.number quantile) }
+    {
+        let place = quantile.to_index();
+        let row = &self.rows[place];
+        (self.symbols[place] as usize, row.left, row.weight)
+    }
+}
+
 impl<
     M: EncoderModel<PRECISION, Symbol = usize> + DecoderModel<PRECISION, Symbol = usize>,
     const PRECISION: usize,
@@ -183,14 +237,10 @@ impl<
         ensures symbol { IsErrOf result LookupError.Symbol → HasHighSymbol (M.table model) }
         ensures memory { IsErrOf result LookupError.Memory → HasLowSymbols (M.table model) }
     {
-        let Some((rows, symbols)) = rows_of(alloc, &model) else {
-            return Err(reason_against(&model));
-        };
-        Ok(ContiguousLookupDecoderModel {
-            model,
-            rows,
-            symbols,
-        })
+        match LookupRows::new(alloc, &model) {
+            Some(rows) => Ok(ContiguousLookupDecoderModel { model, rows }),
+            None => Err(reason_against(&model)),
+        }
     }
 }
 
@@ -227,8 +277,6 @@ impl<M: EncoderModel<PRECISION, Symbol = usize>, const PRECISION: usize> Decoder
         &self,
         quantile: M::Probability,
     ) -> (usize, M::Probability, <M::Probability as BitArray>::NonZero) {
-        let place = quantile.to_index();
-        let row = &self.rows[place];
-        (self.symbols[place] as usize, row.left, row.weight)
+        self.rows.find::<PRECISION>(quantile)
     }
 }

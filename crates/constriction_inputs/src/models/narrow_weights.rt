@@ -4,7 +4,8 @@ ghost use Rattle.std.specs.Prelude.{◌≡◌, length, map};
 ghost use Rattle.constriction_inputs.specs.Weights.{narrow_by_weights};
 ghost use Rattle.constriction_inputs.specs.laws.Weights.{known_below};
 
-use crate::models::weights::{TableOrRows, WeightsList};
+use crate::models::table_or_rows::TableOrRows;
+use crate::models::weights::WeightsList;
 use crate::models::{DecoderModels, Models, One, Weights};
 use crate::refusal::Refusal;
 use crate::symbol::Symbol;

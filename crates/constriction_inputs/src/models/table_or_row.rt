@@ -11,6 +11,12 @@ use constriction_base::model::{DecoderModel, EncoderModel, EntropyModel};
 use constriction_base::weights::WeightTable;
 use constriction_words::{BitArray, Reciprocal};
 
+/// The two forms of the model.
+type Forms<'a, P, const PRECISION: usize> = WeightsModel<
+    WeightTable<P, PRECISION>,
+    Row<'a, P, PRECISION>,
+>;
+
 /// A [`WeightTable`], or a [`Row`] whose look-up adds up weights.
 ///
 /// A proof about a call with this model mentions this type, and none of the types that it is made of, which makes the
@@ -35,11 +41,9 @@ impl<'a, P: BitArray, const PRECISION: usize> EntropyModel<PRECISION>
 
     type Probability = P;
 
-    ghost table = { λ m. ⟦<WeightsModel<WeightTable<P, PRECISION>, Row<'a, P, PRECISION>>
-        as EntropyModel<PRECISION>>⟧.table m.model };
+    ghost table = { λ m. ⟦<Forms<'a, P, PRECISION> as EntropyModel<PRECISION>>⟧.table m.model };
 
-    ghost lawful = { λ m. ⟦<WeightsModel<WeightTable<P, PRECISION>, Row<'a, P, PRECISION>>
-        as EntropyModel<PRECISION>>⟧.lawful m.model };
+    ghost lawful = { λ m. ⟦<Forms<'a, P, PRECISION> as EntropyModel<PRECISION>>⟧.lawful m.model };
 
     ghost sized = { λ m. Prim.search rules };
 

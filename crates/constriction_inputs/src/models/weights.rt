@@ -7,7 +7,9 @@ ghost use Rattle.constriction_inputs.specs.Weights.{by_weights, IsTotal};
 ghost use Rattle.std.proofs.Common.{refl};
 
 use crate::known::is_known;
+use crate::models::row_lookup::RowLookup;
 use crate::models::table_or_row::TableOrRow;
+use crate::models::table_or_rows::TableOrRows;
 use crate::models::weights_model::WeightsModel;
 use crate::models::{DecoderModels, ModelList, Models, One};
 use crate::refusal::Refusal;
@@ -16,15 +18,8 @@ use crate::rows::adding::is_total;
 use crate::symbol::Symbol;
 use constriction_base::model::EntropyModel;
 use constriction_base::weights::WeightTable;
-use constriction_models::lookup::ContiguousLookupDecoderModel;
 use constriction_words::{BitArray, Reciprocal};
 use std::alloc::Global;
-
-/// The model of a list of weights to decode with: a [`TableOrRow`], or a lookup model with a row for each quantile.
-pub type TableOrRows<'a, P, const PRECISION: usize> = WeightsModel<
-    TableOrRow<'a, P, PRECISION>,
-    ContiguousLookupDecoderModel<WeightTable<P, PRECISION>, PRECISION>,
->;
 
 /// One table of weights for all symbols to encode or decode.
 ///
@@ -35,8 +30,8 @@ pub type TableOrRows<'a, P, const PRECISION: usize> = WeightsModel<
 ///
 /// To decode at least `2 ^ PRECISION` symbols at a precision of at most 14 bits, `decoder_list` makes a lookup model,
 /// which decodes a symbol in less time than a table of weights. While the list exists, the lookup model takes 6 bytes
-/// per quantile if weights are `u16`, and 10 bytes if they are `u32`, in addition to the table. If the lookup model
-/// can't be made, `decoder_list` returns a table of weights.
+/// per quantile if weights are `u16`, and 10 bytes if they are `u32`. If the lookup model can't be made, `decoder_list`
+/// returns a table of weights.
 ///
 /// # Examples
 ///
@@ -181,27 +176,27 @@ pub fn decoder_by<'a, P: BitArray, const PRECISION: usize>(
 {
     if count <= 1 {
         let row = Row::of_total(weights);
-        return Some(WeightsModel::Table(TableOrRow {
-            model: WeightsModel::Rows(row),
-        }));
+        return Some(TableOrRows {
+            model: WeightsModel::Table(TableOrRow {
+                model: WeightsModel::Rows(row),
+            }),
+        });
     }
     let Some(table) = table_by(alloc, weights, false) else {
         return None;
     };
-    if PRECISION > 14 || count < 1usize << PRECISION {
-        return Some(WeightsModel::Table(TableOrRow {
+    if PRECISION <= 14 && count >= 1usize << PRECISION {
+        if let Some(lookup) = RowLookup::new(alloc, weights, &table) {
+            return Some(TableOrRows {
+                model: WeightsModel::Rows(lookup),
+            });
+        }
+    }
+    Some(TableOrRows {
+        model: WeightsModel::Table(TableOrRow {
             model: WeightsModel::Table(table),
-        }));
-    }
-    if let Ok(rows) = ContiguousLookupDecoderModel::new(alloc, table) {
-        return Some(WeightsModel::Rows(rows));
-    }
-    match table_by(alloc, weights, false) {
-        Some(table) => Some(WeightsModel::Table(TableOrRow {
-            model: WeightsModel::Table(table),
-        })),
-        None => None,
-    }
+        }),
+    })
 }
 
 /// Returns the table of the symbols `0`, `1`, .. with the weights `weights`.
