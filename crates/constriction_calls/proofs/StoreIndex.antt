@@ -23,19 +23,16 @@ pub entries_are : (entries : List Entry) (places lowers ranges lengths : List �
 entries_are entries places lowers ranges lengths place lower range len = rw (place, lower, range, ← len) (same_entries entries)
 
 -- ---- chunks
-pub sum_cons : (x : ℕ) (xs : List ℕ) → sum (x ∷ xs) ≡ x + sum xs
-sum_cons x xs = sum_by-cons (λ n. n) x xs
-
 -- the first of the numbers that are left
 pub sum_more : (xs : List ℕ) (i : ℕ) → i < length xs → sum (drop i xs) ≡ get_or xs i 0 + sum (drop (i + 1) xs)
-sum_more xs i inside = ap sum (drop_more xs i 0 inside) ∙ sum_cons (get_or xs i 0) (drop (i + 1) xs)
+sum_more xs i inside = ap sum (drop_more xs i 0 inside) ∙ sum_by-cons (λ n. n) (get_or xs i 0) (drop (i + 1) xs)
 
 -- the chunks are as long as the lengths say
 pub cut_lengths : (symbols lengths : List ℕ) → sum lengths ≤ length symbols → map (λ (chunk : List ℕ). length chunk) (chunks_by symbols lengths) ≡ lengths
 cut_lengths symbols [] few = refl
 cut_lengths symbols (len ∷ lengths) few =
-    ap₂ (λ (x : ℕ) (xs : List ℕ). x ∷ xs) (length-take-le len symbols (omega (arith, few, sum_cons len lengths)))
-    (cut_lengths (drop len symbols) lengths (omega (arith, few, sum_cons len lengths, length-drop len symbols)))
+    ap₂ (λ (x : ℕ) (xs : List ℕ). x ∷ xs) (length-take-le len symbols (omega (arith, few, sum_by-cons (λ n. n) len lengths)))
+    (cut_lengths (drop len symbols) lengths (omega (arith, few, sum_by-cons (λ n. n) len lengths, length-drop len symbols)))
 
 -- as many entries as lengths
 pub as_many : (w s : ℕ) (model : Model ℕ) (symbols lengths : List ℕ) (entries : List Entry) (old new : Run) → sum lengths ≤ length symbols → Indexes w s model (chunks_by symbols lengths) entries old new
@@ -51,7 +48,7 @@ known_chunks w s model (x ∷ xs) [] entries old new is all = absurd (omega (ari
 known_chunks w s model symbols (len ∷ lengths) [] old new is all = absurd all
 known_chunks w s model symbols (len ∷ lengths) (e ∷ es) old new is all =
     let first = known_by (λ e a b. b ≡ narrowed_by w s e a) (items_of model (take len symbols)) old all.2.0 all.2.1 in
-    let others = known_chunks w s model (drop len symbols) lengths es all.2.0 new (omega (arith, is, sum_cons len lengths, length-drop len symbols)) all.2.2 in
+    let others = known_chunks w s model (drop len symbols) lengths es all.2.0 new (omega (arith, is, sum_by-cons (λ n. n) len lengths, length-drop len symbols)) all.2.2 in
     subst (λ (xs : List ℕ). AreKnown (items_of model xs)) (take-append-drop len symbols)
     (rw (map-append (item_of model) (take len symbols) (drop len symbols)) (all-append _ (items_of model (take len symbols)) (items_of model (drop len symbols)) first others))
 

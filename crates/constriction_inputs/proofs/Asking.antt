@@ -36,13 +36,11 @@ module _ (precision : ℕ) (coded : Coded) where
     | inr (l, inr (i, inr (w, never))) ↦ absurd never
   ]
 
--- a check that went well for all lists of so many symbols went well for one
-pub fit_some : {T : Type 0} {x : T} (precision : ℕ) (coded : List ℕ → Coded) (count : ℕ) → ((ns : List ℕ) → length ns ≡ count → AsksFit {T = T} precision (coded ns) (Otherwise NoRefusal) (Ok x))
-    → (symbols : List ℕ) × (length symbols ≡ count) × AreFit precision (coded symbols)
-fit_some precision coded count checked =
-    let zeros : List ℕ = replicate count 0 in
-    let many : length zeros ≡ count = length-replicate count 0 in
-    (zeros, many, fit_ok precision (coded zeros) (checked zeros many))
+-- the arguments fit some list of so many symbols, if they fit all
+pub fit_some : (precision : ℕ) (coded : List ℕ → Coded) (count : ℕ) → ((ns : List ℕ) → length ns ≡ count → AreFit precision (coded ns)) → (symbols : List ℕ) × (length symbols ≡ count) × AreFit precision (coded symbols)
+fit_some precision coded count fit =
+    let many : length (replicate count 0) ≡ count = length-replicate count 0 in
+    (replicate count 0, many, fit (replicate count 0) many)
 
 -- want of room, or of memory
 pub room_of : {B : Type 0} (needs : ℕ → Type 0) (e : Refusal) (n : ℕ) → (e ≡ NoSpace n) ⊎ ((e ≡ NoMemory) × B) → needs n → NoMemoryOrSpace needs e

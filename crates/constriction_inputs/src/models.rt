@@ -22,7 +22,7 @@ pub mod weights;
 pub mod weights_model;
 
 ghost use Rattle.std.specs.Prelude.{◌≡◌, ◌↔◌, ◌<◌, ◌≤◌, ℕ, List, [], get_or, length, map, replicate};
-ghost use Rattle.std.specs.Prelude.{IfNone, IfSome, IsTrue};
+ghost use Rattle.std.specs.Prelude.{IfNone, IfOk, IfSome, IsTrue};
 ghost use Rattle.constriction_base.specs.Models.{AreKnown};
 ghost use Rattle.constriction_base.specs.Tables.{Impossible};
 ghost use Rattle.constriction_inputs.specs.Coded.{AreFit, AreTablesFor, AsksFit, Coded, items};
@@ -173,6 +173,32 @@ pub trait DecoderModels<P: BitArray, const PRECISION: usize>: Models<P, PRECISIO
     // The type of the decoded symbols has a value for each symbol that the models have an entry for.
     ghost kept_law: { (given : Self) (ns : List ℕ) → AreFit PRECISION (Self.coded given ns)
         → AreKnown (items PRECISION (Self.coded given ns)) → Self.Symbol.kept ns ≡ ns };
+}
+
+/// Checks that the caller's arguments describe a model for each of `symbols`, whichever symbols these are.
+///
+/// The call needs no memory.
+///
+/// # Errors
+///
+/// The call returns the errors of [`Models::check`].
+///
+/// # Examples
+///
+/// ```
+/// check_for::<u8, _, 8>(&Weights { weights: &[255u8, 1] }, &[0, 1, 0]) // Ok(())
+/// ```
+pub fn check_for<P: BitArray, G: DecoderModels<P, PRECISION>, const PRECISION: usize>(
+    models: &G,
+    symbols: &[G::Symbol],
+) -> Result<(), Refusal>
+    requires { (1 ≤ PRECISION) × (PRECISION ≤ P.BITS) }
+    ensures asked { AsksFit PRECISION (G.coded models.now (G.Symbol.numbers symbols.now))
+        (Otherwise NoRefusal) result }
+    ensures fit { IfOk result (λ _. (ns : List ℕ) → length ns ≡ length symbols.now
+        → AreFit PRECISION (G.coded models.now ns)) }
+{
+    models.check(symbols.len())
 }
 
 /// A list of models for symbols that all have the same model. The list stores the model once.

@@ -9,7 +9,7 @@ ghost use Rattle.constriction_stack.specs.Symbols.{Decodes, DecodesAll};
 use constriction_base::cursor::Cursor;
 use constriction_base::errors::CoderError;
 use constriction_base::model::{DecoderModel, EntropyModel};
-use constriction_inputs::models::{DecoderModelList, DecoderModels, Models};
+use constriction_inputs::models::{DecoderModelList, DecoderModels, check_for};
 use constriction_inputs::refusal::Refusal;
 use constriction_inputs::symbol::Symbol;
 use constriction_stack::coder::AnsCoder;
@@ -49,7 +49,7 @@ pub fn decode<
     if *len > words.len() {
         return Err(Refusal::WrongLength);
     }
-    models.check(symbols.len())?;
+    check_for(models, symbols)?;
     let Some(mut list) = models.decoder_list(alloc, symbols.len()) else {
         return Err(Refusal::NoMemory);
     };

@@ -18,7 +18,7 @@ use constriction_base::errors::CoderError;
 use constriction_base::model::{DecoderModel, EntropyModel};
 use constriction_chain::{ChainCoder, ChainCoderHeads};
 use constriction_inputs::buffers::append;
-use constriction_inputs::models::{DecoderModelList, DecoderModels, Models};
+use constriction_inputs::models::{DecoderModelList, DecoderModels, check_for};
 use constriction_inputs::refusal::Refusal;
 use constriction_inputs::symbol::put_numbers;
 use constriction_stream::decoding::Decode;
@@ -71,7 +71,7 @@ pub fn decode<
     if *len > compressed.len() || *rest > remainders.len() {
         return Err(Refusal::WrongLength);
     }
-    models.check(symbols.len())?;
+    check_for(models, symbols)?;
     let Some(both) = ChainCoderHeads::new(heads.compressed, heads.remainders) else {
         return Err(Refusal::InvalidData);
     };

@@ -10,7 +10,7 @@ ghost use Rattle.constriction_inputs.specs.Coded.{AreFit, items};
 ghost use Rattle.constriction_inputs.specs.Refusals.{NoMemoryOrInvalid};
 
 use crate::range::parts::{DecoderParts, Reading, decoder_of, decoder_parts};
-use constriction_inputs::models::{DecoderModelList, DecoderModels};
+use constriction_inputs::models::{DecoderModelList, DecoderModels, check_for};
 use constriction_inputs::refusal::Refusal;
 use constriction_inputs::symbol::put_numbers;
 use constriction_stream::decoding::Decode;
@@ -77,6 +77,7 @@ pub(crate) fn decode_count<
 ///
 /// - `InvalidData` if `decoder.point` and the words from `decoder.pos` on don't encode `symbols.len()` symbols.
 /// - `NoMemory` if there is no memory.
+#[tactic(auto, using(constriction_inputs::proofs::Asking::fit_some))]
 pub fn decode<
     Word: WordOf<State>,
     State: BitArray,
@@ -99,7 +100,7 @@ pub fn decode<
     if decoder.pos > words.len() {
         return Err(Refusal::WrongLength);
     }
-    models.check(symbols.len())?;
+    check_for(models, symbols)?;
     let Some(reading) = decoder_of(words, *decoder) else {
         return Err(Refusal::InvalidData);
     };

@@ -20,7 +20,7 @@ returns-in-Err g c =
     let counts = g.G.Symbol.Symbol.count_law in
     let coded = g.G.Models.coded c.args.models.now in
     let symbols = g.G.Symbol.Symbol.numbers c.args.symbols.now in
-    let fit = fit_ok g.row.PRECISION (coded symbols) (c.in_ok-check.ensures symbols (counts c.args.symbols.now)) in
+    let fit = fit_ok g.row.PRECISION (coded symbols) c.in_ok-check_for.ensures.asked in
     let right = c.in-Some.ensures.variant.0 refl in
     let is : c.from_raw_parts-coder.result.state ≡ state (number c.args.heads.now.compressed) (g.State.BitArray.number c.args.heads.now.remainders) (stack_in number c.args.compressed.now c.args.len.now) []
     = ap (λ coder. coder.state) c.from_raw_parts-coder.ensures.value ∙ rw (c.in-Some.ensures.value, c.new_at_write_end-lent.ensures, c.new-2.ensures.items, take-length (take c.args.len.now c.args.compressed.now)) refl in
@@ -38,7 +38,7 @@ returns-in-Err-finish_decoding g c =
     let counts = g.G.Symbol.Symbol.count_law in
     let coded = g.G.Models.coded c.args.models.now in
     let symbols = g.G.Symbol.Symbol.numbers c.args.symbols.now in
-    let fit = fit_ok g.row.PRECISION (coded symbols) (c.in_ok-check.ensures symbols (counts c.args.symbols.now)) in
+    let fit = fit_ok g.row.PRECISION (coded symbols) c.in_ok-check_for.ensures.asked in
     let right = c.in-Some.ensures.variant.0 refl in
     let is : c.from_raw_parts-coder.result.state ≡ state (number c.args.heads.now.compressed) (g.State.BitArray.number c.args.heads.now.remainders) (stack_in number c.args.compressed.now c.args.len.now) []
     = ap (λ coder. coder.state) c.from_raw_parts-coder.ensures.value ∙ rw (c.in-Some.ensures.value, c.new_at_write_end-lent.ensures, c.new-2.ensures.items, take-length (take c.args.len.now c.args.compressed.now)) refl in
@@ -60,7 +60,7 @@ returns g c =
     let counts = g.G.Symbol.Symbol.count_law in
     let coded = g.G.Models.coded c.args.models.now in
     let symbols = g.G.Symbol.Symbol.numbers c.args.symbols.now in
-    let fit = fit_ok g.row.PRECISION (coded symbols) (c.in_ok-check.ensures symbols (counts c.args.symbols.now)) in
+    let fit = fit_ok g.row.PRECISION (coded symbols) c.in_ok-check_for.ensures.asked in
     let right = c.in-Some.ensures.variant.0 refl in
     let is : c.from_raw_parts-coder.result.state ≡ state (number c.args.heads.now.compressed) (g.State.BitArray.number c.args.heads.now.remainders) (stack_in number c.args.compressed.now c.args.len.now) []
     = ap (λ coder. coder.state) c.from_raw_parts-coder.ensures.value ∙ rw (c.in-Some.ensures.value, c.new_at_write_end-lent.ensures, c.new-2.ensures.items, take-length (take c.args.len.now c.args.compressed.now)) refl in
@@ -69,30 +69,11 @@ returns g c =
     let again = c.in-Ok.again.items in
     let put = g.G.Symbol.Symbol.numbers c.put_numbers.new.symbols in
     let same : put ≡ again = c.put_numbers.ensures.numbers ∙ (ap g.G.Symbol.Symbol.kept c.as_slice.ensures.value
-    ∙ g.met.G.DecoderModels.kept_law c.args.models.now again (fit_ok g.row.PRECISION (coded again) (c.in_ok-check.ensures again c.in-Ok.ensures.count))
+    ∙ g.met.G.DecoderModels.kept_law c.args.models.now again (c.in_ok-check_for.ensures.fit again c.in-Ok.ensures.count)
     (known_by (IsDecode g.Word.BitArray.BITS g.State.BitArray.BITS) (items g.row.PRECISION (coded again)) _ _ c.in-Ok.ensures.ok)) in
     record {
       call = rw same (takes_ended number g.State.BitArray.number g.Word.BitArray.BITS g.State.BitArray.BITS g.row.PRECISION old within coded symbols fit
           (record { some = right.0; window = right.1 }) (chain_buffers now.heads c.args.compressed.now now.len now.remainders now.rest) again (c.in-Ok.ensures.count ∙ sym (counts c.args.symbols.now))
           (taken_in number g.Word.BitArray.BITS g.State.BitArray.BITS _ _ c.args.compressed.now c.args.len.now c.args.remainders.now c.args.rest.now _ _ _ now.len e.remainders.0 now.remainders
           now.rest c.decode_list.new.coder.state within.0 (rw is at c.in-Ok.ensures.ok) e.heads.0 e.heads.1 e.compressed e.remainders.1 e.remainders.2) refl e.remainders.0 e.remainders.2);
-    }
-
-pub returns-in_err-check : goal.returns-in_err-check
-returns-in_err-check g c =
-    let symbols = g.G.Symbol.Symbol.numbers c.args.symbols.now in
-    let told = err_from_is_err_and c.from_residual.result c.from_residual.ensures.1 in
-    rw (told.1, told.2)
-    record {
-      call = record {
-        taken = tt;
-        count = tt;
-        fewer = tt;
-        appended = tt;
-        asked = inr (
-          (omega (arith, c.if-len-compressed.false), omega (arith, c.if-rest-remainders.false)),
-          fit_refused g.row.PRECISION (g.G.Models.coded c.args.models.now symbols) c.in_err-check.field-0.0 (c.in_err-check.ensures symbols (g.G.Symbol.Symbol.count_law c.args.symbols.now)),
-        );
-        kept = (refl, refl);
-      };
     }

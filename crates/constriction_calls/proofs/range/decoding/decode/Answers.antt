@@ -29,7 +29,7 @@ returns-in-Ok g c =
     let again = c.in-Ok.again.items in
     let size = length-map c.args.words.now number in
     let within : old.pos ≤ length buffer = omega (arith, c.if-decoder-words.false, size) in
-    let fit = fit_ok P (coded symbols) (c.in_ok-check.ensures symbols (counts c.args.symbols.now)) in
+    let fit = fit_ok P (coded symbols) c.in_ok-check_for.ensures.asked in
     let is : ValidDecoder state w s old = search rules in
     let count : length put ≡ length symbols = counts c.put_numbers.new.symbols ∙ (c.put_numbers.ensures.count ∙ sym (counts c.args.symbols.now)) in
     let kept = c.put_numbers.ensures.numbers ∙ ap g.G.Symbol.Symbol.kept c.deref.ensures.value in
@@ -37,7 +37,7 @@ returns-in-Ok g c =
       call = takes_after state w s P coded buffer old symbols within fit is new put
           (λ words run at.
           let got = c.in-Ok.ensures.decoded words run (stands_read state w s buffer words run old c.in-Some.reading at c.in-Some.ensures.read) in
-          let same : put ≡ again = kept ∙ g.met.G.DecoderModels.kept_law c.args.models.now again (fit_ok P (coded again) (c.in_ok-check.ensures again c.in-Ok.ensures.count))
+          let same : put ≡ again = kept ∙ g.met.G.DecoderModels.kept_law c.args.models.now again (c.in_ok-check_for.ensures.fit again c.in-Ok.ensures.count)
           (known_by (λ e a b. QuantileInInterval w s words e a × (b ≡ narrowed_by w s e a)) (items P (coded again)) run got.0 got.1) in (
             got.0,
             finds_same w s words (items P (coded again)) (items P (coded put)) run got.0 (ap (λ (xs : List ℕ). items P (coded xs)) (sym same)) got.1,
@@ -60,7 +60,7 @@ returns-in-Err g c =
     let symbols = g.G.Symbol.Symbol.numbers c.args.symbols.now in
     let old = c.args.decoder.now in
     let within : old.pos ≤ length buffer = omega (arith, c.if-decoder-words.false, length-map c.args.words.now number) in
-    let fit = fit_ok P (coded symbols) (c.in_ok-check.ensures symbols (counts c.args.symbols.now)) in
+    let fit = fit_ok P (coded symbols) c.in_ok-check_for.ensures.asked in
     let is : ValidDecoder state w s old = search rules in
     record {
       call = takes_fault state w s P coded buffer old symbols within fit is c.in-Err.refusal
@@ -69,36 +69,3 @@ returns-in-Err g c =
           none words others run last (stands_read state w s buffer words run old c.in-Some.reading at c.in-Some.ensures.read) all (count ∙ counts c.args.symbols.now))
           c.in-Err.ensures.err);
     }
-
-pub returns-in_err-check : goal.returns-in_err-check
-returns-in_err-check g c =
-    let symbols = g.G.Symbol.Symbol.numbers c.args.symbols.now in
-    let within : c.args.decoder.now.pos ≤ length (map g.Word.BitArray.number c.args.words.now) = omega (arith, c.if-decoder-words.false, length-map c.args.words.now g.Word.BitArray.number) in
-    let told = err_from_is_err_and c.from_residual.result c.from_residual.ensures.1 in
-    rw (told.1, told.2)
-    record {
-      call = record {
-        taken = tt;
-        within = tt;
-        asked = inr (
-          within,
-          fit_refused g.row.PRECISION (g.G.Models.coded c.args.models.now symbols) c.in_err-check.field-0.0 (c.in_err-check.ensures symbols (g.G.Symbol.Symbol.count_law c.args.symbols.now)),
-        );
-        kept = (refl, refl);
-      };
-    }
-
-pub returns-in_default : goal.returns-in_default
-returns-in_default g c =
-    let symbols = g.G.Symbol.Symbol.numbers c.args.symbols.now in
-    let coded = g.G.Models.coded c.args.models.now symbols in
-    let within : c.args.decoder.now.pos ≤ length (map g.Word.BitArray.number c.args.words.now) = omega (arith, c.if-decoder-words.false, length-map c.args.words.now g.Word.BitArray.number) in
-    let fit = fit_ok g.row.PRECISION coded (c.in_ok-check.ensures symbols (g.G.Symbol.Symbol.count_law c.args.symbols.now)) in
-    let no : ValidDecoder g.State.BitArray.number g.Word.BitArray.BITS g.State.BitArray.BITS c.args.decoder.now → ⊥ = search rules in
-    record { call = record { taken = tt; within = tt; asked = inr (within, fit_then g.row.PRECISION coded fit (inl (no, refl))); kept = (refl, refl) } }
-
-pub decode_count-requires-clause-fit : goal.decode_count-requires-clause-fit
-decode_count-requires-clause-fit g c =
-    let symbols = g.G.Symbol.Symbol.numbers c.args.symbols.now in
-    let counts = g.G.Symbol.Symbol.count_law c.args.symbols.now in
-    (symbols, counts, fit_ok g.row.PRECISION (g.G.Models.coded c.args.models.now symbols) (c.in_ok-check.ensures symbols counts))
