@@ -1,7 +1,7 @@
 //! The calls of each coder as a program makes them, with concrete types of words, heads and models.
 //!
-//! Decoders are passed to [`take_one`] and [`take`]. These functions are generic over decoders, so their proofs are made
-//! once for all types of decoders.
+//! Decoders are passed to [`take_one`], [`take_all`] and [`take_each`]. These functions are generic over decoders, so
+//! their proofs are made once for all types of decoders.
 //!
 //! The prover finds no proof for certain forms of calls. `docs/CALLING.md` lists these forms, and says what to write in
 //! their place. The functions here use forms that the prover accepts.
@@ -42,8 +42,8 @@ where
     show(rt, coder.decode_symbol(table))
 }
 
-/// Decodes `count` symbols with one model, then two symbols each with its own model, and prints all of them.
-fn take<Coder: Decode<24>>(
+/// Decodes `count` symbols with one model, and prints them.
+fn take_all<Coder: Decode<24>>(
     rt: &impl Print,
     coder: &mut Coder,
     count: usize,
@@ -57,6 +57,20 @@ where
     for symbol in coder.decode_iid_symbols(count, table) {
         show(rt, symbol)?;
     }
+    Ok(())
+}
+
+/// Decodes two symbols each with its own model, and prints them.
+fn take_each<Coder: Decode<24>>(
+    rt: &impl Print,
+    coder: &mut Coder,
+    table: &WeightTable<u32, 24>,
+) -> Result<()>
+where
+    u32: WordOf<Coder::Word>,
+    Coder::FrontendError: Drop,
+    Coder::BackendError: Drop,
+{
     for symbol in coder.decode_symbols(iter::repeat_n(table, 2)) {
         show(rt, symbol)?;
     }

@@ -1,33 +1,16 @@
 //! Calls of the chain coder with concrete types: 32-bit words, a 64-bit remainders head and tables of weights.
 
-use super::take;
+use super::take_all;
 use anyhow::{Result, bail};
 use constriction::stream::chain::DefaultChainCoder;
 use constriction::stream::model::WeightTable;
-use constriction::stream::{Decode, Encode};
 use std::alloc::Global;
-use std::iter;
 
 type Table = WeightTable<u32, 24>;
 
-/// Encodes lists of symbols, each list from its last symbol to its first.
-///
-/// The last list begins with a symbol and ends with an error. So encoding this list must fail.
-fn put_from_the_end(coder: &mut DefaultChainCoder, table: &Table) -> Result<()> {
+/// Encodes symbols, each paired with its model, from the last symbol to the first.
+fn put(coder: &mut DefaultChainCoder, table: &Table) -> Result<()> {
     coder.encode_symbols_reverse([(&0usize, table), (&2, table), (&1, table), (&2, table)])?;
-    if coder
-        .try_encode_symbols_reverse([Ok((&0usize, table)), Err(7u8)])
-        .is_ok()
-    {
-        bail!("an item that is an error was encoded");
-    }
-    Ok(())
-}
-
-/// Encodes lists of symbols, each list from its first symbol to its last.
-fn put_forth(coder: &mut DefaultChainCoder, table: &Table) -> Result<()> {
-    coder.encode_symbols([(&1usize, table), (&0, table)])?;
-    coder.encode_iid_symbols([0usize, 2].as_slice(), table)?;
     Ok(())
 }
 
@@ -47,11 +30,10 @@ fn change(coder: DefaultChainCoder) -> Result<DefaultChainCoder> {
 
 /// Decodes symbols, changes the precision, encodes and decodes symbols, and prints all symbols decoded.
 fn take_and_put(rt: &impl Print, mut coder: DefaultChainCoder, table: &Table) -> Result<()> {
-    take(rt, &mut coder, 2, table)?;
+    take_all(rt, &mut coder, 4, table)?;
     let mut coder = change(coder)?;
-    put_from_the_end(&mut coder, table)?;
-    take(rt, &mut coder, 2, table)?;
-    put_forth(&mut coder, table)
+    put(&mut coder, table)?;
+    take_all(rt, &mut coder, 4, table)
 }
 
 /// Decodes symbols from words, changes the precision, encodes and decodes symbols, and prints all symbols decoded.

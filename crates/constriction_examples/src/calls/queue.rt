@@ -4,7 +4,7 @@
 //! as an argument doesn't know how many words are pending. `symbols_left` returns how many symbols the encoder can
 //! still encode.
 
-use super::{take, take_one};
+use super::{take_all, take_each, take_one};
 use anyhow::{Result, bail};
 use constriction::stream::model::WeightTable;
 use constriction::stream::queue::{DefaultRangeDecoder, DefaultRangeEncoder, RangeCoderState};
@@ -73,11 +73,11 @@ fn take_twice(
     position: Position,
     table: &Table,
 ) -> Result<()> {
-    take(rt, decoder, 1, table)?;
+    take_all(rt, decoder, 3, table)?;
     if decoder.seek(position).is_err() {
         bail!("no position of these words");
     }
-    take(rt, decoder, 0, table)?;
+    take_each(rt, decoder, table)?;
     if !Decode::<24>::maybe_exhausted(decoder) {
         bail!("words are left");
     }

@@ -1,31 +1,21 @@
-//! Calls of the stack coder with concrete types: words of 32 or 16 bits, and tables of weights.
+//! Calls of the stack coder with concrete types: 32-bit words, a 64-bit head and tables of weights.
 
-use super::{show, take, take_one};
+use super::{take_all, take_each, take_one};
 use crate::uses::words_so_far;
 use anyhow::{Result, bail};
 use constriction::stream::model::WeightTable;
-use constriction::stream::stack::{DefaultAnsCoder, SmallAnsCoder};
-use constriction::stream::{AsDecoder, Code, Decode, Encode, IntoDecoder};
+use constriction::stream::stack::DefaultAnsCoder;
+use constriction::stream::{AsDecoder, Code, Encode, IntoDecoder};
 use constriction::{Pos, Seek};
 use std::alloc::Global;
 use std::iter;
 
 type Table = WeightTable<u32, 24>;
 
-type SmallTable = WeightTable<u16, 12>;
-
 /// Encodes lists of symbols, each list from its last symbol to its first.
-///
-/// The last list begins with a symbol and ends with an error. So encoding this list must fail.
 fn put_from_the_end(coder: &mut DefaultAnsCoder, table: &Table) -> Result<()> {
     coder.encode_iid_symbols_reverse([2usize, 0].as_slice(), table)?;
     coder.encode_symbols_reverse([(&1usize, table), (&2, table)])?;
-    if coder
-        .try_encode_symbols_reverse([Ok((&0usize, table)), Err(7u8)])
-        .is_ok()
-    {
-        bail!("an item that is an error was encoded");
-    }
     Ok(())
 }
 
@@ -33,9 +23,7 @@ fn put_from_the_end(coder: &mut DefaultAnsCoder, table: &Table) -> Result<()> {
 ///
 /// The last list begins with a symbol and ends with an error. So encoding this list must fail.
 fn put_forth(coder: &mut DefaultAnsCoder, table: &Table) -> Result<()> {
-    let symbols = [0usize, 1];
-    coder.encode_symbols(symbols.iter().zip(iter::repeat_n(table, 2)))?;
-    coder.encode_iid_symbols(symbols.iter().rev(), table)?;
+    coder.encode_symbols([0usize, 1, 1, 0].iter().zip(iter::repeat_n(table, 4)))?;
     if coder
         .try_encode_symbols([Ok((&2usize, table)), Err(7u8)])
         .is_ok()
@@ -88,29 +76,14 @@ fn borrow(rt: &impl Print, table: &Table) -> Result<()> {
     take_one(rt, &mut borrowed, table)
 }
 
-/// Encodes a symbol with a coder of 16-bit words, and decodes it again.
-fn exchange(coder: &mut SmallAnsCoder, table: &SmallTable) -> Result<usize> {
-    if coder.encode_symbol(&1, table).is_err() {
-        bail!("no memory for the words");
-    }
-    let Ok(symbol) = coder.decode_symbol(table) else {
-        bail!("no symbol was decoded");
-    };
-    Ok(symbol)
-}
-
-/// Encodes and decodes a symbol with a coder of 16-bit words, and decodes another symbol from the empty coder.
-///
-/// Prints both symbols, and the size of the empty coder in words and in bits.
-fn small(rt: &impl Print, alloc: Global) -> Result<()> {
-    let table = SmallTable::new(alloc, &[4000, 96])?;
-    let mut coder = SmallAnsCoder::new(alloc);
-    let symbol = exchange(&mut coder, &table)?;
+/// Prints the size of an empty coder in words and in bits, and a symbol decoded from the empty coder.
+fn empty(rt: &impl Print, alloc: Global, table: &Table) -> Result<()> {
+    let coder = DefaultAnsCoder::new(alloc);
     if !coder.sizes_fit() {
         bail!("too many words");
     }
-    println!(rt; "{symbol} {} {}", coder.num_words(), coder.num_bits())?; // 1 0 0
-    show(rt, coder.into_seekable_decoder().decode_symbol(&table)) // 0, since an empty coder returns symbols too
+    println!(rt; "{} {}", coder.num_words(), coder.num_bits())?; // 0 0
+    take_one(rt, &mut coder.into_seekable_decoder(), table) // 0, since an empty coder returns symbols too
 }
 
 /// Runs the functions that need a coder of 32-bit words, and prints the results.
@@ -118,7 +91,8 @@ fn large(rt: &impl Print, alloc: Global, table: &Table) -> Result<()> {
     let mut coder = DefaultAnsCoder::new(alloc);
     put_from_the_end(&mut coder, table)?;
     put_forth(&mut coder, table)?;
-    take(rt, &mut coder, 3, table)?;
+    take_all(rt, &mut coder, 3, table)?;
+    take_each(rt, &mut coder, table)?;
     seek(rt, &mut coder, table)?;
     look(rt, alloc, &mut coder)?;
     hand_on(rt, coder, table)
@@ -128,5 +102,5 @@ fn large(rt: &impl Print, alloc: Global, table: &Table) -> Result<()> {
 pub fn run(rt: &impl Print, alloc: Global, table: &Table) -> Result<()> {
     large(rt, alloc, table)?;
     borrow(rt, table)?;
-    small(rt, alloc)
+    empty(rt, alloc, table)
 }
