@@ -94,7 +94,7 @@ fn decode_by<
 }
 
 /// Decodes a symbol with `model`. The call can't fail, because reading from a cursor never fails.
-#[inline]
+#[inline(always)]
 fn decode_next<
     'a,
     Word: WordOf<State>,

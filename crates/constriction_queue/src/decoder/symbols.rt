@@ -77,7 +77,7 @@ impl<
     /// - `Backend(error)`: returned only if the decoder had to read a word and the read returned `error`. The interval
     ///   and the point are unchanged. If the backend behaves as a fixed list of words (`Holds::is_list`), as cursors
     ///   do, the words are also unchanged.
-    #[inline]
+    #[inline(always)]
     fn decode_symbol<M>(
         &mut self,
         model: M,
