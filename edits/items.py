@@ -91,6 +91,7 @@ def is_of_trait(it):
     return bool(of_trait) and not of_type
 
 
+@functools.lru_cache(maxsize=None)
 def words_of(text):
     """Returns the names in a text, and the words of names with hyphens."""
-    return {*WORD.findall(text), *HYPHENATED.findall(text)}
+    return frozenset([*WORD.findall(text), *HYPHENATED.findall(text)])

@@ -11,6 +11,7 @@ UNSAID = re.compile(r"\s*--|(?:pub )?(?:use|mod) ")
 OPENING, CLOSING = ("(", "[", "{"), (")", "]", "}")
 
 
+@functools.lru_cache(maxsize=None)
 def without_comments(text):
     """Returns a source without comments, and without the lines that are empty then."""
     bare = TOKEN.sub(lambda it: "" if it[0].startswith("//") else it[0], text)
