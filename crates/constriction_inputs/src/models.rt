@@ -193,7 +193,7 @@ pub fn check_for<P: BitArray, G: DecoderModels<P, PRECISION>, const PRECISION: u
     symbols: &[G::Symbol],
 ) -> Result<(), Refusal>
     requires { (1 ≤ PRECISION) × (PRECISION ≤ P.BITS) }
-    ensures asked { AsksFit PRECISION (G.coded models.now (G.Symbol.numbers symbols.now))
+    ensures asks { AsksFit PRECISION (G.coded models.now (G.Symbol.numbers symbols.now))
         (Otherwise NoRefusal) result }
     ensures fit { IfOk result (λ _. (ns : List ℕ) → length ns ≡ length symbols.now
         → AreFit PRECISION (G.coded models.now ns)) }

@@ -6,8 +6,8 @@
 //! bits, both lists together then take 24 KiB, so they fit the first-level cache.
 
 ghost use Rattle.std.specs.Prelude.{◌≡◌, ◌+◌, ◌^◌, ◌<◌, ◌≤◌, ℕ, List, IfOk, IfSome, IsErrOf, IsNone};
-ghost use Rattle.constriction_base.specs.Tables.{Has, Covers, IsTable};
-ghost use Rattle.constriction_models.specs.Lookup.{AreRows, HasHighSymbol, HasLowSymbols};
+ghost use Rattle.constriction_base.specs.Tables.{Has, Covers};
+ghost use Rattle.constriction_models.specs.Lookup.{AreRows, HasHighSymbol, HasLowSymbols, IsEntryAt};
 
 use constriction_base::model::{DecoderModel, EncoderModel, EntropyModel};
 use constriction_words::BitArray;
@@ -200,16 +200,15 @@ impl<P: BitArray> LookupRows<P> {
 
     /// Returns the symbol of `quantile`, and the start and the length of the interval that holds `quantile`.
     ///
-    /// The caller proves that these are the rows of a model, and that `quantile` is below `2 ^ PRECISION`.
+    /// Each table that has these rows has this entry. The caller proves that there is such a table, and that `quantile`
+    /// is below `2 ^ PRECISION`.
     #[inline(always)]
     pub fn find<const PRECISION: usize>(&self, quantile: P) -> (usize, P, <P as BitArray>::NonZero)
         requires rows { (table : List (ℕ × ℕ × ℕ)) × AreRows P.number P.nonzero_number table
             self.now.symbols.items self.now.rows.items (2 ^ PRECISION) }
         requires quantile { P.number quantile < 2 ^ PRECISION }
-        ensures { (table : List (ℕ × ℕ × ℕ)) → IsTable PRECISION table → AreRows P.number P.nonzero_number table
-            self.now.symbols.items self.now.rows.items (2 ^ PRECISION)
-            → Has table result.0 (P.number result.1) (P.nonzero_number result.2)
-            × Covers (P.number result.1) (P.nonzero_number result.2) (P.number quantile) }
+        ensures { IsEntryAt P.number P.nonzero_number PRECISION self.now.symbols.items self.now.rows.items
+            (P.number quantile) result }
     {
         let place = quantile.to_index();
         let row = &self.rows[place];

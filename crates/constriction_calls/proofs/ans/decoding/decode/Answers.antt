@@ -23,7 +23,7 @@ returns g c =
     let b = ans_state_of g.Word.BitArray.number g.State.BitArray.number (coder_of c.decode_by-new_head.result.0 c.args.words.now c.decode_by-new_head.result.1) in
     let all : DecodesAll w s (items P (coded made.0)) a b = rw (c.in-Some.ensures.items made.0 made.1) made.3 in
     let same : new ≡ made.0 = made.2 ∙ g.met.G.DecoderModels.kept_law c.args.models.now made.0 (c.in_ok-check_for.ensures.fit made.0 made.1) (known_by (IsPop w s) (items P (coded made.0)) a b all) in
-    let fit = fit_ok P (coded old) c.in_ok-check_for.ensures.asked in
+    let fit = fit_ok P (coded old) c.in_ok-check_for.ensures.asks in
     record {
       call = record {
         taken = subst (λ ns. DecodesAll w s (items P (coded ns)) a b) (sym same) all;

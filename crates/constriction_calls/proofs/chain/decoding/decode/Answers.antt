@@ -20,7 +20,7 @@ returns-in-Err g c =
     let counts = g.G.Symbol.Symbol.count_law in
     let coded = g.G.Models.coded c.args.models.now in
     let symbols = g.G.Symbol.Symbol.numbers c.args.symbols.now in
-    let fit = fit_ok g.row.PRECISION (coded symbols) c.in_ok-check_for.ensures.asked in
+    let fit = fit_ok g.row.PRECISION (coded symbols) c.in_ok-check_for.ensures.asks in
     let right = c.in-Some.ensures.variant.0 refl in
     let is : c.from_raw_parts-coder.result.state ≡ state (number c.args.heads.now.compressed) (g.State.BitArray.number c.args.heads.now.remainders) (stack_in number c.args.compressed.now c.args.len.now) []
     = ap (λ coder. coder.state) c.from_raw_parts-coder.ensures.value ∙ rw (c.in-Some.ensures.value, c.new_at_write_end-lent.ensures, c.new-2.ensures.items, take-length (take c.args.len.now c.args.compressed.now)) refl in
@@ -38,7 +38,7 @@ returns-in-Err-finish_decoding g c =
     let counts = g.G.Symbol.Symbol.count_law in
     let coded = g.G.Models.coded c.args.models.now in
     let symbols = g.G.Symbol.Symbol.numbers c.args.symbols.now in
-    let fit = fit_ok g.row.PRECISION (coded symbols) c.in_ok-check_for.ensures.asked in
+    let fit = fit_ok g.row.PRECISION (coded symbols) c.in_ok-check_for.ensures.asks in
     let right = c.in-Some.ensures.variant.0 refl in
     let is : c.from_raw_parts-coder.result.state ≡ state (number c.args.heads.now.compressed) (g.State.BitArray.number c.args.heads.now.remainders) (stack_in number c.args.compressed.now c.args.len.now) []
     = ap (λ coder. coder.state) c.from_raw_parts-coder.ensures.value ∙ rw (c.in-Some.ensures.value, c.new_at_write_end-lent.ensures, c.new-2.ensures.items, take-length (take c.args.len.now c.args.compressed.now)) refl in
@@ -60,7 +60,7 @@ returns g c =
     let counts = g.G.Symbol.Symbol.count_law in
     let coded = g.G.Models.coded c.args.models.now in
     let symbols = g.G.Symbol.Symbol.numbers c.args.symbols.now in
-    let fit = fit_ok g.row.PRECISION (coded symbols) c.in_ok-check_for.ensures.asked in
+    let fit = fit_ok g.row.PRECISION (coded symbols) c.in_ok-check_for.ensures.asks in
     let right = c.in-Some.ensures.variant.0 refl in
     let is : c.from_raw_parts-coder.result.state ≡ state (number c.args.heads.now.compressed) (g.State.BitArray.number c.args.heads.now.remainders) (stack_in number c.args.compressed.now c.args.len.now) []
     = ap (λ coder. coder.state) c.from_raw_parts-coder.ensures.value ∙ rw (c.in-Some.ensures.value, c.new_at_write_end-lent.ensures, c.new-2.ensures.items, take-length (take c.args.len.now c.args.compressed.now)) refl in

@@ -29,7 +29,7 @@ returns-in-Ok g c =
     let again = c.in-Ok.again.items in
     let size = length-map c.args.words.now number in
     let within : old.pos ≤ length buffer = omega (arith, c.if-decoder-words.false, size) in
-    let fit = fit_ok P (coded symbols) c.in_ok-check_for.ensures.asked in
+    let fit = fit_ok P (coded symbols) c.in_ok-check_for.ensures.asks in
     let is : ValidDecoder state w s old = search rules in
     let count : length put ≡ length symbols = counts c.put_numbers.new.symbols ∙ (c.put_numbers.ensures.count ∙ sym (counts c.args.symbols.now)) in
     let kept = c.put_numbers.ensures.numbers ∙ ap g.G.Symbol.Symbol.kept c.deref.ensures.value in
@@ -60,7 +60,7 @@ returns-in-Err g c =
     let symbols = g.G.Symbol.Symbol.numbers c.args.symbols.now in
     let old = c.args.decoder.now in
     let within : old.pos ≤ length buffer = omega (arith, c.if-decoder-words.false, length-map c.args.words.now number) in
-    let fit = fit_ok P (coded symbols) c.in_ok-check_for.ensures.asked in
+    let fit = fit_ok P (coded symbols) c.in_ok-check_for.ensures.asks in
     let is : ValidDecoder state w s old = search rules in
     record {
       call = takes_fault state w s P coded buffer old symbols within fit is c.in-Err.refusal
