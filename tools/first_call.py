@@ -1,11 +1,12 @@
 """Proves a program or a static library and the crates below it, in parallel where possible, and builds it.
 
 The script keeps each library that an earlier run proved, even if that run was ended early, as long as the library and
-the crates below it are unchanged. With --over-gate, it uses the libraries that `rt ci` has just built. It reports
-progress on standard error: on a terminal, it redraws one line each second; elsewhere, it writes a line for each crate
-and each half minute (or each PROGRESS_SECONDS seconds). With --answer, a trial run answers a command of the program
-meanwhile; the launcher puts the command's input into a folder. With --target MACHINE, it builds the static library for
-Linux on that machine. It proves only this library again, over what the proof for x86-64 has checked, if there is one.
+the crates below it are unchanged. With --over-gate, it uses the libraries that `rt ci` has just built, and one job. It
+reports progress on standard error: on a terminal, it redraws one line each second; elsewhere, it writes a line for each
+crate and each half minute (or each PROGRESS_SECONDS seconds). With --answer, a trial run answers a command of the
+program meanwhile; the launcher puts the command's input into a folder. With --target MACHINE, it builds the static
+library for Linux on that machine. It proves only this library again, over what the proof for x86-64 has checked, if
+there is one.
 
 usage: first_call.py KIT REPOSITORY CRATE [--over-gate] [--target MACHINE]
        first_call.py KIT REPOSITORY CRATE --answer FOLDER COMMAND.."""
@@ -107,10 +108,10 @@ class Record:
 class Run:
     """A run that proves some crates, except those named in `done`.
 
-    It shows the unproved answer meanwhile, if one is given.
+    It shows the unproved answer meanwhile, if one is given. With `processors`, it uses no more than so many.
     """
 
-    def __init__(self, toolchain, crates, done, unit, progress, answer=None):
+    def __init__(self, toolchain, crates, done, unit, progress, answer=None, processors=None):
         """Takes the crates to prove, and the names of the crates that are done."""
         self.toolchain, self.crates, self.done, self.progress = (
             toolchain,
@@ -123,7 +124,7 @@ class Run:
         self.ended = []  # the seconds and the weight of each proof that ended here
         self.running = {}  # by name: the number of jobs, and the time at which the proof began
         parts = {it.name: Part({below.name for below in it.below()}, weight(it), toolchain.memory(it)) for it in crates}
-        self.schedule = Schedule(parts, toolchain.processors(), toolchain.free())
+        self.schedule = Schedule(parts, processors or toolchain.processors(), toolchain.free())
 
     def all(self):
         """Proves all crates, and returns whether that succeeded. The first failure ends the run."""
@@ -255,7 +256,9 @@ def main(kit, top, name, *how):
     answer = UnprovedAnswer(kit, crate, how[1], how[2:]) if how[:1] == ("--answer",) else None
     if answer:
         answer.start()
-    is_proved = Run(toolchain, crates, done, unit, progress, answer).all()
+    # Four jobs take half the time of one job, and 1.5 times its processor time.
+    processors = 1 if "--over-gate" in options else None
+    is_proved = Run(toolchain, crates, done, unit, progress, answer, processors).all()
     if answer:
         answer.end()
     if not is_proved:
