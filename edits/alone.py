@@ -43,12 +43,20 @@ def bring_up_to_date(kit, crates):
 
 
 class AloneTrial:
-    """A trial of a crate's edits, after `ask`. Each check starts from nothing, and proves only the edited functions."""
+    """A trial of a crate's edits, after `ask`. A check proves only the edited functions and those that they call.
+
+    The first check starts from nothing. A later one takes from it the proofs of functions that are unchanged.
+    """
 
     def __init__(self, kit, crate, edits, logs):
         self.crate, self.folder, self.edits, self.logs = crate.name, crate.folder, edits, logs
         self.checks, self.seconds = 0, 0.0
-        self.words = [*words_of_check(kit.kit, crate), "--jobs", "1"]
+        self.kept = tempfile.TemporaryDirectory(prefix="edits-kept-")
+        self.words = [*words_of_check(kit.kit, crate), "--jobs", "1", "--incremental", self.kept.name]
+
+    def run_all(self, batches):
+        """Tries batches of edits one after the other, and adds their processor seconds."""
+        self.seconds += sum(map(self.run, batches))
 
     def run(self, batch):
         """Tries edits in one check, and returns its processor seconds."""
