@@ -14,29 +14,35 @@ pub struct Pair<W> {
     pub wrapping: (W, W),
 }
 
-/// Returns whether the type's methods return the expected results for the two words of `pair`.
-fn is_pair<W: BitArray + PartialEq>(pair: &Pair<W>) -> bool {
+/// Returns whether the methods return the expected results for the two bytes of `pair`.
+fn is_pair(pair: &Pair<u8>) -> bool {
     let (first, second) = pair.numbers;
     let [added, taken, times, ratio, left] = pair.exact;
     let (quickly, rest) = div_rem(first, second, 8);
-    let (slowly, same_rest) = div_rem(first, second, W::BITS);
-    sum(first, second) == added
-        && difference(first, second) == taken
-        && product(first, second) == times
-        && quotient(first, second) == ratio
-        && quotient_by(first, second) == ratio
-        && remainder(first, second) == left
-        && quickly == ratio
-        && rest == left
-        && slowly == ratio
-        && same_rest == left
+    let (slowly, same_rest) = div_rem(first, second, <u8 as BitArray>::BITS);
+    let exact = [
+        sum(first, second),
+        difference(first, second),
+        product(first, second),
+        quotient(first, second),
+        quotient_by(first, second),
+        quickly,
+        slowly,
+        remainder(first, second),
+        rest,
+        same_rest,
+    ];
+    exact
+        == [
+            added, taken, times, ratio, ratio, ratio, ratio, left, left, left,
+        ]
         && first.is_below(second) == pair.is_below
         && first.wrapping_plus(second) == pair.wrapping.0
         && first.wrapping_minus(second) == pair.wrapping.1
 }
 
-/// Returns whether the methods of `W` return the expected results for each of `pairs`.
-pub fn are_pairs<W: BitArray + PartialEq>(pairs: &[Pair<W>]) -> bool {
+/// Returns whether the methods of `u8` return the expected results for each of `pairs`.
+fn are_pairs(pairs: &[Pair<u8>]) -> bool {
     for pair in pairs {
         if !is_pair(pair) {
             return false;

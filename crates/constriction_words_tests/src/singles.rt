@@ -18,9 +18,9 @@ pub struct Single<W> {
 }
 
 /// Returns whether the methods return the results of `single`.
-fn is_single<W: BitArray + PartialEq>(single: &Single<W>) -> bool {
+fn is_single(single: &Single<u8>) -> bool {
     let number = single.number;
-    single.by < W::BITS
+    single.by < <u8 as BitArray>::BITS
         && shifted(number, single.by) == single.left
         && number.shift_right(single.by) == single.right_and_low.0
         && number.low_bits(single.by) == single.right_and_low.1
@@ -31,31 +31,30 @@ fn is_single<W: BitArray + PartialEq>(single: &Single<W>) -> bool {
         && number.to_nonzero().is_none() == (single.length == 0)
 }
 
-/// Returns whether the constants of `W` and the results of its methods are the expected ones.
+/// Returns whether the constants of `u8` and the results of its methods are the expected ones.
 ///
 /// Each of `singles` holds a word and the results that the methods should return for it.
 /// `bits` is the expected `BITS`. `named` holds the expected `nothing()`, `unit()` and `greatest()`.
-pub fn are_singles<W: BitArray + PartialEq>(
-    bits: u32,
-    named: (W, W, W),
-    singles: &[Single<W>],
-) -> bool {
+fn are_singles(bits: u32, named: (u8, u8, u8), singles: &[Single<u8>]) -> bool {
     for single in singles {
         if !is_single(single) {
             return false;
         }
     }
-    W::BITS == bits && W::nothing() == named.0 && W::unit() == named.1 && W::greatest() == named.2
+    <u8 as BitArray>::BITS == bits && (u8::nothing(), u8::unit(), u8::greatest()) == named
 }
 
 /// Returns whether `index` returns `indices` for `words`.
-pub fn are_indices<W: BitArray>(words: &[W], indices: &[Option<usize>]) -> bool {
-    for (word, expected) in words.iter().zip(indices.iter()) {
-        if index(*word) != *expected {
+fn are_indices<W: BitArray>(words: &[W], indices: &[Option<usize>]) -> bool {
+    if words.len() != indices.len() {
+        return false;
+    }
+    for at in 0..words.len() {
+        if index(words[at]) != indices[at] {
             return false;
         }
     }
-    words.len() == indices.len()
+    true
 }
 
 /// Makes the `Single` of a byte from its fields.

@@ -2,31 +2,24 @@
 
 use constriction_words::{BitArray, WordOf};
 
-/// Returns whether `words` widen to `wide`, and `wider` narrow to the expected words.
-///
-/// `words` are 0, 1, a middle number, and the two greatest numbers. `wider` must narrow to 0, 0, 1, and the two
-/// greatest numbers.
-pub fn are_widths<W, T>(words: [W; 5], wide: [T; 5], wider: [T; 5]) -> bool
+/// Returns whether `word` widens to `wide`, and `wider` narrows to `narrowed`.
+fn is_width<W, T>(word: W, wide: T, wider: T, narrowed: W) -> bool
 where
     W: WordOf<T> + PartialEq,
     T: BitArray + PartialEq,
 {
-    let [zero, one, _, less, most] = words;
-    for (word, number) in words.iter().zip(wide.iter()) {
-        if word.widen() != *number {
-            return false;
-        }
-    }
-    for (number, word) in wider.iter().zip([zero, zero, one, less, most].iter()) {
-        if W::narrow(*number) != *word {
-            return false;
-        }
-    }
-    true
+    word.widen() == wide && W::narrow(wider) == narrowed
 }
 
 #[test]
 fn u8_in_wider(rt: HostRuntime) {
-    let words = [0u8, 1, 16, 254, 255];
-    assert!(rt; are_widths(words, [0u16, 1, 16, 254, 255], [0, 256, 257, 65534, 65535]));
+    for (word, wide, wider, narrowed) in [
+        (0u8, 0u16, 0u16, 0u8),
+        (1, 1, 256, 0),
+        (16, 16, 257, 1),
+        (254, 254, 65534, 254),
+        (255, 255, 65535, 255),
+    ] {
+        assert!(rt; is_width(word, wide, wider, narrowed));
+    }
 }
