@@ -2,6 +2,7 @@
 
 ghost use Rattle.std.specs.Prelude.{◌≡◌, ◌<◌, ◌≤◌, ◌↔◌, ◌∷◌, ◌++◌, List, length, reverse, IfOk, IfErr, IfSome};
 ghost use Rattle.std.specs.Prelude.{MatchOption, Ok, Err};
+ghost use Rattle.std.specs.Iterator.{IsFinite};
 ghost use Rattle.constriction_base.specs.declared.errors.CoderError.TheVariants as coder_error;
 ghost use Rattle.constriction_stream.specs.Lists.{StepsAll};
 ghost use Rattle.constriction_stream.specs.Symbols.{EncodesSymbol, DecodesSymbol};
@@ -82,6 +83,23 @@ where
     symbols.next()
 }
 
+/// Returns the number of `Ok`s among `answers`, or `most` if there are more.
+fn count_of<T: Drop, E: Drop, I>(answers: I, most: usize) -> usize
+where
+    I: Iterator<Item = Result<T, E>> + Drop,
+    requires can { I.can_next answers }
+    requires finite { IsFinite (I.remaining answers) }
+    ensures { result ≤ most }
+{
+    let mut count = 0;
+    for answer in answers {
+        if answer.is_ok() && count < most {
+            count += 1;
+        }
+    }
+    count
+}
+
 /// Makes `amt` decodes with one model. Returns the number of decodes that succeed.
 pub fn decode_all<C, M>(coder: &mut C, amt: usize, model: &M) -> usize
 where
@@ -92,13 +110,7 @@ where
     M::Probability: WordOf<C::Word>,
     ensures { result ≤ amt }
 {
-    let mut count = 0;
-    for answer in coder.decode_iid_symbols(amt, model) {
-        if answer.is_ok() && count < amt {
-            count += 1;
-        }
-    }
-    count
+    count_of(coder.decode_iid_symbols(amt, model), amt)
 }
 
 /// Encodes two symbols with one model, as two pairs in one call of `encode_symbols`.

@@ -9,6 +9,7 @@ use crate::calls::{
 };
 use crate::pile::Pile;
 use constriction_stream::encoding::Encode;
+use std::array;
 use std::test::Fail;
 
 /// Drops an iterator early. Returns whether the symbols that it didn't decode stay on the pile.
@@ -50,32 +51,26 @@ fn iterators_dropped_early(rt: HostRuntime) -> Result<(), Fail> {
 /// Encodes two symbols onto `pile`, and decodes them with the generic functions of `callers`.
 ///
 /// Returns whether every call has the expected outcome.
-fn through_the_bounds(pile: &mut Pile, tables: &[Table; 1]) -> bool {
-    matches!(put_list(pile, &[1, 0], &tables[0]), Put::Done)
+fn through_the_bounds(pile: &mut Pile, table: &Table) -> bool {
+    matches!(put_list(pile, &[1, 0], table), Put::Done)
         && matches!(
-            what_came(first_of_models(pile, tables.as_slice())),
+            what_came(first_of_models(pile, array::from_ref(table))),
             Took::Symbol(0)
         )
         && pile.holds(&[255])
-        && matches!(
-            what_came_or_bad(first_is_bad(pile, &tables[0])),
-            Took::Bad(7)
-        )
+        && matches!(what_came_or_bad(first_is_bad(pile, table)), Took::Bad(7))
         && pile.holds(&[255])
         && matches!(
-            what_came(decode_unless_exhausted(pile, &tables[0])),
+            what_came(decode_unless_exhausted(pile, table)),
             Took::Symbol(1)
         )
-        && matches!(
-            what_came(decode_unless_exhausted(pile, &tables[0])),
-            Took::End
-        )
+        && matches!(what_came(decode_unless_exhausted(pile, table)), Took::End)
 }
 
 #[test]
 fn callers_of_the_traits(rt: HostRuntime) -> Result<(), Fail> {
-    let tables = [Table::new(rt.alloc(), &[255, 1])?];
+    let table = Table::new(rt.alloc(), &[255, 1])?;
     let mut pile = Pile::new(rt.alloc(), 2);
-    assert!(rt; through_the_bounds(&mut pile, &tables));
+    assert!(rt; through_the_bounds(&mut pile, &table));
     Ok(())
 }
