@@ -20,11 +20,16 @@ fn store_program(rt: HostRuntime) -> Result<(), Fail> {
     Ok(())
 }
 
+/// Returns the error of building a store of `lists`, or `None` if the store is built.
+fn refusal_of_lists(alloc: Global, lists: &[&[usize]]) -> Result<Option<BuildError>, Fail> {
+    let chunks = chunks_of(alloc, lists)?;
+    refusal_of(alloc, chunks.as_slice())
+}
+
 #[test]
 fn store_build_refusals(rt: HostRuntime) -> Result<(), Fail> {
-    let chunks = chunks_of(rt.alloc(), &[&[0], &[1, 2]])?;
     let impossible = BuildError::ImpossibleSymbol { chunk: 1, index: 1 };
-    assert!(rt; refusal_of(rt.alloc(), chunks.as_slice())? == Some(impossible));
+    assert!(rt; refusal_of_lists(rt.alloc(), &[&[0], &[1, 2]])? == Some(impossible));
     let store = store_of(rt.alloc(), &[])?;
     assert!(rt;
         store.words().is_empty()
@@ -99,9 +104,8 @@ fn store_many_chunks(rt: HostRuntime) -> Result<(), Fail> {
 
 #[test]
 fn store_of_one_symbol_too_many(rt: HostRuntime) -> Result<(), Fail> {
-    let mut chunks = Vec::new(rt.alloc());
-    chunks.push(some_symbols(rt.alloc(), 1048577, 7)?)?;
-    assert!(rt; refusal_of(rt.alloc(), chunks.as_slice())? == Some(BuildError::TooLong));
+    let symbols = some_symbols(rt.alloc(), 1048577, 7)?;
+    assert!(rt; refusal_of_lists(rt.alloc(), &[symbols.as_slice()])? == Some(BuildError::TooLong));
     Ok(())
 }
 

@@ -73,8 +73,8 @@ pub fn refuses(alloc: Global, store: &Halves, i: usize) -> Option<ChunkError> {
 
 /// Returns whether a store has exactly the chunks `chunks`, in this order.
 pub fn gives_all(alloc: Global, store: &Halves, chunks: &[&[usize]]) -> bool {
-    for (i, chunk) in chunks.iter().enumerate() {
-        if !gives(alloc, store, i, chunk) {
+    for i in 0..chunks.len() {
+        if !gives(alloc, store, i, chunks[i]) {
             return false;
         }
     }
