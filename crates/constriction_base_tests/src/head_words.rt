@@ -55,6 +55,24 @@ fn fills<B: ReadWords<u8, Stack, ReadError = Infallible>>(
     }
 }
 
+/// Writes words of three numbers, first with [`appends`] and then with [`writes`]. Returns whether all calls succeed.
+fn writes_three_numbers<B>(words: &mut B) -> bool
+where
+    B: WriteWords<u8, WriteError = BoundedWriteError>,
+{
+    appends(words, 0x0201, 2) == Wrote::All
+        && appends(words, 0x0504, 0) == Wrote::All
+        && writes(words, 0x0403, 1) == Wrote::All
+}
+
+/// Fills four numbers from the words `[5, 7]`, from their end. Returns whether the results are as expected.
+fn fills_four_numbers<B: ReadWords<u8, Stack, ReadError = Infallible>>(words: &mut B) -> bool {
+    fills(words, 1) == (0x0107, true)
+        && fills(words, 0x0100) == (0x0100, true)
+        && fills(words, 2) == (0x0205, true)
+        && fills(words, 3) == (3, false)
+}
+
 /// Returns whether `number` has `words` words, and `below_one` words below its leading 1.
 ///
 /// `below_one` is `None` if the bits below the leading 1 don't fill whole words, or if there is no leading 1.
@@ -73,9 +91,7 @@ fn words_of_a_number_are_counted(rt: HostRuntime) {
 fn the_lowest_word_is_written_first(rt: HostRuntime) {
     let mut buffer = [9u8, 0, 0, 0];
     let mut cursor = Cursor::new_at_write_beginning(&mut buffer[1..]);
-    assert!(rt; appends(&mut cursor, 0x0201, 2) == Wrote::All);
-    assert!(rt; appends(&mut cursor, 0x0504, 0) == Wrote::All);
-    assert!(rt; writes(&mut cursor, 0x0403, 1) == Wrote::All);
+    assert!(rt; writes_three_numbers(&mut cursor));
     assert!(rt; buffer == [9, 1, 2, 3]);
 }
 
@@ -83,8 +99,5 @@ fn the_lowest_word_is_written_first(rt: HostRuntime) {
 fn words_move_in_below_a_number(rt: HostRuntime) {
     let words = [5u8, 7];
     let mut cursor = Cursor::new_at_write_end(words.as_slice());
-    assert!(rt; fills(&mut cursor, 1) == (0x0107, true));
-    assert!(rt; fills(&mut cursor, 0x0100) == (0x0100, true));
-    assert!(rt; fills(&mut cursor, 2) == (0x0205, true));
-    assert!(rt; fills(&mut cursor, 3) == (3, false));
+    assert!(rt; fills_four_numbers(&mut cursor));
 }

@@ -8,6 +8,11 @@ use std::alloc::AllocError;
 use std::convert::Infallible;
 use std::test::Fail;
 
+/// Returns whether the backend holds `words`.
+fn holds<B: Words<u32>>(backend: &B, words: &[u32]) -> bool {
+    backend.words() == words
+}
+
 /// Writes three words to an empty backend. Returns whether all calls return what is expected.
 fn grows<B>(backend: &mut B) -> bool
 where
@@ -32,17 +37,21 @@ where
     let are_three = !seems_full(backend)
         & !seems_popped(backend)
         & stacks(backend, 3)
-        & (backend.words() == [7u32, 8, 9].as_slice());
+        & holds(backend, &[7, 8, 9]);
     are_three
         & pops(backend, Some(9))
         & pops(backend, Some(8))
         & stacks(backend, 1)
-        & (backend.words() == [7u32].as_slice())
+        & holds(backend, &[7])
 }
 
-/// Writes words to an empty vector, and reads the last words. Returns whether all calls return what is expected.
-fn grows_and_shrinks(words: &mut Vec<u32>) -> bool {
-    grows(words) && shrinks(words)
+/// Writes words to an empty backend, and reads the last words. Returns whether all calls return what is expected.
+fn grows_and_shrinks<B>(backend: &mut B) -> bool
+where
+    B: BoundedReadWords<u32, Stack> + ReadWords<u32, Stack, ReadError = Infallible>,
+    B: WriteWords<u32, WriteError = AllocError> + Words<u32>,
+{
+    grows(backend) && shrinks(backend)
 }
 
 /// Seeks in the words `[7, 8, 9]`. Returns whether seeks cut the words, and seeks past their end are refused.
@@ -53,10 +62,10 @@ where
 {
     stands(backend, 3)
         & !seeks(backend, 4)
-        & (backend.words() == [7u32, 8, 9].as_slice())
+        & holds(backend, &[7, 8, 9])
         & seeks(backend, 3)
         & seeks(backend, 1)
-        & (backend.words() == [7u32].as_slice())
+        & holds(backend, &[7])
         & !seeks(backend, 2)
         & stands(backend, 1)
 }
@@ -82,7 +91,7 @@ fn slice_is_changed() -> bool {
 
 #[test]
 fn a_vector_is_a_stack(rt: HostRuntime) {
-    assert!(rt; grows_and_shrinks(&mut Vec::new(rt.alloc())));
+    assert!(rt; grows_and_shrinks(&mut Vec::<u32>::new(rt.alloc())));
 }
 
 #[test]
