@@ -7,6 +7,11 @@ use constriction_store::{BuildError, ChunkError};
 use std::alloc::{AllocError, Global};
 use std::test::Fail;
 
+/// Returns whether a look-up of chunk `i` is refused because there is no such chunk.
+fn has_no_chunk(alloc: Global, store: &Halves, i: usize) -> bool {
+    refuses(alloc, store, i) == Some(ChunkError::NoSuchChunk)
+}
+
 #[test]
 fn store_program(rt: HostRuntime) -> Result<(), Fail> {
     let store = three(rt.alloc())?;
@@ -15,26 +20,24 @@ fn store_program(rt: HostRuntime) -> Result<(), Fail> {
             && gives(rt.alloc(), &store, 2, &[1])
             && gives(rt.alloc(), &store, 1, &[])
             && gives(rt.alloc(), &store, 0, &[1, 0])
-            && refuses(rt.alloc(), &store, 3) == Some(ChunkError::NoSuchChunk)
+            && has_no_chunk(rt.alloc(), &store, 3)
     );
     Ok(())
 }
 
-/// Returns the error of building a store of `lists`, or `None` if the store is built.
-fn refusal_of_lists(alloc: Global, lists: &[&[usize]]) -> Result<Option<BuildError>, Fail> {
+/// Returns whether building a store of `lists` is refused with `expected`.
+fn are_refused(alloc: Global, lists: &[&[usize]], expected: BuildError) -> Result<bool, Fail> {
     let chunks = chunks_of(alloc, lists)?;
-    refusal_of(alloc, chunks.as_slice())
+    Ok(refusal_of(alloc, chunks.as_slice())? == Some(expected))
 }
 
 #[test]
 fn store_build_refusals(rt: HostRuntime) -> Result<(), Fail> {
     let impossible = BuildError::ImpossibleSymbol { chunk: 1, index: 1 };
-    assert!(rt; refusal_of_lists(rt.alloc(), &[&[0], &[1, 2]])? == Some(impossible));
+    assert!(rt; are_refused(rt.alloc(), &[&[0], &[1, 2]], impossible)?);
     let store = store_of(rt.alloc(), &[])?;
     assert!(rt;
-        store.words().is_empty()
-            && store.num_chunks() == 0
-            && refuses(rt.alloc(), &store, 0) == Some(ChunkError::NoSuchChunk)
+        store.words().is_empty() && store.num_chunks() == 0 && has_no_chunk(rt.alloc(), &store, 0)
     );
     Ok(())
 }
@@ -105,7 +108,7 @@ fn store_many_chunks(rt: HostRuntime) -> Result<(), Fail> {
 #[test]
 fn store_of_one_symbol_too_many(rt: HostRuntime) -> Result<(), Fail> {
     let symbols = some_symbols(rt.alloc(), 1048577, 7)?;
-    assert!(rt; refusal_of_lists(rt.alloc(), &[symbols.as_slice()])? == Some(BuildError::TooLong));
+    assert!(rt; are_refused(rt.alloc(), &[symbols.as_slice()], BuildError::TooLong)?);
     Ok(())
 }
 
