@@ -5,7 +5,6 @@ use constriction_base::weights::WeightTable;
 use constriction_models::lookup::ContiguousLookupDecoderModel;
 use constriction_models::uniform::UniformModel;
 use std::alloc::Global;
-use std::test::Fail;
 
 /// Returns whether a lookup model of weights, two of which are 0, has intervals for exactly the weights above 0.
 fn weights_are_looked_up(alloc: Global) -> bool {
@@ -30,12 +29,11 @@ fn quantiles_are_looked_up(alloc: Global, symbols: &[usize]) -> bool {
 }
 
 #[test]
-fn symbols_are_looked_up(rt: HostRuntime) -> Result<(), Fail> {
-    let mut symbols = Vec::new(rt.alloc());
-    for symbol in 0..256usize {
-        symbols.push(symbol)?;
+fn symbols_are_looked_up(rt: HostRuntime) {
+    let mut symbols = [0; 256];
+    for symbol in 0..256 {
+        symbols[symbol] = symbol;
     }
     assert!(rt; weights_are_looked_up(rt.alloc()));
-    assert!(rt; quantiles_are_looked_up(rt.alloc(), symbols.as_slice()));
-    Ok(())
+    assert!(rt; quantiles_are_looked_up(rt.alloc(), &symbols));
 }
