@@ -105,15 +105,9 @@ pub trait DecoderModelList<P: BitArray, const PRECISION: usize>: Drop {
 /// A caller's arguments that describe the models of a list of symbols.
 ///
 /// An implementor is one form of these arguments. The implementor's definition `coded` states which arguments are
-/// valid, and which models valid arguments describe. The implementor proves three facts:
-///
-/// - `check` returns an error if and only if the arguments aren't valid.
-/// - `know` returns whether each model has an entry for its symbol.
-/// - `list` returns the models.
+/// valid, and which models valid arguments describe. The implementor proves that `check` returns an error if and only
+/// if the arguments aren't valid. [`EncoderModels`] and [`DecoderModels`] return the models.
 pub trait Models<P: BitArray, const PRECISION: usize>: Drop {
-    /// The type of the list of models.
-    type List: ModelList<P, PRECISION>;
-
     // The symbols with their models, and which arguments are valid.
     ghost coded: { Self → List ℕ → Coded };
 
@@ -128,13 +122,22 @@ pub trait Models<P: BitArray, const PRECISION: usize>: Drop {
         requires { (1 ≤ PRECISION) × (PRECISION ≤ P.BITS) }
         ensures { (symbols : List ℕ) → length symbols ≡ count
             → AsksFit PRECISION (coded self.now symbols) (Otherwise NoRefusal) result };
+}
+
+/// A caller's arguments that describe the models of a list of symbols to encode.
+///
+/// The implementor proves two facts: `know` returns whether each model has an entry for its symbol, and `list` returns
+/// the models.
+pub trait EncoderModels<P: BitArray, const PRECISION: usize>: Models<P, PRECISION> {
+    /// The type of the list of models.
+    type List: ModelList<P, PRECISION>;
 
     /// Returns whether each model has an entry for its symbol. The call needs no memory.
     ///
     /// The caller proves that `check` would succeed.
     fn know<S: Symbol>(&self, symbols: &[S]) -> bool
-        requires { AreFit PRECISION (coded self.now (S.numbers symbols.now)) }
-        ensures { IsTrue result ↔ AreKnown (items PRECISION (coded self.now (S.numbers symbols.now))) };
+        requires { AreFit PRECISION (Self.coded self.now (S.numbers symbols.now)) }
+        ensures { IsTrue result ↔ AreKnown (items PRECISION (Self.coded self.now (S.numbers symbols.now))) };
 
     /// Returns the models of `count` symbols, or `None` if there is no memory for the models.
     ///
@@ -142,16 +145,16 @@ pub trait Models<P: BitArray, const PRECISION: usize>: Drop {
     /// encode. Then the models may keep the reciprocals of the weights. The caller proves that `check` would succeed.
     fn list(&self, alloc: Global, count: usize, divides: bool) -> Option<Self::List>
         requires precision { (1 ≤ PRECISION) × (PRECISION ≤ P.BITS) }
-        requires fit { (symbols : List ℕ) × (length symbols ≡ count) × AreFit PRECISION (coded self.now symbols) }
+        requires fit { (symbols : List ℕ) × (length symbols ≡ count) × AreFit PRECISION (Self.coded self.now symbols) }
         ensures count { IfSome result (λ list. length (Self.List.tables list) ≡ count) }
-        ensures items { IfSome result (λ list. AreTablesFor PRECISION (coded self.now) count
+        ensures items { IfSome result (λ list. AreTablesFor PRECISION (Self.coded self.now) count
             (Self.List.tables list)) };
 }
 
 /// A caller's arguments that describe the models of a list of symbols to decode.
 ///
-/// An implementor can decode with models of another type than the models that `list` returns. Calls that encode require
-/// only [`Models`], so their proofs don't depend on that type.
+/// An implementor can decode with models of another type than the models that [`EncoderModels::list`] returns. So the
+/// proof of an encode doesn't depend on the types of this trait, and that of a decode not on those of [`EncoderModels`].
 pub trait DecoderModels<P: BitArray, const PRECISION: usize>: Models<P, PRECISION> {
     /// The type of the decoded symbols.
     type Symbol: Symbol;
@@ -207,7 +210,7 @@ pub fn check_for<P: BitArray, G: DecoderModels<P, PRECISION>, const PRECISION: u
 ///
 /// ```
 /// let weights = Weights { weights: &[255u8, 1] };
-/// if let Some(mut list) = Models::<u8, 8>::list(&weights, alloc, 2, false) {
+/// if let Some(mut list) = EncoderModels::<u8, 8>::list(&weights, alloc, 2, false) {
 ///     ModelList::<u8, 8>::interval(&mut list, 1, 1) // Some((255, 1, None))
 /// }
 /// ```

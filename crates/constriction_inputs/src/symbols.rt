@@ -4,7 +4,7 @@ ghost use Rattle.std.specs.Prelude.{◌≡◌, length};
 ghost use Rattle.constriction_base.specs.Models.{pairs_of};
 
 use crate::items::{ItemList, Items};
-use crate::models::{ModelList, Models};
+use crate::models::{EncoderModels, ModelList};
 use crate::refusal::Refusal;
 use crate::symbol::Symbol;
 use constriction_words::{BitArray, Reciprocal};
@@ -39,7 +39,7 @@ pub struct SymbolList<
     ghost counted: { length (L.tables models) ≡ length symbols.now },
 }
 
-impl<'a, P: BitArray, G: Models<P, PRECISION>, S: Symbol, const PRECISION: usize> Items<
+impl<'a, P: BitArray, G: EncoderModels<P, PRECISION>, S: Symbol, const PRECISION: usize> Items<
     P,
     PRECISION,
 > for Symbols<'a, G, S> {

@@ -11,7 +11,7 @@ use crate::store::indexing::put_index;
 use constriction_base::weights::WeightTable;
 use constriction_inputs::buffers::append;
 use constriction_inputs::models::weights::table_by;
-use constriction_inputs::models::{Models, Weights};
+use constriction_inputs::models::{EncoderModels, Weights};
 use constriction_inputs::refusal::Refusal;
 use constriction_inputs::rows::adding::is_total;
 use constriction_queue::RangeCoderState;
@@ -114,7 +114,7 @@ pub fn build<Word: WordOf<State>, State: BitArray, P: WordOf<Word>, const PRECIS
     let Some((made, index)) = build_store::<Word, State, P, PRECISION>(
         alloc, weights, symbols, lengths,
     ) else {
-        if Models::<P, PRECISION>::know(&Weights { weights }, symbols) {
+        if EncoderModels::<P, PRECISION>::know(&Weights { weights }, symbols) {
             return Err(Refusal::NoMemory);
         }
         return Err(Refusal::ImpossibleSymbol);

@@ -7,7 +7,7 @@ ghost use Rattle.constriction_models.specs.Categorical.{MakeCategorical, categor
 ghost use Rattle.std.proofs.Common.{refl};
 
 use crate::models::families::are_below;
-use crate::models::{DecoderModels, Each, ModelList, Models};
+use crate::models::{DecoderModels, Each, EncoderModels, ModelList, Models};
 use crate::refusal::Refusal;
 use crate::rows::adding::is_product;
 use crate::symbol::Symbol;
@@ -34,8 +34,6 @@ pub struct Counts<'a> {
 }
 
 impl<'a, P: WordOf<u32>, const PRECISION: usize> Models<P, PRECISION> for Counts<'a> {
-    type List = CountList<'a, P, PRECISION>;
-
     ghost coded = { λ given. by_counts P.BITS given.width given.counts.now };
 
     fn check(&self, count: usize) -> Result<(), Refusal> {
@@ -48,6 +46,10 @@ impl<'a, P: WordOf<u32>, const PRECISION: usize> Models<P, PRECISION> for Counts
             Err(Refusal::WrongWeights)
         }
     }
+}
+
+impl<'a, P: WordOf<u32>, const PRECISION: usize> EncoderModels<P, PRECISION> for Counts<'a> {
+    type List = CountList<'a, P, PRECISION>;
 
     fn know<S: Symbol>(&self, symbols: &[S]) -> bool {
         are_below::<S>(symbols, self.width)

@@ -12,7 +12,7 @@ ghost use Rattle.constriction_inputs.specs.Refusals.{Asks, Otherwise, NoRefusal}
 ghost use Rattle.constriction_inputs.specs.declared.refusal.Refusal.TheVariants as refusals;
 ghost use Rattle.std.proofs.Common.{refl};
 
-use crate::models::{DecoderModelList, DecoderModels, ModelList, Models, entry_of};
+use crate::models::{DecoderModelList, DecoderModels, EncoderModels, ModelList, Models, entry_of};
 use crate::refusal::Refusal;
 use crate::symbol::Symbol;
 use constriction_base::model::EntropyModel;
@@ -50,8 +50,6 @@ pub struct Families<'a> {
 }
 
 impl<'a, P: WordOf<u32>, const PRECISION: usize> Models<P, PRECISION> for Families<'a> {
-    type List = FamilyIntervals<'a, P, PRECISION>;
-
     ghost coded = { λ given. by_family (family_arguments given) };
 
     fn check(&self, count: usize) -> Result<(), Refusal> {
@@ -63,6 +61,10 @@ impl<'a, P: WordOf<u32>, const PRECISION: usize> Models<P, PRECISION> for Famili
             Err(refusal) => Err(refusal),
         }
     }
+}
+
+impl<'a, P: WordOf<u32>, const PRECISION: usize> EncoderModels<P, PRECISION> for Families<'a> {
+    type List = FamilyIntervals<'a, P, PRECISION>;
 
     fn know<S: Symbol>(&self, symbols: &[S]) -> bool {
         are_places::<S>(self, symbols)
@@ -119,7 +121,7 @@ impl<'a, P: WordOf<u32>, const PRECISION: usize> DecoderModels<P, PRECISION> for
 /// # Examples
 ///
 /// ```
-/// if let Some(mut list) = Models::<u32, 24>::list(&families, alloc, 2, false) {
+/// if let Some(mut list) = EncoderModels::<u32, 24>::list(&families, alloc, 2, false) {
 ///     ModelList::<u32, 24>::interval(&mut list, 1, 130)
 /// }
 /// ```

@@ -15,7 +15,7 @@ use crate::known::is_known;
 use crate::models::families::are_below;
 use crate::models::guided::{Guided, guided_by};
 use crate::models::weights_model::WeightsModel;
-use crate::models::{DecoderModelList, DecoderModels, ModelList, Models, entry_of};
+use crate::models::{DecoderModelList, DecoderModels, EncoderModels, ModelList, Models, entry_of};
 use crate::refusal::Refusal;
 use crate::rows::Row;
 use crate::rows::adding::{are_totals, is_product};
@@ -119,8 +119,6 @@ pub struct Indexed<'a, P> {
 }
 
 impl<'a, P: BitArray, const PRECISION: usize> Models<P, PRECISION> for Indexed<'a, P> {
-    type List = IndexedList<'a, P, PRECISION>;
-
     ghost coded = { λ given. by_indexes given.width (map P.number given.weights.now) given.indexes.now };
 
     fn check(&self, count: usize) -> Result<(), Refusal> {
@@ -137,6 +135,10 @@ impl<'a, P: BitArray, const PRECISION: usize> Models<P, PRECISION> for Indexed<'
             Err(Refusal::WrongWeights)
         }
     }
+}
+
+impl<'a, P: BitArray, const PRECISION: usize> EncoderModels<P, PRECISION> for Indexed<'a, P> {
+    type List = IndexedList<'a, P, PRECISION>;
 
     fn know<S: Symbol>(&self, symbols: &[S]) -> bool {
         for i in 0..symbols.len() {
@@ -210,7 +212,7 @@ impl<'a, P: BitArray, const PRECISION: usize> DecoderModels<P, PRECISION> for In
 /// # Examples
 ///
 /// ```
-/// if let Some(mut list) = Models::<u8, 8>::list(&indexed, alloc, 3, false) {
+/// if let Some(mut list) = EncoderModels::<u8, 8>::list(&indexed, alloc, 3, false) {
 ///     ModelList::<u8, 8>::interval(&mut list, 2, 1) // Some((128, 128, None)), under table 1
 /// }
 /// ```

@@ -12,7 +12,9 @@ ghost use Rattle.constriction_inputs.specs.Quantized.{family_of, symbols_in};
 ghost use Rattle.std.proofs.Common.{refl};
 
 use crate::models::families::are_places;
-use crate::models::{DecoderModelList, DecoderModels, Families, ModelList, Models, entry_of};
+use crate::models::{
+    DecoderModelList, DecoderModels, EncoderModels, Families, ModelList, Models, entry_of,
+};
 use crate::refusal::Refusal;
 use crate::rows::adding::is_product;
 use crate::symbol::Symbol;
@@ -74,8 +76,6 @@ impl<'a> Mixtures<'a> {
 }
 
 impl<'a, P: WordOf<u32>, const PRECISION: usize> Models<P, PRECISION> for Mixtures<'a> {
-    type List = MixtureList<'a, P, PRECISION>;
-
     ghost coded = { λ given. by_mixture
         (record {
           components = record {
@@ -105,6 +105,10 @@ impl<'a, P: WordOf<u32>, const PRECISION: usize> Models<P, PRECISION> for Mixtur
         }
         Ok(())
     }
+}
+
+impl<'a, P: WordOf<u32>, const PRECISION: usize> EncoderModels<P, PRECISION> for Mixtures<'a> {
+    type List = MixtureList<'a, P, PRECISION>;
 
     fn know<S: Symbol>(&self, symbols: &[S]) -> bool {
         are_places::<S>(&self.components, symbols)
@@ -139,7 +143,7 @@ impl<'a, P: WordOf<u32>, const PRECISION: usize> DecoderModels<P, PRECISION> for
     type DecoderList = MixtureList<'a, P, PRECISION>;
 
     fn decoder_list(&self, alloc: Global, count: usize) -> Option<MixtureList<'a, P, PRECISION>> {
-        Models::<P, PRECISION>::list(self, alloc, count, false)
+        EncoderModels::<P, PRECISION>::list(self, alloc, count, false)
     }
 
     ghost kept_law = { λ given ns fit known. refl };
@@ -153,7 +157,7 @@ impl<'a, P: WordOf<u32>, const PRECISION: usize> DecoderModels<P, PRECISION> for
 /// # Examples
 ///
 /// ```
-/// if let Some(mut list) = Models::<u32, 24>::list(&mixtures, alloc, 2, false) {
+/// if let Some(mut list) = EncoderModels::<u32, 24>::list(&mixtures, alloc, 2, false) {
 ///     ModelList::<u32, 24>::interval(&mut list, 1, 100)
 /// }
 /// ```

@@ -5,7 +5,6 @@ ghost use Rattle.constriction_inputs.specs.Weights.{narrow_by_weights};
 ghost use Rattle.constriction_inputs.specs.laws.Weights.{known_below};
 
 use crate::models::table_or_rows::TableOrRows;
-use crate::models::weights::WeightsList;
 use crate::models::{DecoderModels, Models, One, Weights};
 use crate::refusal::Refusal;
 use crate::symbol::Symbol;
@@ -40,8 +39,6 @@ impl<'a, P, S> NarrowWeights<'a, P, S> {
 
 impl<'a, P: BitArray, S: Symbol, const PRECISION: usize> Models<P, PRECISION>
     for NarrowWeights<'a, P, S> {
-    type List = WeightsList<'a, P, PRECISION>;
-
     ghost coded = { λ given. narrow_by_weights S.many (map P.number given.weights.now) };
 
     fn check(&self, count: usize) -> Result<(), Refusal> {
@@ -49,19 +46,6 @@ impl<'a, P: BitArray, S: Symbol, const PRECISION: usize> Models<P, PRECISION>
             return Err(Refusal::WrongLength);
         }
         Models::<P, PRECISION>::check(&self.table(), count)
-    }
-
-    fn know<T: Symbol>(&self, symbols: &[T]) -> bool {
-        Models::<P, PRECISION>::know(&self.table(), symbols)
-    }
-
-    fn list(
-        &self,
-        alloc: Global,
-        count: usize,
-        divides: bool,
-    ) -> Option<WeightsList<'a, P, PRECISION>> {
-        Models::<P, PRECISION>::list(&self.table(), alloc, count, divides)
     }
 }
 

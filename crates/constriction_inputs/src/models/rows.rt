@@ -7,7 +7,7 @@ ghost use Rattle.constriction_inputs.specs.Weights.{IsTotal};
 ghost use Rattle.std.proofs.Common.{refl};
 
 use crate::known::all_known_in_rows;
-use crate::models::{DecoderModels, Each, ModelList, Models, entry_of};
+use crate::models::{DecoderModels, Each, EncoderModels, ModelList, Models, entry_of};
 use crate::refusal::Refusal;
 use crate::rows::adding::{are_totals, is_product};
 use crate::rows::{Row, total_rows};
@@ -31,8 +31,6 @@ pub struct Rows<'a, P> {
 }
 
 impl<'a, P: BitArray, const PRECISION: usize> Models<P, PRECISION> for Rows<'a, P> {
-    type List = RowList<'a, P, PRECISION>;
-
     ghost coded = { λ given. by_rows given.width (map P.number given.weights.now) };
 
     fn check(&self, count: usize) -> Result<(), Refusal> {
@@ -45,6 +43,10 @@ impl<'a, P: BitArray, const PRECISION: usize> Models<P, PRECISION> for Rows<'a, 
             Err(Refusal::WrongWeights)
         }
     }
+}
+
+impl<'a, P: BitArray, const PRECISION: usize> EncoderModels<P, PRECISION> for Rows<'a, P> {
+    type List = RowList<'a, P, PRECISION>;
 
     fn know<S: Symbol>(&self, symbols: &[S]) -> bool {
         all_known_in_rows::<P, S, PRECISION>(self.weights, self.width, symbols)
@@ -85,7 +87,7 @@ impl<'a, P: BitArray, const PRECISION: usize> DecoderModels<P, PRECISION> for Ro
 ///
 /// ```
 /// let rows = Rows { weights: &[255u8, 1, 128, 128], width: 2 };
-/// if let Some(mut list) = Models::<u8, 8>::list(&rows, alloc, 2, false) {
+/// if let Some(mut list) = EncoderModels::<u8, 8>::list(&rows, alloc, 2, false) {
 ///     ModelList::<u8, 8>::interval(&mut list, 1, 1) // Some((128, 128, None))
 /// }
 /// ```

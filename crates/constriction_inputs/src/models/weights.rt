@@ -11,7 +11,7 @@ use crate::models::row_lookup::RowLookup;
 use crate::models::table_or_row::TableOrRow;
 use crate::models::table_or_rows::TableOrRows;
 use crate::models::weights_model::WeightsModel;
-use crate::models::{DecoderModels, ModelList, Models, One};
+use crate::models::{DecoderModels, EncoderModels, ModelList, Models, One};
 use crate::refusal::Refusal;
 use crate::rows::Row;
 use crate::rows::adding::is_total;
@@ -44,8 +44,6 @@ pub struct Weights<'a, P> {
 }
 
 impl<'a, P: BitArray, const PRECISION: usize> Models<P, PRECISION> for Weights<'a, P> {
-    type List = WeightsList<'a, P, PRECISION>;
-
     ghost coded = { λ given. by_weights (map P.number given.weights.now) };
 
     fn check(&self, _count: usize) -> Result<(), Refusal> {
@@ -55,6 +53,10 @@ impl<'a, P: BitArray, const PRECISION: usize> Models<P, PRECISION> for Weights<'
             Err(Refusal::WrongWeights)
         }
     }
+}
+
+impl<'a, P: BitArray, const PRECISION: usize> EncoderModels<P, PRECISION> for Weights<'a, P> {
+    type List = WeightsList<'a, P, PRECISION>;
 
     fn know<S: Symbol>(&self, symbols: &[S]) -> bool {
         for i in 0..symbols.len() {
@@ -107,7 +109,7 @@ impl<'a, P: BitArray, const PRECISION: usize> Models<P, PRECISION> for Weights<'
 ///
 /// ```
 /// let weights = Weights { weights: &[255u8, 1] };
-/// if let Some(mut list) = Models::<u8, 8>::list(&weights, alloc, 2, false) {
+/// if let Some(mut list) = EncoderModels::<u8, 8>::list(&weights, alloc, 2, false) {
 ///     ModelList::<u8, 8>::interval(&mut list, 1, 1) // Some((255, 1, None))
 /// }
 /// ```

@@ -11,7 +11,7 @@ ghost use Rattle.constriction_models.specs.Quantizers.{symbol_count, first_symbo
 ghost use Rattle.constriction_inputs.specs.Quantized.{AreIntervalsOf, family_arguments, tables_by};
 ghost use Rattle.constriction_inputs.specs.QuantizedCalls.{WritesIntervals, intervals_in};
 
-use crate::models::{Families, Models};
+use crate::models::{EncoderModels, Families, Models};
 use crate::refusal::Refusal;
 use constriction_base::model::EncoderModel;
 use constriction_models::families::Family;
@@ -52,7 +52,7 @@ pub fn intervals_of_quantized<P: WordOf<u32>, const PRECISION: usize>(
         Ok(made) => made,
         Err(refusal) => return Err(refusal),
     };
-    if !Models::<P, PRECISION>::know::<usize>(families, symbols) {
+    if !EncoderModels::<P, PRECISION>::know::<usize>(families, symbols) {
         return Err(Refusal::ImpossibleSymbol);
     }
     put_intervals(

@@ -1,6 +1,6 @@
 use Rattle.std.proofs.Common.{◌<◌, ℕ, map, arith}
 use Rattle.constriction_inputs.proofs.IndexedTables.{all_at, items_listed, models_counted}
-use Rattle.constriction_inputs.proofs.models.indexed.IndexedModels.list.Goals as goal
+use Rattle.constriction_inputs.proofs.models.indexed.IndexedEncoderModels.list.Goals as goal
 
 pub invariant_of-result : goal.invariant_of-result
 invariant_of-result g c =

@@ -7,7 +7,7 @@ use Rattle.constriction_inputs.specs.Weights.{weights_model}
 use Rattle.constriction_inputs.proofs.IndexedTables.{all_at, known_joined, known_split}
 use Rattle.constriction_inputs.proofs.MixtureTables.{row_ends}
 use Rattle.constriction_inputs.proofs.RowTables.{not_all}
-use Rattle.constriction_inputs.proofs.models.indexed.IndexedModels.know.Goals as goal
+use Rattle.constriction_inputs.proofs.models.indexed.IndexedEncoderModels.know.Goals as goal
 
 pub weights_at-row-requires : goal.weights_at-row-requires
 weights_at-row-requires g c =

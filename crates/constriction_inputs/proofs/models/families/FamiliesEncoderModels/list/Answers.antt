@@ -1,7 +1,7 @@
 use Rattle.std.proofs.Common.{◌∙◌, Some, sym}
 use Rattle.constriction_models.specs.Quantizers.{symbol_count, first_symbol}
 use Rattle.constriction_inputs.proofs.FamilyTables.{tables_counted}
-use Rattle.constriction_inputs.proofs.models.families.FamiliesModels.list.Goals as goal
+use Rattle.constriction_inputs.proofs.models.families.FamiliesEncoderModels.list.Goals as goal
 
 pub returns-clause-count : goal.returns-clause-count
 returns-clause-count g c =

@@ -1,5 +1,5 @@
 use Rattle.constriction_inputs.proofs.CountTables.{all_known, known_all}
-use Rattle.constriction_inputs.proofs.models.counts.CountsModels.know.Goals as goal
+use Rattle.constriction_inputs.proofs.models.counts.CountsEncoderModels.know.Goals as goal
 
 pub returns : goal.returns
 returns g c =

@@ -2,7 +2,7 @@ use Rattle.std.proofs.Common.{ℕ, ℤ, arith, zip}
 use Rattle.std.proofs.lemmas.Slice.Zip.{length-zip}
 use Rattle.constriction_inputs.specs.Quantized.{below_by, family_of, symbols_in}
 use Rattle.constriction_inputs.proofs.FamilyTables.{known_places, places_known}
-use Rattle.constriction_inputs.proofs.models.families.FamiliesModels.know.Goals as goal
+use Rattle.constriction_inputs.proofs.models.families.FamiliesEncoderModels.know.Goals as goal
 
 pub returns : goal.returns
 returns g c =

@@ -2,7 +2,7 @@ use Rattle.std.proofs.Common.{◌∙◌, map, refl, sym}
 use Rattle.std.proofs.lemmas.List.{length-map}
 use Rattle.constriction_inputs.proofs.Listing.{rows_listed, tables_counted}
 use Rattle.constriction_inputs.proofs.RowTables.{each_total}
-use Rattle.constriction_inputs.proofs.models.rows.RowsModels.list.Goals as goal
+use Rattle.constriction_inputs.proofs.models.rows.RowsEncoderModels.list.Goals as goal
 
 pub invariant_of-result : goal.invariant_of-result
 invariant_of-result g c =

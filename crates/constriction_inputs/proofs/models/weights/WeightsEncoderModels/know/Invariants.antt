@@ -1,7 +1,7 @@
 use Rattle.std.proofs.Common.{drop, map}
 use Rattle.constriction_base.specs.Models.{AreKnown, items_of}
 use Rattle.constriction_inputs.specs.Weights.{weights_model}
-use Rattle.constriction_inputs.proofs.models.weights.WeightsModels.know.Given as goal
+use Rattle.constriction_inputs.proofs.models.weights.WeightsEncoderModels.know.Given as goal
 
 abbrev pub invariant-loop-i : goal.invariant-loop-i
 invariant-loop-i g l =

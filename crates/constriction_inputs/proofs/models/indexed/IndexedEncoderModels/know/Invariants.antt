@@ -2,7 +2,7 @@ use Rattle.std.proofs.Common.{map}
 use Rattle.constriction_base.specs.Models.{AreKnown}
 use Rattle.constriction_inputs.specs.Indexed.{index_items}
 use Rattle.constriction_inputs.proofs.IndexedTables.{items_from}
-use Rattle.constriction_inputs.proofs.models.indexed.IndexedModels.know.Given as goal
+use Rattle.constriction_inputs.proofs.models.indexed.IndexedEncoderModels.know.Given as goal
 
 abbrev pub invariant-loop-i : goal.invariant-loop-i
 invariant-loop-i g l =

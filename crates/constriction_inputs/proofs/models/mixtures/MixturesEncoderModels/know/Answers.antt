@@ -5,7 +5,7 @@ use Rattle.constriction_models.specs.Mixtures.{mixed}
 use Rattle.constriction_inputs.specs.Mixtures.{ByMixture, components_at}
 use Rattle.constriction_inputs.specs.Quantized.{symbols_in}
 use Rattle.constriction_inputs.proofs.FamilyTables.{known_places, places_known}
-use Rattle.constriction_inputs.proofs.models.mixtures.MixturesModels.know.Goals as goal
+use Rattle.constriction_inputs.proofs.models.mixtures.MixturesEncoderModels.know.Goals as goal
 
 pub returns : goal.returns
 returns g c =

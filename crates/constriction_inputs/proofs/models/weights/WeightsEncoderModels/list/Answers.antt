@@ -1,7 +1,7 @@
 use Rattle.std.proofs.Common.{map, ap}
 use Rattle.constriction_base.specs.Tables.{table_of}
 use Rattle.constriction_inputs.proofs.Listing.{items_listed}
-use Rattle.constriction_inputs.proofs.models.weights.WeightsModels.list.Goals as goal
+use Rattle.constriction_inputs.proofs.models.weights.WeightsEncoderModels.list.Goals as goal
 
 pub returns-then-count-le1-clause-items : goal.returns-then-count-le1-clause-items
 returns-then-count-le1-clause-items g c =

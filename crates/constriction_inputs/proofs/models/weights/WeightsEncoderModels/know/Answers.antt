@@ -1,7 +1,7 @@
 use Rattle.std.proofs.Common.{◌<◌, arith, length, rules}
 use Rattle.std.proofs.lemmas.List.{drop_more}
 use Rattle.constriction_inputs.proofs.RowTables.{not_all}
-use Rattle.constriction_inputs.proofs.models.weights.WeightsModels.know.Goals as goal
+use Rattle.constriction_inputs.proofs.models.weights.WeightsEncoderModels.know.Goals as goal
 
 pub returns-then-not-is_known : goal.returns-then-not-is_known
 returns-then-not-is_known g c =

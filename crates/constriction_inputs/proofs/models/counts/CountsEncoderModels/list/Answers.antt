@@ -1,6 +1,6 @@
 use Rattle.std.proofs.Common.{refl}
 use Rattle.constriction_inputs.proofs.CountTables.{items_listed, tables_counted}
-use Rattle.constriction_inputs.proofs.models.counts.CountsModels.list.Goals as goal
+use Rattle.constriction_inputs.proofs.models.counts.CountsEncoderModels.list.Goals as goal
 
 pub invariant_of-result : goal.invariant_of-result
 invariant_of-result g c =
