@@ -8,6 +8,7 @@ import re
 from judging import TOP, judge, read
 
 BELOW = ["constriction_words", "constriction_base", "constriction_stream"]
+TESTS = ["constriction_lower_tests", "constriction_coder_tests", "constriction_upper_tests"]
 
 
 def sources(crates, folders):
@@ -57,7 +58,6 @@ def test():
         if not crates:
             continue
         parts = parts_of(BELOW + crates)
-        all_of_them = BELOW + crates + [f"{it}_tests" for it in crates]
-        words = set(re.findall(r"\w+", " ".join(sources(all_of_them, ["src", "specs", "proofs"]))))
+        words = set(re.findall(r"\w+", " ".join(sources(BELOW + crates + TESTS, ["src", "specs", "proofs"]))))
         for row in re.findall(r"^\| (.*) \|$", section, flags=re.M):
             judge_row(row, crates, parts, words)
