@@ -54,6 +54,10 @@ pub trait ModelList<P: BitArray, const PRECISION: usize>: Drop {
     // The tables of the models, in order.
     ghost tables: { Self → List (List (ℕ × ℕ × ℕ)) };
 
+    /// Returns the number of models.
+    fn count(&self) -> usize
+        ensures { result ≡ length (tables self.now) };
+
     /// Returns the start and the length of a symbol's interval under the model at index `place`, in quantiles.
     ///
     /// The third value is the reciprocal of the length, if the list stores it. Returns `None` if the model has no entry
@@ -154,7 +158,8 @@ pub trait EncoderModels<P: BitArray, const PRECISION: usize>: Models<P, PRECISIO
 /// A caller's arguments that describe the models of a list of symbols to decode.
 ///
 /// An implementor can decode with models of another type than the models that [`EncoderModels::list`] returns. So the
-/// proof of an encode doesn't depend on the types of this trait, and that of a decode not on those of [`EncoderModels`].
+/// proof of an encode doesn't depend on the types of this trait, and the proof of a decode doesn't depend on those of
+/// [`EncoderModels`].
 pub trait DecoderModels<P: BitArray, const PRECISION: usize>: Models<P, PRECISION> {
     /// The type of the decoded symbols.
     type Symbol: Symbol;
@@ -229,6 +234,11 @@ impl<
     const LOOKS_AHEAD: bool = false;
 
     ghost tables = { λ one. replicate one.count (M.table one.model) };
+
+    #[inline]
+    fn count(&self) -> usize {
+        self.count
+    }
 
     #[inline(always)]
     fn interval(

@@ -1,6 +1,6 @@
 //! [`Symbols`]: items that a caller passes as symbols and models.
 
-ghost use Rattle.std.specs.Prelude.{◌≡◌, length};
+ghost use Rattle.std.specs.Prelude.{length};
 ghost use Rattle.constriction_base.specs.Models.{pairs_of};
 
 use crate::items::{ItemList, Items};
@@ -9,7 +9,6 @@ use crate::refusal::Refusal;
 use crate::symbol::Symbol;
 use constriction_words::{BitArray, Reciprocal};
 use std::alloc::Global;
-use std::marker::PhantomData;
 
 /// Symbols, and the models that describe them. `models` has a model for each symbol.
 ///
@@ -24,26 +23,20 @@ pub struct Symbols<'a, G, S> {
     pub symbols: &'a [S],
 }
 
-/// Symbols with a list of models, ready to encode.
+/// Symbols with a list of models, ready to encode. The items are the pairs up to the end of the shorter list.
+///
+/// The type parameters have no bounds, so a proof that mentions this type spells none of their implementations.
 #[derive(Drop)]
-pub struct SymbolList<
-    'a,
-    P: BitArray,
-    L: ModelList<P, PRECISION>,
-    S: Symbol,
-    const PRECISION: usize,
-> {
+pub struct SymbolList<'a, L, S> {
     models: L,
     symbols: &'a [S],
-    probability: PhantomData<P>,
-    ghost counted: { length (L.tables models) ≡ length symbols.now },
 }
 
 impl<'a, P: BitArray, G: EncoderModels<P, PRECISION>, S: Symbol, const PRECISION: usize> Items<
     P,
     PRECISION,
 > for Symbols<'a, G, S> {
-    type List = SymbolList<'a, P, G::List, S, PRECISION>;
+    type List = SymbolList<'a, G::List, S>;
 
     ghost coded = { λ given. G.coded given.models (S.numbers given.symbols.now) };
 
@@ -63,16 +56,11 @@ impl<'a, P: BitArray, G: EncoderModels<P, PRECISION>, S: Symbol, const PRECISION
     }
 
     #[inline]
-    fn list(
-        &self,
-        alloc: Global,
-        divides: bool,
-    ) -> Option<SymbolList<'a, P, G::List, S, PRECISION>> {
+    fn list(&self, alloc: Global, divides: bool) -> Option<SymbolList<'a, G::List, S>> {
         match self.models.list(alloc, self.symbols.len(), divides) {
             Some(models) => Some(SymbolList {
                 models,
                 symbols: self.symbols,
-                probability: PhantomData,
             }),
             None => None,
         }
@@ -82,7 +70,7 @@ impl<'a, P: BitArray, G: EncoderModels<P, PRECISION>, S: Symbol, const PRECISION
 impl<'a, P: BitArray, L: ModelList<P, PRECISION>, S: Symbol, const PRECISION: usize> ItemList<
     P,
     PRECISION,
-> for SymbolList<'a, P, L, S, PRECISION> {
+> for SymbolList<'a, L, S> {
     const LOOKS_AHEAD: bool = L::LOOKS_AHEAD;
 
     ghost list_items = { λ list. pairs_of PRECISION (λ table. table) (S.numbers list.symbols.now)
@@ -90,7 +78,7 @@ impl<'a, P: BitArray, L: ModelList<P, PRECISION>, S: Symbol, const PRECISION: us
 
     #[inline]
     fn count(&self) -> usize {
-        self.symbols.len()
+        self.symbols.len().min(self.models.count())
     }
 
     #[inline(always)]

@@ -4,14 +4,14 @@ ghost use Rattle.constriction_chain.specs.Chain.{IsSized};
 
 use super::coders::Whole;
 use super::reversed::back_by;
-use constriction_base::errors::CoderError;
-use constriction_base::weights::WeightTable;
-use constriction_chain::{ChainCoder, ChainCoderHeads};
 use crate::scripts::answers::{DONE, MEMORY, OTHER, ScriptWord, answer_if};
 use crate::scripts::numbers::{Number, same, words_of};
 use crate::scripts::putting::put_by;
 use crate::scripts::script::{Act, Script, find};
 use crate::scripts::taking::take_by;
+use constriction_base::errors::CoderError;
+use constriction_base::weights::WeightTable;
+use constriction_chain::{ChainCoder, ChainCoderHeads};
 use constriction_stream::coder::Code;
 use constriction_stream::decoding::Decode;
 use constriction_stream::encoding::Encode;

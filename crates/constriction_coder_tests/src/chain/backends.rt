@@ -1,12 +1,12 @@
 //! A test of seeking with a coder that reads its compressed words from a buffer through a cursor.
 
 use super::coders::{Table, WEIGHTS};
+use crate::scripts::answers::DONE;
+use crate::scripts::taking::take_each;
 use constriction_base::backends::{Pos, Seek};
 use constriction_base::cursor::Cursor;
 use constriction_base::weights::WeightTable;
 use constriction_chain::ChainCoder;
-use crate::scripts::answers::DONE;
-use crate::scripts::taking::take_each;
 use std::test::Fail;
 
 /// A coder with 8-bit words that can seek. A cursor reads its compressed words from a buffer.

@@ -4,10 +4,10 @@ ghost use Rattle.std.specs.Prelude.{◌≤◌};
 
 use super::acts::{act_by, failure};
 use super::coders::{Coarse, Fine, Table, Whole};
-use constriction_base::weights::WeightTable;
-use constriction_chain::ChangePrecisionError;
 use crate::scripts::answers::{DONE, MEMORY, ScriptWord};
 use crate::scripts::script::{Act, Script};
+use constriction_base::weights::WeightTable;
+use constriction_chain::ChangePrecisionError;
 use constriction_words::{BitArray, WordOf};
 use std::alloc::Global;
 

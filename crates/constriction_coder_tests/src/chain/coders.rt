@@ -4,11 +4,11 @@ ghost use Rattle.constriction_chain.specs.Chain.{IsSized};
 ghost use Rattle.std.specs.Prelude.{◌≤◌};
 
 use super::acts::follow;
-use constriction_base::weights::WeightTable;
-use constriction_chain::{ChainCoder, ChainCoderHeads};
 use crate::scripts::answers::MEMORY;
 use crate::scripts::numbers::Number;
 use crate::scripts::script::Script;
+use constriction_base::weights::WeightTable;
+use constriction_chain::{ChainCoder, ChainCoderHeads};
 use constriction_words::{BitArray, WordOf};
 use std::alloc::Global;
 use std::test::Fail;

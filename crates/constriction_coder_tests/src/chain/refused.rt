@@ -12,9 +12,9 @@
 
 use super::changes::{Either, Tables, change_by, follow_changes};
 use super::coders::{Coarse, Fine, Table, WEIGHTS, empty};
-use constriction_base::weights::WeightTable;
 use crate::scripts::answers::{DONE, MEMORY, OTHER, ScriptWord};
 use crate::scripts::script::Script;
+use constriction_base::weights::WeightTable;
 use constriction_stream::decoding::Decode;
 use std::alloc::{AllocError, Global};
 use std::iter;

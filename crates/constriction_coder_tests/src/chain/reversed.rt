@@ -1,9 +1,9 @@
 //! Runs script steps that encode a list from the last symbol to the first, with `ChainCoder`'s inherent methods.
 
 use super::coders::Whole;
-use constriction_base::weights::WeightTable;
 use crate::scripts::answers::{OTHER, answer_of};
 use crate::scripts::script::{Act, error_at};
+use constriction_base::weights::WeightTable;
 use constriction_words::{BitArray, WordOf};
 
 /// Returns an item of a list: the error if there is one, or else the symbol with its table.

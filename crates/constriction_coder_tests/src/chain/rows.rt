@@ -2,9 +2,9 @@
 
 use super::changes::{Either, Tables, decrease, follow_changes};
 use super::coders::{Coarse, Part, WEIGHTS, coarse, empty, fine, said, small, wide};
+use crate::scripts::script::Script;
 use constriction_base::weights::WeightTable;
 use constriction_chain::{ChainCoder, DefaultChainCoder};
-use crate::scripts::script::Script;
 use std::test::Fail;
 
 /// Checks the default coder. The first quantile is 2241348, which is the only quantile of symbol 1.

@@ -4,10 +4,10 @@ use super::coders::{INVERTING, Table, small, small_of};
 use super::decoding::Lent;
 use super::flagged::{switch_of, tables_of};
 use super::parts::{is_interval, is_situation};
+use crate::scripts::taking::take_each;
 use constriction_base::backends::{BoundedReadWords, Queue};
 use constriction_base::weights::WeightTable;
 use constriction_queue::{EncoderSituation, RangeCoderState};
-use crate::scripts::taking::take_each;
 use std::test::Fail;
 
 /// Checks an encoder over words, taking an encoder apart, and each way to get a decoder from an encoder.

@@ -5,12 +5,12 @@ ghost use Rattle.std.specs.Prelude.{◌≤◌};
 
 use super::decoding::{Owning, follow_decoding};
 use super::encoding::follow;
-use constriction_base::cursor::Cursor;
-use constriction_base::weights::{TableError, WeightTable};
-use constriction_queue::{RangeDecoder, RangeEncoder};
 use crate::scripts::answers::MEMORY;
 use crate::scripts::numbers::Number;
 use crate::scripts::script::Script;
+use constriction_base::cursor::Cursor;
+use constriction_base::weights::{TableError, WeightTable};
+use constriction_queue::{RangeDecoder, RangeEncoder};
 use constriction_words::{BitArray, WordOf};
 use std::alloc::Global;
 use std::test::Fail;

@@ -12,15 +12,15 @@
 ghost use Rattle.constriction_base.specs.Steps.{IsSizes};
 
 use super::parts::{is_interval, state_of};
+use crate::scripts::answers::{DONE, OTHER, ScriptWord, answer_if};
+use crate::scripts::numbers::Number;
+use crate::scripts::script::{Act, Script};
+use crate::scripts::taking::take_by;
 use constriction_base::backends::{BoundedReadWords, Queue, Seek};
 use constriction_base::cursor::Cursor;
 use constriction_base::model::DecoderModel;
 use constriction_base::weights::WeightTable;
 use constriction_queue::RangeDecoder;
-use crate::scripts::answers::{DONE, OTHER, ScriptWord, answer_if};
-use crate::scripts::numbers::Number;
-use crate::scripts::script::{Act, Script};
-use crate::scripts::taking::take_by;
 use constriction_stream::coder::Code;
 use constriction_stream::decoding::Decode;
 use constriction_words::{BitArray, WordOf};

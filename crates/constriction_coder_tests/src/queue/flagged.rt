@@ -4,10 +4,10 @@
 //! model has a precision of 4 bits, and codes the symbols after the flag.
 
 use super::coders::{Coder, Table, small_of};
+use crate::scripts::answers::{OTHER, answer_of};
 use constriction_base::cursor::Cursor;
 use constriction_base::weights::WeightTable;
 use constriction_queue::{FlagSwitch, RangeDecoder, encode_flagged};
-use crate::scripts::answers::{OTHER, answer_of};
 use constriction_stream::encoding::Encode;
 use std::alloc::Global;
 use std::test::Fail;

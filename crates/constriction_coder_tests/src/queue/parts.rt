@@ -2,8 +2,8 @@
 
 ghost use Rattle.constriction_base.specs.Steps.{IsSizes};
 
-use constriction_queue::{EncoderSituation, RangeCoderState};
 use crate::scripts::numbers::Number;
+use constriction_queue::{EncoderSituation, RangeCoderState};
 use constriction_words::{BitArray, WordOf};
 use std::num::NonZeroUsize;
 

@@ -13,10 +13,10 @@
 use super::coders::{Coder, INVERTING, Table};
 use super::encoding::{encode_by, follow};
 use super::flagged::{Tables, put_flagged, tables_of};
-use constriction_base::weights::WeightTable;
 use crate::scripts::answers::{DONE, MEMORY, OTHER};
 use crate::scripts::putting::put_each;
 use crate::scripts::script::Script;
+use constriction_base::weights::WeightTable;
 use std::alloc::{AllocError, Global};
 use std::test::Fail;
 

@@ -1,14 +1,14 @@
 //! The interpreter of scripts on coders that can encode and decode.
 
 use super::reading::{Below, is_at_head};
-use constriction_base::backends::{BoundedReadWords, ReadWords, Stack, WriteWords};
-use constriction_base::errors::CoderError;
-use constriction_base::weights::WeightTable;
 use crate::scripts::answers::{OTHER, ScriptWord, answer_if};
 use crate::scripts::numbers::{Number, same};
 use crate::scripts::putting::{put_back_by, put_by};
 use crate::scripts::script::{Act, Script, find};
 use crate::scripts::taking::take_by;
+use constriction_base::backends::{BoundedReadWords, ReadWords, Stack, WriteWords};
+use constriction_base::errors::CoderError;
+use constriction_base::weights::WeightTable;
 use constriction_stack::AnsCoder;
 use constriction_stream::decoding::Decode;
 use constriction_stream::encoding::Encode;

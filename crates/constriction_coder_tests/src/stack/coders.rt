@@ -5,11 +5,11 @@ ghost use Rattle.std.specs.Prelude.{◌≤◌};
 
 use super::acts::follow;
 use super::owning::follow_owning;
-use constriction_base::cursor::Cursor;
-use constriction_base::weights::WeightTable;
 use crate::scripts::answers::MEMORY;
 use crate::scripts::numbers::Number;
 use crate::scripts::script::Script;
+use constriction_base::cursor::Cursor;
+use constriction_base::weights::WeightTable;
 use constriction_stack::AnsCoder;
 use constriction_words::{BitArray, WordOf};
 use std::alloc::Global;

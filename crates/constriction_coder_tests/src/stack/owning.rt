@@ -4,13 +4,13 @@ ghost use Rattle.constriction_base.specs.Steps.{IsSizes};
 
 use super::acts::act_by;
 use super::reading::{Below, seek, stands_at};
-use constriction_base::backends::{ReadWords, Stack, WriteWords};
-use constriction_base::cursor::Cursor;
-use constriction_base::weights::WeightTable;
 use crate::scripts::answers::{DONE, MEMORY, OTHER, ScriptWord, answer_if};
 use crate::scripts::numbers::{Number, same, words_of};
 use crate::scripts::script::{Act, Script, find};
 use crate::scripts::taking::take_each;
+use constriction_base::backends::{ReadWords, Stack, WriteWords};
+use constriction_base::cursor::Cursor;
+use constriction_base::weights::WeightTable;
 use constriction_stack::AnsCoder;
 use constriction_stream::coder::Code;
 use constriction_stream::conversions::{AsDecoder, IntoDecoder};

@@ -1,14 +1,14 @@
 //! Heads, words and positions of coders as scripts write them, and an interpreter for coders that can decode and seek.
 
+use crate::scripts::answers::{OTHER, ScriptWord, answer_if};
+use crate::scripts::numbers::Number;
+use crate::scripts::script::{Act, Script};
+use crate::scripts::taking::take_each;
 use constriction_base::backends::{
     BoundedReadWords, Holds, Pos, PosSeek, ReadWords, Seek, Stack, Words,
 };
 use constriction_base::cursor::Cursor;
 use constriction_base::weights::WeightTable;
-use crate::scripts::answers::{OTHER, ScriptWord, answer_if};
-use crate::scripts::numbers::Number;
-use crate::scripts::script::{Act, Script};
-use crate::scripts::taking::take_each;
 use constriction_stack::AnsCoder;
 use constriction_stream::coder::Code;
 use constriction_words::{BitArray, WordOf};

@@ -14,9 +14,9 @@
 
 use super::coders::{Small, Table};
 use super::owning::{export, export_binary, follow_owning, own_by};
-use constriction_base::weights::WeightTable;
 use crate::scripts::answers::{DONE, MEMORY, OTHER};
 use crate::scripts::script::Script;
+use constriction_base::weights::WeightTable;
 use constriction_stack::AnsCoder;
 use constriction_stream::coder::Code;
 use std::alloc::{AllocError, Global};

@@ -2,12 +2,12 @@
 
 use super::coders::{Table, said};
 use super::reading::follow_seeking;
+use crate::scripts::script::Script;
 use constriction_base::backends::Pos;
 use constriction_base::cursor::Cursor;
 use constriction_base::iterators::FallibleIteratorReadWords;
 use constriction_base::reverse::Reverse;
 use constriction_base::weights::WeightTable;
-use crate::scripts::script::Script;
 use constriction_stack::AnsCoder;
 use constriction_stream::coder::Code;
 use std::test::Fail;

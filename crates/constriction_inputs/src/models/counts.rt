@@ -95,7 +95,7 @@ impl<'a, P: WordOf<u32>, const PRECISION: usize> DecoderModels<P, PRECISION> for
 ///
 /// ```
 /// let rows = Counts { counts: &[3, 1, 0, 4], width: 2 };
-/// if let Some(mut list) = Models::<u16, 12>::list(&rows, alloc, 2, false) {
+/// if let Some(mut list) = EncoderModels::<u16, 12>::list(&rows, alloc, 2, false) {
 ///     ModelList::<u16, 12>::interval(&mut list, 1, 0) // Some((0, 1, None))
 /// }
 /// ```
@@ -116,6 +116,11 @@ impl<'a, P: WordOf<u32>, const PRECISION: usize> ModelList<P, PRECISION>
     const LOOKS_AHEAD: bool = true;
 
     ghost tables = { λ list. count_tables PRECISION list.width list.count list.counts.now };
+
+    #[inline]
+    fn count(&self) -> usize {
+        self.count
+    }
 
     #[inline]
     fn interval(

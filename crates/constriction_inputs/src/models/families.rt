@@ -142,6 +142,11 @@ impl<'a, P: WordOf<u32>, const PRECISION: usize> ModelList<P, PRECISION>
     ghost tables = { λ list. tables_by PRECISION (Some list.family) (first_symbol list.quantizer)
         (symbol_count list.quantizer) list.locations.now list.scales.now };
 
+    #[inline]
+    fn count(&self) -> usize {
+        self.locations.len()
+    }
+
     #[inline(always)]
     fn interval(
         &mut self,

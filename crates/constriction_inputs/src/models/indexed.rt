@@ -232,6 +232,11 @@ impl<'a, P: BitArray, const PRECISION: usize> ModelList<P, PRECISION>
         ⟦<GuidedOrRow<'a, P, PRECISION> as EntropyModel<PRECISION>>⟧.table list.models.items) index [])
         list.indexes.now };
 
+    #[inline]
+    fn count(&self) -> usize {
+        self.indexes.len()
+    }
+
     #[inline(always)]
     fn interval(
         &mut self,

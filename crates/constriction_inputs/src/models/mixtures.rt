@@ -203,6 +203,11 @@ impl<'a, P: WordOf<u32>, const PRECISION: usize> ModelList<P, PRECISION>
         }) list.count };
 
     #[inline]
+    fn count(&self) -> usize {
+        self.count
+    }
+
+    #[inline]
     fn interval(
         &mut self,
         place: usize,

@@ -109,6 +109,11 @@ impl<'a, P: BitArray, const PRECISION: usize> ModelList<P, PRECISION>
     ghost tables = { λ list. row_tables list.width list.count (map P.number list.weights.now) };
 
     #[inline]
+    fn count(&self) -> usize {
+        self.count
+    }
+
+    #[inline]
     fn interval(
         &mut self,
         place: usize,

@@ -124,6 +124,11 @@ impl<'a, P: BitArray, const PRECISION: usize> ModelList<P, PRECISION>
 
     ghost tables = { λ list. ⟦<One<TableOrRow<'a, P, PRECISION>> as ModelList<P, PRECISION>>⟧.tables list.models };
 
+    #[inline]
+    fn count(&self) -> usize {
+        ModelList::<P, PRECISION>::count(&self.models)
+    }
+
     #[inline(always)]
     fn interval(
         &mut self,
