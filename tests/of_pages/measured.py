@@ -126,7 +126,9 @@ def first_calls(rows):
     yield f"constriction_words: {re.search(r'in the same run .([0-9]+) ', text)[1]}"
     if answered := re.search(r"unproved answer came after (\d+) s", text):
         yield f"unproved answer: {answered[1]}"
-    for name, (_, *cells) in zip(("first call", "library", "gate run"), rows):
+    names = {"first call": "first call", "library": "library", "gate": "gate run"}
+    for row, *cells in rows:
+        name = next(named for word, named in names.items() if word in row)
         times = " ".join(cell.split()[0] for cell in cells)
         yield f"{name}: {times}" + (f" {re.search('in the gate ([0-9]+)', text)[1]}" if name == "gate run" else "")
 
