@@ -39,6 +39,11 @@ const WORDS: [u32; 4] = [0x0123_4567, 0x89ab_cdef, 0x0bad_cafe, 0x5eed_5eed];
 /// 8192. Each of the eight symbols 0 and 3 has 1608 thousandths of a bit. Each of the other four symbols has 2541.
 const MILLIBITS: u64 = 8 * 1608 + 4 * 2541;
 
+/// Makes a table with these weights.
+fn new_table(alloc: Global, weights: &[u32]) -> Result<Table> {
+    Ok(Table::new(alloc, weights)?)
+}
+
 /// Decodes a symbol, or a latent, with a table.
 fn take_off(coder: &mut Coder, table: &Table) -> usize
     ensures { Decodes 32 64 (model_of table.now) result coder.old.state coder.new.state }
@@ -76,16 +81,16 @@ impl Mixture {
 
     fn new(alloc: Global) -> Result<Mixture> {
         Ok(Mixture {
-            prior: Table::new(alloc, &[2048, 2048])?,
+            prior: new_table(alloc, &[2048, 2048])?,
             symbols: [
-                Table::new(alloc, &[2560, 1024, 384, 128])?,
-                Table::new(alloc, &[128, 384, 1024, 2560])?,
+                new_table(alloc, &[2560, 1024, 384, 128])?,
+                new_table(alloc, &[128, 384, 1024, 2560])?,
             ],
             posteriors: [
-                Table::new(alloc, &[3901, 195])?,
-                Table::new(alloc, &[2979, 1117])?,
-                Table::new(alloc, &[1117, 2979])?,
-                Table::new(alloc, &[195, 3901])?,
+                new_table(alloc, &[3901, 195])?,
+                new_table(alloc, &[2979, 1117])?,
+                new_table(alloc, &[1117, 2979])?,
+                new_table(alloc, &[195, 3901])?,
             ],
         })
     }

@@ -19,6 +19,13 @@ use std::alloc::Global;
 use std::fmt::Display;
 use std::iter;
 
+type Table = WeightTable<u32, 24>;
+
+/// Makes a table with these weights.
+fn new_table(alloc: Global, weights: &[u32]) -> Result<Table> {
+    Ok(Table::new(alloc, weights)?)
+}
+
 /// Prints a decoded symbol. Fails if the decode failed.
 fn show<Symbol: Display + Copy, E: Drop>(rt: &impl Print, symbol: Result<Symbol, E>) -> Result<()> {
     let Ok(symbol) = symbol else {
@@ -29,11 +36,7 @@ fn show<Symbol: Display + Copy, E: Drop>(rt: &impl Print, symbol: Result<Symbol,
 }
 
 /// Decodes one symbol, and prints it.
-fn take_one<Coder: Decode<24>>(
-    rt: &impl Print,
-    coder: &mut Coder,
-    table: &WeightTable<u32, 24>,
-) -> Result<()>
+fn take_one<Coder: Decode<24>>(rt: &impl Print, coder: &mut Coder, table: &Table) -> Result<()>
 where
     u32: WordOf<Coder::Word>,
     Coder::FrontendError: Drop,
@@ -47,7 +50,7 @@ fn take_all<Coder: Decode<24>>(
     rt: &impl Print,
     coder: &mut Coder,
     count: usize,
-    table: &WeightTable<u32, 24>,
+    table: &Table,
 ) -> Result<()>
 where
     u32: WordOf<Coder::Word>,
@@ -61,11 +64,7 @@ where
 }
 
 /// Decodes two symbols each with its own model, and prints them.
-fn take_each<Coder: Decode<24>>(
-    rt: &impl Print,
-    coder: &mut Coder,
-    table: &WeightTable<u32, 24>,
-) -> Result<()>
+fn take_each<Coder: Decode<24>>(rt: &impl Print, coder: &mut Coder, table: &Table) -> Result<()>
 where
     u32: WordOf<Coder::Word>,
     Coder::FrontendError: Drop,
@@ -79,7 +78,7 @@ where
 
 /// Runs the calls of each coder, and prints the results.
 pub fn run(rt: &impl Print, alloc: Global) -> Result<()> {
-    let table = WeightTable::<u32, 24>::new(alloc, &[3, 2, 16777211])?;
+    let table = new_table(alloc, &[3, 2, 16777211])?;
     stack::run(rt, alloc, &table)?;
     chain::run(rt, alloc)?;
     queue::run(rt, alloc, &table)?;

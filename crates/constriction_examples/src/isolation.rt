@@ -35,6 +35,11 @@ const LATER: usize = 7;
 /// The first symbol, and the later symbols.
 type Symbols = (usize, Vec<usize>);
 
+/// Makes a table with these weights.
+fn new_table(alloc: Global, weights: &[u16]) -> Result<Table> {
+    Ok(Table::new(alloc, weights)?)
+}
+
 /// Decodes a symbol with `first`, and then one with each table of `later`.
 ///
 /// The function is generic over decoders, so its proof is made once for both coders.
@@ -85,11 +90,11 @@ fn show(rt: &impl Print, coder: &str, one: &Symbols, other: &Symbols) -> Result<
 ///
 /// Each coder decodes twice, with different models for the first symbol.
 pub fn run(rt: &impl Print, alloc: Global) -> Result<()> {
-    let first = Table::new(alloc, &[2048, 1024, 512, 512])?;
-    let replaced = Table::new(alloc, &[512, 512, 1024, 2048])?;
+    let first = new_table(alloc, &[2048, 1024, 512, 512])?;
+    let replaced = new_table(alloc, &[512, 512, 1024, 2048])?;
     let mut later = Vec::new(alloc);
     'later: for _ in 0..LATER {
-        later.push(Table::new(alloc, &[256; 16])?)?;
+        later.push(new_table(alloc, &[256; 16])?)?;
     }
     let one = by_stack(alloc, &first, &later)?;
     let other = by_stack(alloc, &replaced, &later)?;

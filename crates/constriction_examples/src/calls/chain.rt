@@ -1,12 +1,9 @@
 //! Calls of the chain coder with concrete types: 32-bit words, a 64-bit remainders head and tables of weights.
 
-use super::take_all;
+use super::{Table, new_table, take_all};
 use anyhow::{Result, bail};
 use constriction::stream::chain::DefaultChainCoder;
-use constriction::stream::model::WeightTable;
 use std::alloc::Global;
-
-type Table = WeightTable<u32, 24>;
 
 /// Encodes symbols, each paired with its model, from the last symbol to the first.
 fn put(coder: &mut DefaultChainCoder, table: &Table) -> Result<()> {
@@ -28,12 +25,17 @@ fn change(coder: DefaultChainCoder) -> Result<DefaultChainCoder> {
     Ok(coder)
 }
 
+/// Decodes four symbols, and prints them.
+fn take(rt: &impl Print, coder: &mut DefaultChainCoder, table: &Table) -> Result<()> {
+    take_all(rt, coder, 4, table)
+}
+
 /// Decodes symbols, changes the precision, encodes and decodes symbols, and prints all symbols decoded.
 fn take_and_put(rt: &impl Print, mut coder: DefaultChainCoder, table: &Table) -> Result<()> {
-    take_all(rt, &mut coder, 4, table)?;
+    take(rt, &mut coder, table)?;
     let mut coder = change(coder)?;
     put(&mut coder, table)?;
-    take_all(rt, &mut coder, 4, table)
+    take(rt, &mut coder, table)
 }
 
 /// Decodes symbols from words, changes the precision, encodes and decodes symbols, and prints all symbols decoded.
@@ -42,6 +44,6 @@ pub fn run(rt: &impl Print, alloc: Global) -> Result<()> {
     let Ok(coder) = DefaultChainCoder::from_compressed(alloc, words) else {
         bail!("too few words, or a zero word at the end");
     };
-    let table = WeightTable::<u32, 24>::new(alloc, &[8388608, 4194304, 4194304])?;
+    let table = new_table(alloc, &[8388608, 4194304, 4194304])?;
     take_and_put(rt, coder, &table)
 }

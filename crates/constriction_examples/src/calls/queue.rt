@@ -4,15 +4,12 @@
 //! as an argument doesn't know how many words are pending. `symbols_left` returns how many symbols the encoder can
 //! still encode.
 
-use super::{take_all, take_each, take_one};
+use super::{Table, take_all, take_each, take_one};
 use anyhow::{Result, bail};
-use constriction::stream::model::WeightTable;
 use constriction::stream::queue::{DefaultRangeDecoder, DefaultRangeEncoder, RangeCoderState};
 use constriction::stream::{Decode, Encode};
 use constriction::{Pos, Seek};
 use std::alloc::Global;
-
-type Table = WeightTable<u32, 24>;
 
 /// A position of a range coder: a number of words, and the coder's interval.
 type Position = (usize, RangeCoderState<u32, u64>);

@@ -1,16 +1,13 @@
 //! Calls of the stack coder with concrete types: 32-bit words, a 64-bit head and tables of weights.
 
-use super::{take_all, take_each, take_one};
+use super::{Table, take_all, take_each, take_one};
 use crate::uses::words_so_far;
 use anyhow::{Result, bail};
-use constriction::stream::model::WeightTable;
 use constriction::stream::stack::DefaultAnsCoder;
 use constriction::stream::{AsDecoder, Code, Encode, IntoDecoder};
 use constriction::{Pos, Seek};
 use std::alloc::Global;
 use std::iter;
-
-type Table = WeightTable<u32, 24>;
 
 /// Encodes lists of symbols, each list from its last symbol to its first.
 fn put_from_the_end(coder: &mut DefaultAnsCoder, table: &Table) -> Result<()> {
