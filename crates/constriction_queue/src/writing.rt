@@ -120,6 +120,24 @@ pub fn flush_words<Word: BitArray, Backend: WriteWords<Word>>(
     write_released(bulk, behind)
 }
 
+/// Writes the words of `held`, then `top` if there is one, after asking for room for all words to write.
+///
+/// Most steps don't call this function, so it isn't inlined. It has no argument that a step would have to store in
+/// memory first. If the backend refuses room or a write, the call returns the backend's error.
+#[cold]
+#[inline(never)]
+fn flush_released<Word: BitArray, Backend: WriteWords<Word>>(
+    bulk: &mut Backend,
+    held: ReleasedWords<Word>,
+    top: Option<Word>,
+) -> Result<(), Backend::WriteError>
+    requires { length (released_of Word.number (Some held)) + 2 < 2 ^ 64 }
+    ensures { Appends Word.number Backend.Holds Backend.WriteWords.own
+        (flushed_of Word.number (Some held) top None) bulk.old result bulk.new }
+{
+    flush_words(bulk, Some(held), top, None, None)
+}
+
 /// Writes `first`, then `second` if there is one, after asking for room for all words to write.
 #[inline(always)]
 fn write_two<Word: BitArray, Backend: WriteWords<Word>>(
@@ -167,5 +185,5 @@ pub fn write_step<Word: BitArray, Backend: WriteWords<Word>>(
     if held.count.get() == 1 {
         return write_two(bulk, held.first, top);
     }
-    flush_words(bulk, Some(held), top, None, None)
+    flush_released(bulk, held, top)
 }

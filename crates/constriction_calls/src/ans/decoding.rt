@@ -53,13 +53,11 @@ pub fn decode<
     let Some(mut list) = models.decoder_list(alloc, symbols.len()) else {
         return Err(Refusal::NoMemory);
     };
-    let (new_head, new_len) = decode_by(*head, words, *len, &mut list, symbols);
-    *head = new_head;
-    *len = new_len;
+    decode_by(head, words, len, &mut list, symbols);
     Ok(())
 }
 
-/// Decodes symbols into `symbols` with a list of models. Returns the new head and the number of words below it.
+/// Decodes symbols into `symbols` with a list of models.
 ///
 /// The state is `head` and the first `len` words of `words`. The caller proves that `len` isn't past the end of
 /// `words`, and that `models` has one model for each symbol.
@@ -71,26 +69,27 @@ fn decode_by<
     L: DecoderModelList<P, PRECISION>,
     S: Symbol,
     const PRECISION: usize,
->(head: State, words: &[Word], len: usize, models: &mut L, symbols: &mut [S]) -> (State, usize)
+>(head: &mut State, words: &[Word], len: &mut usize, models: &mut L, symbols: &mut [S])
     requires sizes { IsSizes Word.BITS State.BITS }
-    requires within { len ≤ length words.now }
+    requires within { len.now ≤ length words.now }
     requires count { length symbols.now ≡ length (L.tables models.now) }
     ensures decoded { (ns : List ℕ) × (length ns ≡ length symbols.old) × (S.numbers symbols.new ≡ S.kept ns)
         × DecodesAll Word.BITS State.BITS (pairs_of PRECISION (λ table. table) ns (L.tables models.old))
-        (ans_state_of Word.number State.number (coder_of head words.now len))
-        (ans_state_of Word.number State.number (coder_of result.0 words.now result.1)) }
-    ensures left { result.1 ≤ len }
+        (ans_state_of Word.number State.number (coder_of head.old words.now len.old))
+        (ans_state_of Word.number State.number (coder_of head.new words.now len.new)) }
+    ensures left { len.new ≤ len.old }
     ensures count { length symbols.new ≡ length symbols.old }
 {
-    let lent = Cursor::new_at_write_end(&words[..len]);
-    let mut coder = AnsCoder::<Word, State, _>::from_raw_parts(lent, head);
+    let lent = Cursor::new_at_write_end(&words[..*len]);
+    let mut coder = AnsCoder::<Word, State, _>::from_raw_parts(lent, *head);
     for place in 0..symbols.len() {
         models.select(place);
         symbols[place] = S::of(decode_next(&mut coder, models.model()));
     }
     let (cursor, new_head) = coder.into_raw_parts();
     let (_, left) = cursor.into_buf_and_pos();
-    (new_head, left)
+    *head = new_head;
+    *len = left;
 }
 
 /// Decodes a symbol with `model`. The call can't fail, because reading from a cursor never fails.

@@ -118,19 +118,26 @@ fn encode_list<
         (chain_buffers heads.old compressed.old len.old remainders.now rest.old)
         (chain_buffers heads.new compressed.new len.new remainders.now rest.new) result }
 {
-    if list.count() == 1 {
-        let mut room = [Word::nothing()];
-        return encode_within::<Word, State, P, L, PRECISION>(
-            &mut room, both, heads, compressed, len, remainders, rest, list,
-        );
-    }
-    let Ok(mut room) = vec![in alloc; Word::nothing(); list.count()] else {
+    let is_single = list.count() == 1;
+    let count = if is_single { 0 } else { list.count() };
+    let Ok(mut many) = vec![in alloc; Word::nothing(); count] else {
         return Err(Refusal::NoMemory);
     };
-    let room = room.as_mut_slice();
+    let mut single = [Word::nothing()];
+    let room = room_of(is_single, &mut single, &mut many);
     encode_within::<Word, State, P, L, PRECISION>(
         room, both, heads, compressed, len, remainders, rest, list,
     )
+}
+
+/// Returns the buffer for the new words of a single item, or of many.
+#[inline(always)]
+fn room_of<'a, Word>(
+    is_single: bool,
+    single: &'a mut [Word],
+    many: &'a mut [Word],
+) -> &'a mut [Word] {
+    if is_single { single } else { many }
 }
 
 /// Encodes items as [`encode_list`] does, and collects the new words in the buffer `room`.

@@ -40,6 +40,8 @@ impl<'a, P: BitArray, const PRECISION: usize> EncoderModel<PRECISION> for Row<'a
 }
 
 impl<'a, P: BitArray, const PRECISION: usize> DecoderModel<PRECISION> for Row<'a, P, PRECISION> {
+    // Not inlined, so that the loop is compiled alike for all coders.
+    #[inline(never)]
     fn quantile_function(&self, quantile: P) -> (usize, P, <P as BitArray>::NonZero) {
         let mut left = P::nothing();
         for symbol in 0..self.weights.len() {

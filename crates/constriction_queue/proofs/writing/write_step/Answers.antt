@@ -21,7 +21,7 @@ pub returns-then-get-eq1-clause-one : goal.returns-then-get-eq1-clause-one
 returns-then-get-eq1-clause-one g c = rw c.in-Some.is (λ none. absurd cc)
 
 pub returns-clause-written : goal.returns-clause-written
-returns-clause-written g c = rw c.in-Some.is c.flush_words.ensures
+returns-clause-written g c = rw c.in-Some.is c.flush_released.ensures
 
 pub returns-clause-one : goal.returns-clause-one
 returns-clause-one g c = rw c.in-Some.is (λ none. absurd cc)

@@ -40,15 +40,15 @@ returns-clause-decoded g c =
     let xs : take l.place l.symbols ≡ l.symbols = take_all l.place l.symbols (omega (arith, c.loop-place-test.false, l.invariant.count)) in
     let words = c.args.words.now in
     let number = g.Word.BitArray.number in
-    let first : c.new_at_write_end-lent.result.buf.now ≡ take c.args.len words = rw c.new_at_write_end-lent.ensures refl in
-    let end : c.new_at_write_end-lent.result.pos ≡ length (take c.args.len words) = rw c.new_at_write_end-lent.ensures refl in
-    let long : length (take c.args.len words) ≡ c.args.len = length-take-le c.args.len words c.requires.within in
+    let first : c.new_at_write_end-lent.result.buf.now ≡ take c.args.len.now words = rw c.new_at_write_end-lent.ensures refl in
+    let end : c.new_at_write_end-lent.result.pos ≡ length (take c.args.len.now words) = rw c.new_at_write_end-lent.ensures refl in
+    let long : length (take c.args.len.now words) ≡ c.args.len.now = length-take-le c.args.len.now words c.requires.within in
     let from = c.from_raw_parts-coder.ensures.state
-    ∙ lent_state number (g.State.BitArray.number c.args.head) c.new_at_write_end-lent.result.pos c.args.len c.args.len c.new_at_write_end-lent.result.buf.now words first (rw (first, end) (omega arith)) (sym (end ∙ long)) in
-    let last : c.into_raw_parts-cursor.result.0.buf.now ≡ take c.args.len words =
+    ∙ lent_state number (g.State.BitArray.number c.args.head.now) c.new_at_write_end-lent.result.pos c.args.len.now c.args.len.now c.new_at_write_end-lent.result.buf.now words first (rw (first, end) (omega arith)) (sym (end ∙ long)) in
+    let last : c.into_raw_parts-cursor.result.0.buf.now ≡ take c.args.len.now words =
     rw (c.into_raw_parts-cursor.ensures.backend, l.invariant.buffer, c.from_raw_parts-coder.ensures.backend) first in
     let to = c.into_raw_parts-cursor.ensures.state
-    ∙ lent_state number (g.State.BitArray.number c.into_raw_parts-cursor.result.1) c.into_raw_parts-cursor.result.0.pos c.into_buf_and_pos-left.result.1 c.args.len c.into_raw_parts-cursor.result.0.buf.now words last
+    ∙ lent_state number (g.State.BitArray.number c.into_raw_parts-cursor.result.1) c.into_raw_parts-cursor.result.0.pos c.into_buf_and_pos-left.result.1 c.args.len.now c.into_raw_parts-cursor.result.0.buf.now words last
     c.into_buf_and_pos-left.ensures.within c.into_buf_and_pos-left.ensures.pos in
     let all = l.invariant.decoded in
     (all.0, omega (arith, all.1, c.loop-place-test.false, l.invariant.count), rw xs at all.2, rw (sym from, sym to) all.3)
