@@ -64,6 +64,24 @@ fn put_on(coder: &mut Coder, symbol: usize, table: &Table) -> Result<()>
     Ok(())
 }
 
+/// Makes the table of the symbols for each latent.
+fn symbol_tables(alloc: Global) -> Result<[Table; 2]> {
+    Ok([
+        new_table(alloc, &[2560, 1024, 384, 128])?,
+        new_table(alloc, &[128, 384, 1024, 2560])?,
+    ])
+}
+
+/// Makes the table of the latents for each symbol.
+fn posteriors(alloc: Global) -> Result<[Table; 4]> {
+    Ok([
+        new_table(alloc, &[3901, 195])?,
+        new_table(alloc, &[2979, 1117])?,
+        new_table(alloc, &[1117, 2979])?,
+        new_table(alloc, &[195, 3901])?,
+    ])
+}
+
 /// The tables of the example: the prior of the latents, a model of symbols for each latent, and the posteriors.
 #[derive(Drop)]
 struct Mixture {
@@ -80,18 +98,13 @@ impl Mixture {
     ghost use Rattle.constriction_examples.specs.Hiding.{Hides};
 
     fn new(alloc: Global) -> Result<Mixture> {
+        let prior = new_table(alloc, &[2048, 2048])?;
+        let symbols = symbol_tables(alloc)?;
+        let posteriors = posteriors(alloc)?;
         Ok(Mixture {
-            prior: new_table(alloc, &[2048, 2048])?,
-            symbols: [
-                new_table(alloc, &[2560, 1024, 384, 128])?,
-                new_table(alloc, &[128, 384, 1024, 2560])?,
-            ],
-            posteriors: [
-                new_table(alloc, &[3901, 195])?,
-                new_table(alloc, &[2979, 1117])?,
-                new_table(alloc, &[1117, 2979])?,
-                new_table(alloc, &[195, 3901])?,
-            ],
+            prior,
+            symbols,
+            posteriors,
         })
     }
 

@@ -86,21 +86,48 @@ fn show(rt: &impl Print, coder: &str, one: &Symbols, other: &Symbols) -> Result<
     Ok(())
 }
 
-/// Decodes [`WORDS`] with a stack coder and with a chain coder, and prints the symbols.
-///
-/// Each coder decodes twice, with different models for the first symbol.
-pub fn run(rt: &impl Print, alloc: Global) -> Result<()> {
-    let first = new_table(alloc, &[2048, 1024, 512, 512])?;
-    let replaced = new_table(alloc, &[512, 512, 1024, 2048])?;
+/// Decodes [`WORDS`] with stack coders, and prints the symbols. The first symbol has the model `first` or `replaced`.
+fn show_stack(
+    rt: &impl Print,
+    alloc: Global,
+    first: &Table,
+    replaced: &Table,
+    later: &[Table],
+) -> Result<()> {
+    let one = by_stack(alloc, first, later)?;
+    let other = by_stack(alloc, replaced, later)?;
+    show(rt, "stack coder (ANS)", &one, &other)
+}
+
+/// Decodes [`WORDS`] with chain coders, and prints the symbols. The first symbol has the model `first` or `replaced`.
+fn show_chain(
+    rt: &impl Print,
+    alloc: Global,
+    first: &Table,
+    replaced: &Table,
+    later: &[Table],
+) -> Result<()> {
+    let one = by_chain(alloc, first, later)?;
+    let other = by_chain(alloc, replaced, later)?;
+    show(rt, "chain coder", &one, &other)
+}
+
+/// Makes the tables of the symbols after the first: 16 symbols of equal weights.
+fn later_tables(alloc: Global) -> Result<Vec<Table>> {
     let mut later = Vec::new(alloc);
     'later: for _ in 0..LATER {
         later.push(new_table(alloc, &[256; 16])?)?;
     }
-    let one = by_stack(alloc, &first, &later)?;
-    let other = by_stack(alloc, &replaced, &later)?;
-    show(rt, "stack coder (ANS)", &one, &other)?;
-    let one = by_chain(alloc, &first, &later)?;
-    let other = by_chain(alloc, &replaced, &later)?;
-    show(rt, "chain coder", &one, &other)?;
-    Ok(())
+    Ok(later)
+}
+
+/// Decodes [`WORDS`] with stack coders and with chain coders, and prints the symbols.
+///
+/// Each kind of coder decodes twice, with different models for the first symbol.
+pub fn run(rt: &impl Print, alloc: Global) -> Result<()> {
+    let first = new_table(alloc, &[2048, 1024, 512, 512])?;
+    let replaced = new_table(alloc, &[512, 512, 1024, 2048])?;
+    let later = later_tables(alloc)?;
+    show_stack(rt, alloc, &first, &replaced, &later)?;
+    show_chain(rt, alloc, &first, &replaced, &later)
 }
