@@ -93,22 +93,23 @@ impl<'a, P: WordOf<u32>, const PRECISION: usize> DecoderModels<P, PRECISION> for
 
     type DecoderList = FamilyList<'a, P, FamilyModel<P, PRECISION>, PRECISION>;
 
+    #[inline]
     fn decoder_list(
         &self,
         _alloc: Global,
-        count: usize,
+        _count: usize,
     ) -> Option<FamilyList<'a, P, FamilyModel<P, PRECISION>, PRECISION>> {
         let Ok((family, quantizer)) = self.family_and_range::<P, PRECISION>() else {
             return None;
         };
         let (locations, scales) = (self.locations, self.scales);
-        let model = model_of(family, &quantizer, 0, 1);
+        let model = first_model(family, &quantizer, locations, scales);
         Some(FamilyList {
             family,
             quantizer,
             locations,
             scales,
-            place: count,
+            place: 0,
             model,
         })
     }
@@ -169,8 +170,8 @@ impl<'a, P: WordOf<u32>, const PRECISION: usize> ModelList<P, PRECISION>
 
 /// The list of the models of a family, one for each symbol to decode. It holds the model of one symbol only.
 ///
-/// `select` replaces this model by the model of the selected symbol. To create this model, `select` computes the
-/// inverse of the symbol's scale.
+/// This is the first symbol's model until `select` replaces it by the model of another symbol. To create a model, the
+/// list computes the inverse of the symbol's scale. So a list of one symbol computes one inverse.
 ///
 /// # Examples
 ///
@@ -211,14 +212,16 @@ impl<'a, P: WordOf<u32>, const PRECISION: usize> DecoderModelList<P, PRECISION>
 
     #[inline(always)]
     fn select(&mut self, place: usize) {
-        self.model = model_at(
-            self.family,
-            &self.quantizer,
-            self.locations,
-            self.scales,
-            place,
-        );
-        self.place = place;
+        if place != self.place {
+            self.model = model_at(
+                self.family,
+                &self.quantizer,
+                self.locations,
+                self.scales,
+                place,
+            );
+            self.place = place;
+        }
     }
 
     #[inline(always)]
@@ -391,4 +394,28 @@ fn model_at<P: WordOf<u32>, const PRECISION: usize>(
         (first_symbol quantizer.now) (symbol_count quantizer.now) }
 {
     model_of(family, quantizer, locations[place], scales[place])
+}
+
+/// Returns the model of `family` with the first location and scale. Without a location, it is any model of the family.
+///
+/// The caller proves that there are as many scales as locations, and that the first scale is above 0.
+#[inline(always)]
+fn first_model<P: WordOf<u32>, const PRECISION: usize>(
+    family: Family,
+    quantizer: &LeakyQuantizer<P, PRECISION>,
+    locations: &[i64],
+    scales: &[u32],
+) -> FamilyModel<P, PRECISION>
+    requires counted { length locations.now ≡ length scales.now }
+    requires scaled { 0 < length scales.now → 0 < get_or scales.now 0 0 }
+    ensures { 0 < length locations.now → ⟦<FamilyModel<P, PRECISION> as EntropyModel<PRECISION>>⟧.table result
+        ≡ indexed PRECISION (below_by (Some family) (get_or locations.now 0 (pos 0)) (get_or scales.now 0 0))
+        (first_symbol quantizer.now) (symbol_count quantizer.now) }
+{
+    if locations.is_empty() {
+        // A scale of 1.0, whose inverse takes a short division.
+        model_of(family, quantizer, 0, 65536)
+    } else {
+        model_at(family, quantizer, locations, scales, 0)
+    }
 }
