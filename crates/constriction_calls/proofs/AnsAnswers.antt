@@ -44,18 +44,18 @@ module _ {Word State : Type 0} (number : Word → ℕ) (state : State → ℕ) (
       encodes_over w s (stack_in number old.words old.len) (reverse (items precision coded)) (record { head = state old.head; words = [] }) alone z
       (all-reverse (λ item. IsModel w item.model) (items precision coded) given.0) v given.1
 
-  pub puts_done : (new_words : List Word) (new_len : ℕ) → Appended old.words old.len added new_words new_len
-      → AnsEncodesList number state w s precision coded old (record { head = top; words = new_words; len = new_len }) (Ok tt)
-  puts_done new_words new_len a = record {
-    put = λ v. rw (stacked number old.words old.len added new_words new_len a) (whole v);
-    behind = (added, a, given.1);
+  pub puts_ended : (B : Type 0) (answer : Result (Unit {0}) Refusal) (new_head : State) (new_words : List Word) (new_len : ℕ)
+      → OnOk answer ((new_head ≡ top) × Appended old.words old.len added new_words new_len)
+      → IfErr answer (λ e. (e ≡ NoSpace (old.len + length added)) ⊎ ((e ≡ NoMemory) × B)) → OnErr answer (length old.words < old.len + length added)
+      → OnErr answer ((new_head ≡ old.head) × (new_words ≡ old.words) × (new_len ≡ old.len))
+      → AnsEncodesList number state w s precision coded old (record { head = new_head; words = new_words; len = new_len }) answer
+  puts_ended B (Ok u) new_head new_words new_len ended why short same = record {
+    put = λ v. rw (ended.0, stacked number old.words old.len added new_words new_len ended.1) (whole v);
+    behind = (added, ended.1, rw ended.0 given.1);
     asked = inr (within, fit_then precision coded fit (inr (items_known, tt)));
     kept = tt;
   }
-
-  pub puts_short : (B : Type 0) (new_words : List Word) (new_len : ℕ) (e : Refusal) → new_words ≡ old.words → new_len ≡ old.len → length old.words < old.len + length added
-      → (e ≡ NoSpace (old.len + length added)) ⊎ ((e ≡ NoMemory) × B) → AnsEncodesList number state w s precision coded old (record { head = old.head; words = new_words; len = new_len }) (Err e)
-  puts_short B new_words new_len e same count short why =
+  puts_ended B (Err e) new_head new_words new_len ended why short same =
       let many = counted number old.words old.len added within in
       let lacks : TooShortForItems w s (reverse (items precision coded)) (length old.words) (ans_state_of number state old) (old.len + length added) = record {
         short = short;
@@ -66,7 +66,7 @@ module _ {Word State : Type 0} (number : Word → ℕ) (state : State → ℕ) (
         put = tt;
         behind = tt;
         asked = inr (within, fit_then precision coded fit (inr (items_known, room_of _ e (old.len + length added) why lacks)));
-        kept = rw (same, count) refl;
+        kept = rw (same.0, same.1, same.2) refl;
       }
 
 -- the words of a head below its leading 1 put behind a caller's words

@@ -2,8 +2,10 @@
 //!
 //! The calls encode a list from the last item to the first, so that decoding returns the symbols in the list's order.
 
-ghost use Rattle.std.specs.Prelude.{◌≡◌, ◌≤◌, length, take, IfSome};
+ghost use Rattle.std.specs.Prelude.{◌≡◌, ◌+◌, ◌<◌, ◌≤◌, ◌⊎◌, ◌^◌, length, take, IfErr, IfSome, OnErr, OnOk};
 ghost use Rattle.constriction_base.specs.Steps.{IsSizes};
+ghost use Rattle.constriction_inputs.specs.Buffers.{Appended};
+ghost use Rattle.constriction_inputs.specs.declared.refusal.Refusal.TheVariants as refusals;
 ghost use Rattle.constriction_calls.specs.AnsCalls.{AnsEncodesListBy, CodesAlone};
 
 use constriction_inputs::buffers::append;
@@ -44,18 +46,23 @@ pub fn encode_reverse<
         return Err(Refusal::WrongLength);
     }
     items.check()?;
-    if let Some(mut list) = items.list(alloc, true)
-        && let Some((added, new_head)) = encode_items::<Word, State, P, I::List, PRECISION>(
-            alloc, *head, &mut list,
-        )
-    {
-        return match append(&added, words, len) {
-            Ok(()) => {
-                *head = new_head;
-                Ok(())
+    if let Some(mut list) = items.list(alloc, true) {
+        // The proof that a word fits in memory takes a bound on its size.
+        let word = Word::nothing();
+        if size_of_val(&word) <= 64 && list.count() == 1 {
+            let (mut room, mut new_head) = ([word], *head);
+            if let Some(added) = encode_single_item::<Word, State, P, I::List, PRECISION>(
+                &mut new_head,
+                &mut room,
+                &mut list,
+            ) {
+                return finish_encoding(added, new_head, head, words, len);
             }
-            Err(refusal) => Err(refusal),
-        };
+        } else if let Some((added, new_head)) = encode_items::<Word, State, P, I::List, PRECISION>(
+            alloc, *head, &mut list,
+        ) {
+            return finish_encoding(&added, new_head, head, words, len);
+        }
     }
     if items.know() {
         Err(Refusal::NoMemory)
@@ -80,36 +87,43 @@ fn encode_items<
     ensures { IfSome result (λ made. CodesAlone Word.number State.number Word.BITS State.BITS
         (L.list_items list.old) head made.0.items made.1) }
 {
-    if list.count() == 1 {
-        encode_single_item::<Word, State, P, L, PRECISION>(alloc, head, list)
-    } else if L::LOOKS_AHEAD {
+    if L::LOOKS_AHEAD {
         encode_ahead::<Word, State, P, L, PRECISION>(alloc, head, list)
     } else {
         encode_in_order::<Word, State, P, L, PRECISION>(alloc, head, list)
     }
 }
 
-/// Encodes a single item as [`encode_items`] does.
-#[inline]
+/// Encodes a single item onto a state of `head` and no words, with `room` for the word that the encode may write.
+///
+/// Sets `head` to the new head, and returns the words that the encode writes. Returns `None` if the model has no entry
+/// for the symbol, or if `room` is empty. The call needs no memory.
+#[inline(always)]
 fn encode_single_item<
+    'a,
     Word: WordOf<State>,
     State: BitArray,
     P: WordOf<Word>,
     L: ItemList<P, PRECISION>,
     const PRECISION: usize,
->(alloc: Global, head: State, list: &mut L) -> Option<(Vec<Word>, State)>
+>(head: &mut State, room: &'a mut [Word], list: &mut L) -> Option<&'a [Word]>
     requires sizes { IsSizes Word.BITS State.BITS }
     requires one { length (L.list_items list.now) ≡ 1 }
-    ensures { IfSome result (λ made. CodesAlone Word.number State.number Word.BITS State.BITS
-        (L.list_items list.old) head made.0.items made.1) }
+    ensures { IfSome result (λ added. CodesAlone Word.number State.number Word.BITS State.BITS
+        (L.list_items list.old) head.old added.now head.new) }
 {
-    let mut coder = AnsCoder::<Word, State, Vec<Word>>::from_raw_parts(Vec::new(alloc), head);
+    if room.is_empty() {
+        return None;
+    }
     let found = list.interval(0)?;
     let (left, p, reciprocal) = found;
-    match coder.encode_interval::<P, PRECISION>(left, p, reciprocal) {
-        Ok(()) => Some(coder.into_raw_parts()),
-        Err(_) => None,
-    }
+    let (begin, length) = (left.widen().widen(), P::from_nonzero(p).widen().widen());
+    let bits = PRECISION as u32;
+    let (new_head, count) = encode_onto::<Word, State>(
+        *head, room, 0, begin, length, reciprocal, bits,
+    );
+    *head = new_head;
+    Some(&room[..count])
 }
 
 /// Encodes as [`encode_items`] does, and finds the interval of an item right before its step.
@@ -210,4 +224,29 @@ fn encode_ahead<
         Ok(()) => Some(coder.into_raw_parts()),
         Err(_) => None,
     }
+}
+
+/// Appends words to the first `len` words of `words`, and then sets `head` to `new_head`.
+///
+/// # Errors
+///
+/// The call returns the errors of [`append`]. A call that fails changes nothing.
+#[inline]
+fn finish_encoding<Word: BitArray, State: BitArray>(
+    added: &[Word],
+    new_head: State,
+    head: &mut State,
+    words: &mut [Word],
+    len: &mut usize,
+) -> Result<(), Refusal>
+    requires { len.now ≤ length words.now }
+    ensures ok { OnOk result ((head.new ≡ new_head) × Appended words.old len.old added.now words.new len.new) }
+    ensures err { IfErr result (λ e. (e ≡ refusals.NoSpace (len.old + length added.now))
+        ⊎ ((e ≡ refusals.NoMemory) × (2 ^ 64 ≤ len.old + length added.now))) }
+    ensures full { OnErr result (length words.old < len.old + length added.now) }
+    ensures kept { OnErr result ((head.new ≡ head.old) × (words.new ≡ words.old) × (len.new ≡ len.old)) }
+{
+    append(added, words, len)?;
+    *head = new_head;
+    Ok(())
 }

@@ -1,6 +1,5 @@
-use Rattle.std.proofs.Common.{◌≡◌, ◌∙◌, ◌<◌, ◌-◌, ℕ, [], ap, arith, drop, inr, length, map, refl, reverse, subst, sym}
+use Rattle.std.proofs.Common.{◌≡◌, ◌∙◌, ◌<◌, ◌-◌, ℕ, [], ap, arith, drop, inr, length, map, refl, reverse, subst}
 use Rattle.std.proofs.lemmas.List.{drop_all}
-use Rattle.std.proofs.lemmas.Bool.{eqb-false}
 use Rattle.constriction_stack.specs.Ans.{AnsState}
 use Rattle.constriction_inputs.specs.Items.{HasAt, HasInterval}
 use Rattle.constriction_inputs.proofs.Places.{is_step, models_more}
