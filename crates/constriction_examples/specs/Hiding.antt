@@ -12,8 +12,8 @@ pub record Hides (m : Mixture) (symbol : ℕ) (old new : AnsState) : Type 0 wher
   pub latent : ℕ
   pub posterior : Model ℕ
   pub symbols : Model ℕ
-  pub of_symbol : slice_get (map model_of m.posteriors) symbol ≡ Some posterior
-  pub of_latent : slice_get (map model_of m.symbols) latent ≡ Some symbols
+  pub of_symbol : slice_get (map model_of m.posteriors.items) symbol ≡ Some posterior
+  pub of_latent : slice_get (map model_of m.symbols.items) latent ≡ Some symbols
   pub without : AnsState
   pub between : AnsState
   pub latent_off : Decodes 32 64 posterior latent old without

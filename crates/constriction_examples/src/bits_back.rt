@@ -64,22 +64,13 @@ fn put_on(coder: &mut Coder, symbol: usize, table: &Table) -> Result<()>
     Ok(())
 }
 
-/// Makes the table of the symbols for each latent.
-fn symbol_tables(alloc: Global) -> Result<[Table; 2]> {
-    Ok([
-        new_table(alloc, &[2560, 1024, 384, 128])?,
-        new_table(alloc, &[128, 384, 1024, 2560])?,
-    ])
-}
-
-/// Makes the table of the latents for each symbol.
-fn posteriors(alloc: Global) -> Result<[Table; 4]> {
-    Ok([
-        new_table(alloc, &[3901, 195])?,
-        new_table(alloc, &[2979, 1117])?,
-        new_table(alloc, &[1117, 2979])?,
-        new_table(alloc, &[195, 3901])?,
-    ])
+/// Makes a table with each list of weights.
+fn new_tables(alloc: Global, lists: &[&[u32]]) -> Result<Vec<Table>> {
+    let mut tables = Vec::new(alloc);
+    for weights in lists {
+        tables.push(new_table(alloc, weights)?)?;
+    }
+    Ok(tables)
 }
 
 /// The tables of the example: the prior of the latents, a model of symbols for each latent, and the posteriors.
@@ -88,9 +79,9 @@ struct Mixture {
     /// The table of the latents, with equal weights.
     prior: Table,
     /// For each latent, the table of the symbols.
-    symbols: [Table; 2],
+    symbols: Vec<Table>,
     /// For each symbol, the table of the latents given that symbol. The weights follow from Bayes' rule, rounded.
-    posteriors: [Table; 4],
+    posteriors: Vec<Table>,
 }
 
 impl Mixture {
@@ -99,8 +90,11 @@ impl Mixture {
 
     fn new(alloc: Global) -> Result<Mixture> {
         let prior = new_table(alloc, &[2048, 2048])?;
-        let symbols = symbol_tables(alloc)?;
-        let posteriors = posteriors(alloc)?;
+        let symbols = new_tables(alloc, &[&[2560, 1024, 384, 128], &[128, 384, 1024, 2560]])?;
+        let posteriors = new_tables(
+            alloc,
+            &[&[3901, 195], &[2979, 1117], &[1117, 2979], &[195, 3901]],
+        )?;
         Ok(Mixture {
             prior,
             symbols,

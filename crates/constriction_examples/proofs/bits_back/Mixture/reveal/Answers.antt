@@ -19,7 +19,7 @@ returns c = record {
       (is_model m.prior).lawful hides.latent_on c.take_off-latent.ensures in
       -- then the symbol, under the table of that latent
       let table : model_of c.in_ok-symbols.symbols.now ≡ hides.symbols =
-      one_at (map model_of m.symbols) latent hides.latent _ _ latent_back.0 (looked_up _ model_of _ _ _ _ c.get.ensures.lookup c.in_ok-symbols.ensures) hides.of_latent in
+      one_at (map model_of m.symbols.items) latent hides.latent _ _ latent_back.0 (looked_up _ model_of _ _ _ _ (rw c.deref.ensures.value at c.get.ensures.lookup) c.in_ok-symbols.ensures) hides.of_latent in
       let symbol_off : Decodes 32 64 hides.symbols symbol hides.between without =
       subst (λ (x : Model ℕ). Decodes 32 64 x symbol hides.between without) table
       (subst (λ (x : AnsState). Decodes 32 64 (model_of c.in_ok-symbols.symbols.now) symbol x without) latent_back.1 c.take_off-symbol.ensures) in
@@ -28,7 +28,7 @@ returns c = record {
       symbols_model.lawful hides.symbol_on symbol_off in
       -- and the latent goes back on, under the posterior of that symbol
       let posterior : model_of c.in_ok-posterior.posterior.now ≡ hides.posterior =
-      one_at (map model_of m.posteriors) symbol hidden _ _ symbol_back.0 (looked_up _ model_of _ _ _ _ c.get-2.ensures.lookup c.in_ok-posterior.ensures) hides.of_symbol in
+      one_at (map model_of m.posteriors.items) symbol hidden _ _ symbol_back.0 (looked_up _ model_of _ _ _ _ (rw c.deref-2.ensures.value at c.get-2.ensures.lookup) c.in_ok-posterior.ensures) hides.of_symbol in
       let posterior_model : IsModel 32 hides.posterior = subst (IsModel 32) posterior (is_model c.in_ok-posterior.posterior.now) in
       let valid_hidden : IsNormalized 32 64 hides.without = c.encode_undoes_decode.ensures.valid 32 64 hides.posterior hides.latent before hides.without sizes posterior_model valid hides.latent_off in
       let valid_without : IsNormalized 32 64 without = subst (IsNormalized 32 64) (sym symbol_back.1) valid_hidden in
