@@ -1,5 +1,5 @@
 -- What calls of the stack coder say of words that were put behind a caller's, or had no room there.
-use Rattle.std.proofs.Common.{◌≡◌, ◌≤◌, take, ◌⊎◌, ◌+◌, ◌<◌, ◌∙◌, ℕ, List, [], ◌++◌, Ok, Err, Result, length, map, reverse, refl, ap, inr, append-nil, arith}
+use Rattle.std.proofs.Common.{◌≡◌, ◌≤◌, take, ◌⊎◌, ◌+◌, ◌<◌, ◌∙◌, ℕ, List, [], ◌++◌, Ok, Err, Result, length, map, reverse, refl, ap, inr, append-nil, arith, subst, sym}
 use Rattle.std.specs.Prelude.{IfErr, OnErr, OnOk}
 use Rattle.std.proofs.lemmas.List.{length-append, length-take, take-take}
 use Rattle.constriction_base.specs.Models.{AreKnown, AreModels, IsModel, Item}
@@ -22,6 +22,13 @@ pub lent_state : {W : Type 0} (number : W → ℕ) (head pos left len : ℕ) (le
     → ◌≡◌ {A = AnsState} (record { head = head; words = map number (reverse (take pos lent)) }) (record { head = head; words = stack_in number words left })
 lent_state number head pos left len lent words is within same = rw (is, same, take-take pos len words (omega (arith, length-take len words, ap length is))) refl
 
+-- a coder whose three numbers are as before
+same_buffers : {Word State : Type 0} (old : AnsBuffers Word State) (head : State) (words : List Word) (len : ℕ) → head ≡ old.head → words ≡ old.words → len ≡ old.len
+    → ◌≡◌ {A = AnsBuffers Word State} (record { head = head; words = words; len = len }) old
+same_buffers {Word} {State} old head words len one two three =
+    let with : State → List Word → ℕ → AnsBuffers Word State = λ h ws n. record { head = h; words = ws; len = n } in
+    ap (λ (h : State). with h words len) one ∙ (ap (λ (ws : List Word). with old.head ws len) two ∙ ap (λ (n : ℕ). with old.head old.words n) three)
+
 -- what a coder without words wrote, put behind a caller's words
 module _ {Word State : Type 0} (number : Word → ℕ) (state : State → ℕ) (w s precision : ℕ) (coded : Coded) (old : AnsBuffers Word State) (within : old.len ≤ length old.words) (fit : AreFit precision coded)
     (z : IsSizes w s) (xs : List (Item ℕ)) (is : items precision coded ≡ xs) (models : AreModels w xs) (added : List Word) (top : State)
@@ -34,7 +41,7 @@ module _ {Word State : Type 0} (number : Word → ℕ) (state : State → ℕ) (
   behind = record { head = state top; words = map number (reverse added) ++ stack_in number old.words old.len }
 
   given : AreModels w (items precision coded) × EncodesAll w s (reverse (items precision coded)) (record { head = state old.head; words = [] }) alone
-  given = rw is (models, all)
+  given = subst (λ (its : List (Item ℕ)). AreModels w its × EncodesAll w s (reverse its) (record { head = state old.head; words = [] }) alone) (sym is) (models, all)
 
   items_known : AreKnown (items precision coded)
   items_known = known_turned (IsPush w s) (items precision coded) _ _ given.1
@@ -50,8 +57,16 @@ module _ {Word State : Type 0} (number : Word → ℕ) (state : State → ℕ) (
       → OnErr answer ((new_head ≡ old.head) × (new_words ≡ old.words) × (new_len ≡ old.len))
       → AnsEncodesList number state w s precision coded old (record { head = new_head; words = new_words; len = new_len }) answer
   puts_ended B (Ok u) new_head new_words new_len ended why short same = record {
-    put = λ v. rw (ended.0, stacked number old.words old.len added new_words new_len ended.1) (whole v);
-    behind = (added, ended.1, rw ended.0 given.1);
+    put = λ v.
+        let at : (h : State) (ws : List ℕ) → Type 0 = λ h ws. EncodesAll w s (reverse (items precision coded)) (ans_state_of number state old) (record { head = state h; words = ws }) in
+        subst (at new_head) (sym (stacked number old.words old.len added new_words new_len ended.1))
+        (subst (λ (h : State). at h (map number (reverse added) ++ stack_in number old.words old.len)) (sym ended.0) (whole v));
+    behind = (
+      added,
+      ended.1,
+      subst (λ (h : State). EncodesAll w s (reverse (items precision coded)) (record { head = state old.head; words = [] }) (record { head = state h; words = map number (reverse added) }))
+          (sym ended.0) given.1,
+    );
     asked = inr (within, fit_then precision coded fit (inr (items_known, tt)));
     kept = tt;
   }
@@ -66,7 +81,7 @@ module _ {Word State : Type 0} (number : Word → ℕ) (state : State → ℕ) (
         put = tt;
         behind = tt;
         asked = inr (within, fit_then precision coded fit (inr (items_known, room_of _ e (old.len + length added) why lacks)));
-        kept = rw (same.0, same.1, same.2) refl;
+        kept = same_buffers old new_head new_words new_len same.0 same.1 same.2;
       }
 
 -- the words of a head below its leading 1 put behind a caller's words
@@ -82,7 +97,7 @@ module _ {Word State : Type 0} (number : Word → ℕ) (state : State → ℕ) (
       → IfErr r (λ e. (e ≡ NoSpace (old.len + length added)) ⊎ ((e ≡ NoMemory) × B)) → OnErr r (length old.words < old.len + length added) → OnErr r ((new_words ≡ old.words) × (new_len ≡ old.len))
       → AnsExports number state (AreBinary w) (HasBinary w) old (record { head = old.head; words = new_words; len = new_len }) r
   binary_exported B new_words new_len (Ok u) a why short same = record {
-    all = rw (stacked number old.words old.len added new_words new_len a) whole_binary;
+    all = subst (AreBinary w (ans_state_of number state old)) (sym (stacked number old.words old.len added new_words new_len a)) whole_binary;
     behind = (added, a);
     asked = inr (within, inr (binary, tt));
     kept = tt;
@@ -98,5 +113,5 @@ module _ {Word State : Type 0} (number : Word → ℕ) (state : State → ℕ) (
         all = tt;
         behind = tt;
         asked = inr (within, inr (binary, room_of _ e (old.len + length added) why lacks));
-        kept = rw (same.0, same.1) refl;
+        kept = same_buffers old old.head new_words new_len refl same.0 same.1;
       }
