@@ -4,6 +4,7 @@ mod ChainAnswers
 mod ChainFrame
 mod ChainPlaces
 mod ChainWords
+mod Indexing
 mod RangeAnswers
 mod RangeBuffers
 mod StoreAnswers
