@@ -211,7 +211,7 @@ static void every_coder(size_t count, int heavy) {
 
 /* The functions that request no memory. Each other function has to have a refused request. */
 static const char *const without[] = {
-    "ans_from_compressed", "ans_from_binary",
+    "ans_from_compressed", "ans_from_binary", "ans_decode_each",
     "range_encoder", "range_from_compressed", "range_seek", "range_maybe_exhausted",
     "chain_from_compressed", "chain_from_binary", "chain_from_remainders",
 };

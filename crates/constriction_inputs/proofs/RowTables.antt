@@ -1,12 +1,13 @@
 -- Rows of weights, taken from the first on.
-use Rattle.std.proofs.Common.{◌≡◌, ℕ, zero, suc, ◌<◌, get_or, ◌+◌, ◌-◌, ◌*◌, List, ◌∷◌, map, take, drop, arith, refl, sym, ap, subst, ◌∙◌, ◌++◌, [], append_assoc, ◌↔◌, Bool, false, IsTrue}
+use Rattle.std.proofs.Common.{◌≡◌, ℕ, zero, suc, ◌<◌, get_or, ◌+◌, ◌-◌, ◌*◌, List, map, take, drop, arith, length, sym, ap, subst, ◌∙◌, ◌↔◌, Bool, false, IsTrue}
 use Rattle.std.proofs.Math.Nat.{mul-suc}
-use Rattle.std.proofs.lemmas.List.{drop-drop, map_push, take-map}
+use Rattle.std.proofs.lemmas.List.{drop-drop, take-map}
 use Rattle.constriction_base.specs.Tables.{table_of}
 use Rattle.constriction_base.proofs.Guards.{map-drop}
 use Rattle.constriction_inputs.specs.Mixtures.{row_at_index}
 use Rattle.constriction_inputs.specs.Rows.{AreTotals, row_tables}
 use Rattle.constriction_inputs.specs.Weights.{IsTotal}
+use Rattle.constriction_inputs.proofs.Listing.{tables_counted}
 use Rattle.std.proofs.lemmas.Bool.{false≢true}
 
 -- what is left behind a row
@@ -25,13 +26,6 @@ totals_split precision width left next start ws is totals = (let all = rw is at 
 
 pub totals_joined : (precision width left next start : ℕ) (ws : List ℕ) → left ≡ suc next → IsTotal precision (take width (drop start ws)) → AreTotals precision width next (drop (start + width) ws) → AreTotals precision width left (drop start ws)
 totals_joined precision width left next start ws is total totals = rw (is, drop-drop width start ws) (total, totals)
-
-pub tables_split : (width left next start : ℕ) (ws : List ℕ) → left ≡ suc next → row_tables width left (drop start ws) ≡ table_of (take width (drop start ws)) ∷ row_tables width next (drop (start + width) ws)
-tables_split width left next start ws is = rw (is, drop-drop width start ws) refl
-
--- one more table is made
-pub push_table : {R T : Type 0} (table : R → T) (rows : List R) (row : R) (first : T) (left others all : List T) → table row ≡ first → left ≡ first ∷ others → map table rows ++ left ≡ all → map table (rows ++ row ∷ []) ++ others ≡ all
-push_table table rows row first left others all is split before = rw (map_push table rows row, append_assoc (map table rows) (table row ∷ []) others, is, ← split) before
 
 -- where one isn't, not all are
 pub not_all : (test : Bool) (one all : Type 0) → (IsTrue test ↔ one) → test ≡ false → (all → one) → (IsTrue false → all) × (all → IsTrue false)
@@ -55,8 +49,17 @@ each_total precision width ws (suc count) totals (suc k) within =
     subst (λ (rest : List ℕ). IsTotal precision (take width rest)) (row_behind width k ws) (each_total precision width (drop width ws) count totals.1 k (omega arith))
 
 -- its table
-pub row_table_at : (width : ℕ) (ws : List ℕ) (count k : ℕ) → k < count → get_or (row_tables width count ws) k [] ≡ table_of (row_at_index width k ws)
-row_table_at width ws zero k within = absurd (omega arith)
-row_table_at width ws (suc count) zero within = (let none : 0 ≡ width * 0 = omega arith in ap (λ (n : ℕ). table_of (take width (drop n ws))) none)
-row_table_at width ws (suc count) (suc k) within =
-    row_table_at width (drop width ws) count k (omega arith) ∙ ap (λ (rest : List ℕ). table_of (take width rest)) (row_behind width k ws)
+row_table_at : (width : ℕ) (ws : List ℕ) (count k : ℕ) (d : List (ℕ × ℕ × ℕ)) → k < count → get_or (row_tables width count ws) k d ≡ table_of (row_at_index width k ws)
+row_table_at width ws zero k d within = absurd (omega arith)
+row_table_at width ws (suc count) zero d within = (let none : 0 ≡ width * 0 = omega arith in ap (λ (n : ℕ). table_of (take width (drop n ws))) none)
+row_table_at width ws (suc count) (suc k) d within =
+    row_table_at width (drop width ws) count k d (omega arith) ∙ ap (λ (rest : List ℕ). table_of (take width rest)) (row_behind width k ws)
+
+module _ (weights : List ℕ) (width count place : ℕ) (asked : place < length (row_tables width count weights)) where
+  -- the list has the row
+  pub row_within : place < count
+  row_within = omega (arith, asked, tables_counted width count weights)
+
+  -- the row's table is the table at its place
+  pub row_table_is : (row : List ℕ) (d : List (ℕ × ℕ × ℕ)) → row ≡ row_at_index width place weights → table_of row ≡ get_or (row_tables width count weights) place d
+  row_table_is row d is = ap table_of is ∙ sym (row_table_at width weights count place d row_within)

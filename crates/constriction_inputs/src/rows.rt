@@ -6,15 +6,13 @@
 pub mod adding;
 mod models;
 
-ghost use Rattle.std.specs.Prelude.{◌≡◌, ◌↔◌, ◌*◌, ◌≤◌, length, map, IfSome, IsSome, IfOk};
+ghost use Rattle.std.specs.Prelude.{◌≡◌, ◌↔◌, ◌≤◌, map, IfSome, IsSome};
 ghost use Rattle.constriction_base.specs.Tables.{table_of};
-ghost use Rattle.constriction_inputs.specs.Rows.{AreTotals, row_tables};
 ghost use Rattle.constriction_inputs.specs.Weights.{IsTotal};
 
 use crate::rows::adding::is_total;
 use constriction_base::model::EntropyModel;
 use constriction_words::BitArray;
-use std::alloc::{AllocError, Global};
 
 /// A model of the symbols `0`, `1`, .. that borrows their weights.
 ///
@@ -64,33 +62,4 @@ impl<'a, P: BitArray, const PRECISION: usize> Row<'a, P, PRECISION> {
     {
         Row { weights }
     }
-}
-
-/// Returns `count` models, one for each row of `width` weights. `weights` has the rows one after another.
-///
-/// The caller proves that `weights` has `count` rows, and that each row adds up to `2 ^ PRECISION`.
-///
-/// # Errors
-///
-/// Returns `AllocError` if there is no memory for the list of models.
-pub fn total_rows<'a, P: BitArray, const PRECISION: usize>(
-    alloc: Global,
-    weights: &'a [P],
-    width: usize,
-    count: usize,
-) -> Result<Vec<Row<'a, P, PRECISION>>, AllocError>
-    requires sizes { (1 ≤ PRECISION) × (PRECISION ≤ P.BITS) }
-    requires counted { length weights.now ≡ width * count }
-    requires totals { AreTotals PRECISION width count (map P.number weights.now) }
-    ensures { IfOk result (λ rows. map ⟦<Row<'a, P, PRECISION> as EntropyModel<PRECISION>>⟧.table rows.items
-        ≡ row_tables width count (map P.number weights.now)) }
-{
-    let mut rows = Vec::with_capacity(alloc, count)?;
-    let mut start = 0;
-    for _done in 0..count {
-        let end = start + width;
-        rows.push_reserved(Row::new(&weights[start..end]).unwrap());
-        start = end;
-    }
-    Ok(rows)
 }

@@ -1,16 +1,17 @@
 //! `Rows`: a row of weights for each symbol.
 
-ghost use Rattle.std.specs.Prelude.{◌≡◌, ◌+◌, ◌*◌, ◌<◌, ◌≤◌, ℕ, length, map};
+ghost use Rattle.std.specs.Prelude.{◌≡◌, ◌+◌, ◌*◌, ◌<◌, ◌≤◌, ℕ, Some, length, map};
+ghost use Rattle.std.specs.Option.{option_map};
 ghost use Rattle.constriction_inputs.specs.Mixtures.{row_at_index};
 ghost use Rattle.constriction_inputs.specs.Rows.{by_rows, row_tables};
 ghost use Rattle.constriction_inputs.specs.Weights.{IsTotal};
 ghost use Rattle.std.proofs.Common.{refl};
 
 use crate::known::all_known_in_rows;
-use crate::models::{DecoderModels, Each, EncoderModels, ModelList, Models, entry_of};
+use crate::models::{DecoderModelList, DecoderModels, EncoderModels, ModelList, Models, entry_of};
 use crate::refusal::Refusal;
+use crate::rows::Row;
 use crate::rows::adding::{are_totals, is_product};
-use crate::rows::{Row, total_rows};
 use crate::symbol::Symbol;
 use constriction_words::{BitArray, Reciprocal};
 use std::alloc::Global;
@@ -62,6 +63,8 @@ impl<'a, P: BitArray, const PRECISION: usize> EncoderModels<P, PRECISION> for Ro
             weights: self.weights,
             width: self.width,
             count,
+            place: count,
+            row: None,
         })
     }
 }
@@ -69,19 +72,19 @@ impl<'a, P: BitArray, const PRECISION: usize> EncoderModels<P, PRECISION> for Ro
 impl<'a, P: BitArray, const PRECISION: usize> DecoderModels<P, PRECISION> for Rows<'a, P> {
     type Symbol = usize;
 
-    type DecoderList = Each<Row<'a, P, PRECISION>>;
+    type DecoderList = RowList<'a, P, PRECISION>;
 
-    fn decoder_list(&self, alloc: Global, count: usize) -> Option<Each<Row<'a, P, PRECISION>>> {
-        match total_rows(alloc, self.weights, self.width, count) {
-            Ok(models) => Some(Each { models, place: 0 }),
-            Err(_) => None,
-        }
+    #[inline]
+    fn decoder_list(&self, alloc: Global, count: usize) -> Option<RowList<'a, P, PRECISION>> {
+        EncoderModels::<P, PRECISION>::list(self, alloc, count, false)
     }
 
     ghost kept_law = { λ given ns fit known. refl };
 }
 
-/// Rows of weights whose totals are checked. A look-up adds up the weights before the symbol in its row.
+/// Rows of weights whose totals are checked. A look-up adds up weights of its row. The list needs no memory.
+///
+/// To decode, the list keeps the row that `select` selected. Before a row is selected, it keeps none.
 ///
 /// # Examples
 ///
@@ -96,10 +99,14 @@ pub struct RowList<'a, P: BitArray, const PRECISION: usize> {
     weights: &'a [P],
     width: usize,
     count: usize,
+    place: usize,
+    row: Option<Row<'a, P, PRECISION>>,
     ghost positive: { 1 ≤ PRECISION },
     ghost fits: { PRECISION ≤ P.BITS },
     ghost counted: { length weights.now ≡ width * count },
     ghost totals: { (k : ℕ) → k < count → IsTotal PRECISION (row_at_index width k (map P.number weights.now)) },
+    ghost selected: { place < count → option_map (λ chosen. map P.number chosen.weights.now) row
+        ≡ Some (row_at_index width place (map P.number weights.now)) },
 }
 
 impl<'a, P: BitArray, const PRECISION: usize> ModelList<P, PRECISION>
@@ -123,6 +130,29 @@ impl<'a, P: BitArray, const PRECISION: usize> ModelList<P, PRECISION>
         match entry_of::<P, Row<'_, P, PRECISION>, PRECISION>(&row, symbol) {
             Some(found) => Some(found),
             None => None,
+        }
+    }
+}
+
+impl<'a, P: BitArray, const PRECISION: usize> DecoderModelList<P, PRECISION>
+    for RowList<'a, P, PRECISION> {
+    type Model = Row<'a, P, PRECISION>;
+
+    ghost tables = { λ list. row_tables list.width list.count (map P.number list.weights.now) };
+
+    ghost turned_to = { λ list. list.place };
+
+    #[inline]
+    fn select(&mut self, place: usize) {
+        self.row = Some(row_at(self.weights, self.width, place));
+        self.place = place;
+    }
+
+    #[inline]
+    fn model(&self) -> &Row<'a, P, PRECISION> {
+        match &self.row {
+            Some(row) => row,
+            None => unreachable!(),
         }
     }
 }

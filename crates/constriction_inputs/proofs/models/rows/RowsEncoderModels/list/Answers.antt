@@ -1,4 +1,4 @@
-use Rattle.std.proofs.Common.{◌∙◌, map, refl, sym}
+use Rattle.std.proofs.Common.{◌∙◌, arith, map, refl, sym}
 use Rattle.std.proofs.lemmas.List.{length-map}
 use Rattle.constriction_inputs.proofs.Listing.{rows_listed, tables_counted}
 use Rattle.constriction_inputs.proofs.RowTables.{each_total}
@@ -14,6 +14,7 @@ invariant_of-result g c =
       fits = c.requires.precision.1;
       counted = sym (length-map self.weights.now g.P.BitArray.number) ∙ rw long at fit.0;
       totals = λ k within. each_total g.row.PRECISION self.width (map g.P.BitArray.number self.weights.now) c.args.count (rw long at fit.2) k within;
+      selected = λ within. absurd (omega (arith, within));
     }
 
 pub returns-clause-count : goal.returns-clause-count
