@@ -1,5 +1,5 @@
 -- What calls of the range coder did, as their records say it.
-use Rattle.std.proofs.Common.{◌≡◌, ℕ, ◌+◌, ◌-◌, ◌/◌, ◌<◌, ◌≤◌, ◌^◌, ◌⊎◌, List, [], ◌++◌, length, map, take, refl, sym, ap, ◌∙◌, inl, inr, arith, Result, Ok, Err}
+use Rattle.std.proofs.Common.{◌≡◌, ℕ, ◌+◌, ◌-◌, ◌/◌, ◌<◌, ◌≤◌, ◌^◌, ◌⊎◌, List, [], ◌++◌, length, map, take, refl, sym, ap, ◌∙◌, inr, arith, Result, Ok, Err}
 use Rattle.std.specs.Prelude.{OnErr, OnOk, IfErr}
 use Rattle.std.proofs.lemmas.List.{length-append, length-map, length-take, map-append}
 use Rattle.constriction_base.specs.Models.{AreKnown}
@@ -46,9 +46,8 @@ module _ {Word State : Type 0} (number : Word → ℕ) (state : State → ℕ) (
         kept = tt;
       }
       puts_ended (Err e) encoder words len ended err full kept =
-          let long = length-append (take old.len old.words) added in
           let lacks : TooShortForEncoder number state w s (items precision coded) old.encoder old.words old.len (old.len + length added) =
-          record { less = full; new = now; words = take old.len old.words ++ added; narrowed = narrowed; is = is; count = omega (arith, long, length-take old.len old.words, within) } in
+          record { less = full; new = now; words = take old.len old.words ++ added; narrowed = narrowed; is = is; count = omega (arith, (length-append (take old.len old.words) added), length-take old.len old.words, within) } in
           puts_room known (record { encoder = encoder; words = words; len = len }) (rw (kept.0, kept.1, kept.2) refl) e (room_of _ e (old.len + length added) err lacks)
 
 -- ---- seals
@@ -86,9 +85,8 @@ module _ {Word State : Type 0} (number : Word → ℕ) (state : State → ℕ) (
 pub seals_self : {Word State : Type 0} (number : Word → ℕ) (state : State → ℕ) (w s : ℕ) (old new : RangeBuffers Word State) (answer : Result (Unit {0}) Refusal) → ((x : Word) → number x < 2 ^ w) → ((x : State) → state x < 2 ^ s)
     → IsSizes w s → s / w ≡ 2 → RangeSeals number state w s (IsSealed w s) old new answer → RangeSeals number state w s (IsSelfSealed w s) old new answer
 seals_self number state w s old new (Ok u) words states sizes two r =
-    let is = (asked_ok (asked_ok r.asked).1).0 in
     record {
-      words = (r.words, sealed_self w s _ _ sizes two (interval_kept number state w s old.encoder words states is (take old.len old.words)) r.words);
+      words = (r.words, sealed_self w s _ _ sizes two (interval_kept number state w s old.encoder words states ((asked_ok (asked_ok r.asked).1).0) (take old.len old.words)) r.words);
       appended = r.appended;
       asked = r.asked;
       kept = tt;

@@ -38,9 +38,8 @@ module _ {Word State : Type 0} (number : Word → ℕ) (state : State → ℕ) (
     sealed_kept words states sizes is old =
         let below : List ℕ = map number (reverse old) in
         let held : List ℕ = pending_of_parts w e.held (number e.first) in
-        let narrow : w ≤ s = omega (arith, sizes.two_words) in
         ap (λ (r : Run). sealed w s r) (run_behind w s held below (state e.lower) (state e.range))
-        ∙ sealed_behind w s below (run_of w s held (state e.lower) (state e.range)) narrow (words_of_numbers number w words (reverse old)) is.least
+        ∙ sealed_behind w s below (run_of w s held (state e.lower) (state e.range)) (omega (arith, sizes.two_words)) (words_of_numbers number w words (reverse old)) is.least
         (inside_by e.held (number e.first) (state e.lower) (state e.range) is.fit (states e.lower) (states e.range))
         ∙ ap (λ ws. ws ++ sealed w s (run_of w s held (state e.lower) (state e.range))) (turned number old)
         ∙ ap (λ (r : Run). map number old ++ sealed w s r) (sym alone)

@@ -29,9 +29,8 @@ module _ {State B : Type 0} (state : State → ℕ) (w s : ℕ) (buffer words : 
       → FindsAll w s words items run last → StandsAt w s words last d → state new.lower ≡ d.lower → state new.range ≡ d.range → state new.point ≡ d.point
       → new.pos ≡ length buffer - length d.words → StandsOver state w s buffer words last new
   stands_on items run last old new d at all there lower_is range_is point_is pos_is =
-      let moves = moves_on w s words items run last all in
       let k : ℕ = last.moves - run.moves in
-      let sum : last.moves + s / w ≡ run.moves + s / w + k = omega (arith, moves) in
+      let sum : last.moves + s / w ≡ run.moves + s / w + k = omega (arith, (moves_on w s words items run last all)) in
       let left : d.words ≡ drop (old.pos + k) buffer =
       there.rest_is ∙ ap (λ n. drop n words) sum ∙ sym (drop-drop k (run.moves + s / w) words) ∙ ap (λ ws. drop k ws) (sym at.rest_is) ∙ drop-drop k old.pos buffer in
       let rest : drop new.pos buffer ≡ d.words =

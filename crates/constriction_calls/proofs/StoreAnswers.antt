@@ -3,7 +3,7 @@ use Rattle.std.specs.Prelude.{Ok, Err}
 use Rattle.std.proofs.Common.{◌≡◌, ◌∙◌, ◌⊎◌, ℕ, ◌-◌, ◌<◌, ◌≤◌, ◌^◌, List, drop, length, map, inr, arith}
 use Rattle.constriction_base.specs.Models.{AreKnown, items_of}
 use Rattle.constriction_store.specs.Stores.{Entry, HoldsChunk, HoldsChunks, IsBuilt, entry_of}
-use Rattle.constriction_calls.specs.StoreCalls.{ValidIndex, TooShortForStore, StoreBuilds, StoreDecodesList, StoreBuffers, chunks_by, store_index_of, store_words_of}
+use Rattle.constriction_calls.specs.StoreCalls.{ValidIndex, StoreBuilds, StoreDecodesList, StoreBuffers, chunks_by, store_index_of, store_words_of}
 use Rattle.constriction_inputs.specs.Refusals.{NoMemoryOrInvalid}
 use Rattle.constriction_inputs.specs.Weights.{IsTotal, weights_model}
 use Rattle.constriction_inputs.specs.declared.refusal.Refusal.{Refusal}
@@ -21,13 +21,12 @@ module _ {Word State : Type 0} (number : Word → ℕ) (state : State → ℕ) (
   pub space_refused : (new : StoreBuffers Word State) → new ≡ old → (refusal : Refusal) (count : ℕ) → count ≡ length words → length old.words < count
       → (refusal ≡ refusals.NoSpace count) ⊎ ((refusal ≡ refusals.NoMemory) × (2 ^ 64 ≤ count)) → StoreBuilds number state w s precision weights symbols lengths old new (Err refusal)
   space_refused new same refusal count is less why =
-      let lacks : TooShortForStore w s precision weights (chunks_by symbols lengths) (length old.words) count = record { less = less; index = index; words = words; built = built; count = is } in
       record {
         built = tt;
         chunks = tt;
         within = tt;
         behind = tt;
-        asked = inr (fit, inr (total, inr (known, room_of _ refusal count why lacks)));
+        asked = inr (fit, inr (total, inr (known, room_of _ refusal count why (record { less = less; index = index; words = words; built = built; count = is }))));
         kept = same;
       }
 
@@ -36,8 +35,7 @@ module _ {Word State : Type 0} (number : Word → ℕ) (state : State → ℕ) (
       → store_words_of number new ≡ words → new.len ≤ length new.words → drop new.len new.words ≡ drop new.len old.words
       → StoreBuilds number state w s precision weights symbols lengths old new (Ok tt)
   kept_store new holds places lowers ranges words_are inside behind =
-      let model = weights_model precision weights in
-      let lens : map (λ e. e.len) index ≡ lengths = lens_of w s model (chunks_by symbols lengths) index _ built.0 built.1 ∙ cut_lengths symbols lengths (omega (arith, fit.all)) in
+      let lens : map (λ e. e.len) index ≡ lengths = lens_of w s (weights_model precision weights) (chunks_by symbols lengths) index _ built.0 built.1 ∙ cut_lengths symbols lengths (omega (arith, fit.all)) in
       let index_is : store_index_of state lengths new ≡ index = entries_are index new.positions (map state new.lowers) (map state new.ranges) lengths places lowers ranges lens in
       record {
         built = rw (index_is, words_are) built;

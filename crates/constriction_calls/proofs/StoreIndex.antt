@@ -59,10 +59,9 @@ pub cut_more : (symbols lengths : List ℕ) (i start end : ℕ) (made : List (Li
 cut_more symbols lengths i start end made chunk all inside to is before =
     let len = get_or lengths i 0 in
     let long : end - start ≡ len = omega (arith, to) in
-    let here : chunk ≡ take len (drop start symbols) = is ∙ ap (λ n. take n (drop start symbols)) long in
     let behind : drop len (drop start symbols) ≡ drop end symbols = drop-drop len start symbols ∙ ap (λ n. drop n symbols) (sym to) in
     append_assoc made (chunk ∷ []) (chunks_by (drop end symbols) (drop (i + 1) lengths))
-    ∙ (ap₂ (λ (c : List ℕ) (rest : List ℕ). made ++ c ∷ chunks_by rest (drop (i + 1) lengths)) here (sym behind)
+    ∙ (ap₂ (λ (c : List ℕ) (rest : List ℕ). made ++ c ∷ chunks_by rest (drop (i + 1) lengths)) (is ∙ ap (λ n. take n (drop start symbols)) long) (sym behind)
     ∙ (ap (λ (ls : List ℕ). made ++ chunks_by (drop start symbols) ls) (sym (drop_more lengths i 0 inside)) ∙ before))
 
 -- what is left behind it

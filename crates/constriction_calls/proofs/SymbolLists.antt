@@ -38,13 +38,10 @@ module _ {I S E : Type 0} (next : I → Option (Result Bool E) → I → Type 0)
   pub read_none : {V : Type 0} (is_invalid : List Bool → V → Type 0) (amt : ℕ) → length xs < amt → (error : CoderError (SymbolCodeError V) E) (refusal : Refusal)
       → ReadsSymbol {E = E} next codeword reads_on is_invalid old (Err error) new → MapsError error refusal → SymbolReadFails codeword reads_on (λ bits. (v : V) × is_invalid bits v) amt begun refusal
   read_none is_invalid amt fewer (Frontend OutOfCompressedData) refusal (bits, on, (last, given, none)) told =
-      let here = gives_front next unread law old bits last given in
-      let end = law last None new none in
-      let all : unread old ≡ bits = here ∙ (ap (λ bs. bits ++ bs) end.0 ∙ append-nil bits) in
+      let all : unread old ≡ bits = (gives_front next unread law old bits last given) ∙ (ap (λ bs. bits ++ bs) (law last None new none).0 ∙ append-nil bits) in
       rw told (xs, fewer, so_far.0, bits, so_far.1, so_far.2 ∙ ap (λ bs. so_far.0 ++ bs) all, on)
   read_none is_invalid amt fewer (Frontend (InvalidCodeword e)) refusal (bits, no_codeword, given) told =
-      let here = gives_front next unread law old bits new given in
-      rw told (xs, fewer, so_far.0, unread old, so_far.1, so_far.2, (bits, unread new, here, (e, no_codeword)))
+      rw told (xs, fewer, so_far.0, unread old, so_far.1, so_far.2, (bits, unread new, (gives_front next unread law old bits new given), (e, no_codeword)))
   read_none is_invalid amt fewer (Backend e) refusal reads told = rw told tt
 
 -- words of which the last is zero

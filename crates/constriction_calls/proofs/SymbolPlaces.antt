@@ -1,5 +1,5 @@
 -- Words of codewords from a bit of a caller's words on.
-use Rattle.std.proofs.Common.{◌≡◌, ◌<◌, ◌≤◌, ◌+◌, ◌-◌, ◌*◌, ◌/◌, ◌%◌, ℕ, Bool, List, ◌++◌, Option, false, replicate, length, map, take, ap, sym, arith, ◌∙◌, append_assoc, length-append}
+use Rattle.std.proofs.Common.{◌≡◌, ◌<◌, ◌≤◌, ◌+◌, ◌*◌, ◌/◌, ◌%◌, ℕ, Bool, List, ◌++◌, Option, false, replicate, length, map, take, ap, sym, arith, ◌∙◌, append_assoc, length-append}
 use Rattle.std.proofs.lemmas.List.{length-map, length-take-le, length-take}
 use Rattle.std.proofs.Math.Nat.{div-add-mod, mul_comm}
 use Rattle.constriction_symbol.specs.Bits.{IsQueueWords}
@@ -28,8 +28,7 @@ module _ {W : Type 0} (number : W → ℕ) (w bit : ℕ) (words : List W) (withi
     end_bit count counted =
         let all = length_words w (map number words) ∙ ap (λ n. n * w) (length-map words number) in
         let size = ap length (halves number w bit words within) ∙ length-append (before number w bit words within) (behind number w bit words within) in
-        let part = ap length is ∙ length-take (bit % w) (behind number w bit words within) in
-        omega (arith, within, counted, (whole number w bit words within), all, size, part, length-append begun code, div-add-mod bit w, mul_comm w (bit / w))
+        omega (arith, within, counted, (whole number w bit words within), all, size, (ap length is ∙ length-take (bit % w) (behind number w bit words within)), length-append begun code, div-add-mod bit w, mul_comm w (bit / w))
 
   -- there is no room for the words of symbols
   pub lacks_room : {S : Type 0} (codeword : S → Option (List Bool)) (symbols : List S) (code : List Bool) (added : List W) → AreCodewords codeword symbols code

@@ -9,8 +9,7 @@ use Rattle.constriction_calls.proofs.ans.encoding.encode_ahead.Goals as goal
 pub items-init : goal.items-init
 items-init g c =
     let items = g.L.ItemList.list_items c.args.list.now in
-    let first = c.from_raw_parts-coder.result.state in
-    let none : first.words ≡ [] = ap (λ (x : AnsState). x.words) c.from_raw_parts-coder.ensures.state ∙ ap (λ ws. map g.Word.BitArray.number (reverse ws)) c.new.ensures.items in
+    let none : c.from_raw_parts-coder.result.state.words ≡ [] = ap (λ (x : AnsState). x.words) c.from_raw_parts-coder.ensures.state ∙ ap (λ ws. map g.Word.BitArray.number (reverse ws)) c.new.ensures.items in
     let end : drop (length items) items ≡ [] = drop_all (length items) items (omega arith) in
     let some : 0 < c.count-rest.result = omega (arith, c.if-rest-eq0.false) in
     record {
@@ -26,8 +25,7 @@ items-init g c =
 
 pub encode_interval-requires-clause-step : goal.encode_interval-requires-clause-step
 encode_interval-requires-clause-step g c =
-    let items = g.L.ItemList.list_items c.args.list.now in
-    is_step g.Word.BitArray.BITS g.row.PRECISION g.P.BitArray.BITS g.met.P.WordOf.width_law items c.items.rest c.items.invariant.some _ _ c.items.invariant.at
+    is_step g.Word.BitArray.BITS g.row.PRECISION g.P.BitArray.BITS g.met.P.WordOf.width_law (g.L.ItemList.list_items c.args.list.now) c.items.rest c.items.invariant.some _ _ c.items.invariant.at
 
 pub items-preserved : goal.items-preserved
 items-preserved g c =
@@ -48,8 +46,7 @@ items-preserved g c =
 
 pub encode_interval-requires-2-clause-step : goal.encode_interval-requires-2-clause-step
 encode_interval-requires-2-clause-step g c =
-    let items = g.L.ItemList.list_items c.args.list.now in
-    is_step g.Word.BitArray.BITS g.row.PRECISION g.P.BitArray.BITS g.met.P.WordOf.width_law items c.items.rest c.items.invariant.some _ _ c.items.invariant.at
+    is_step g.Word.BitArray.BITS g.row.PRECISION g.P.BitArray.BITS g.met.P.WordOf.width_law (g.L.ItemList.list_items c.args.list.now) c.items.rest c.items.invariant.some _ _ c.items.invariant.at
 
 pub returns-in-Ok-encode_interval : goal.returns-in-Ok-encode_interval
 returns-in-Ok-encode_interval g c =

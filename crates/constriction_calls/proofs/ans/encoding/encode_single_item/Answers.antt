@@ -14,15 +14,13 @@ some = omega arith
 
 pub overflow_cast-bits : goal.overflow_cast-bits
 overflow_cast-bits g c =
-    let items = g.L.ItemList.list_items c.args.list.now in
-    let step = is_step g.Word.BitArray.BITS g.row.PRECISION g.P.BitArray.BITS g.met.P.WordOf.width_law items 1 some _ _ c.in_ok-found.ensures.found in
+    let step = is_step g.Word.BitArray.BITS g.row.PRECISION g.P.BitArray.BITS g.met.P.WordOf.width_law (g.L.ItemList.list_items c.args.list.now) 1 some _ _ c.in_ok-found.ensures.found in
     omega (arith, step.within_word, g.met.Word.BitArray.bits_law.1)
 
 pub encode_onto-new_head-requires-clause-step : goal.encode_onto-new_head-requires-clause-step
 encode_onto-new_head-requires-clause-step g c =
-    let items = g.L.ItemList.list_items c.args.list.now in
     rw (c.widen-begin.ensures, c.widen.ensures, c.widen-length.ensures, c.widen-2.ensures, c.from_nonzero.ensures)
-    (is_step g.Word.BitArray.BITS g.row.PRECISION g.P.BitArray.BITS g.met.P.WordOf.width_law items 1 some _ _ c.in_ok-found.ensures.found)
+    (is_step g.Word.BitArray.BITS g.row.PRECISION g.P.BitArray.BITS g.met.P.WordOf.width_law (g.L.ItemList.list_items c.args.list.now) 1 some _ _ c.in_ok-found.ensures.found)
 
 pub returns : goal.returns
 returns g c =
@@ -34,8 +32,7 @@ returns g c =
     let valid : IsNormalized w s first = record { state = record { fits = g.met.State.BitArray.number_law c.args.head.now; are_words = tt }; full = inr refl } in
     let models : AreModels w (drop 1 items) = rw end tt in
     let coded : EncodesAll w s (reverse (drop 1 items)) first first = rw end refl in
-    let call = c.encode_onto-new_head in
-    let pushed = rw (c.widen-begin.ensures, c.widen.ensures, c.widen-length.ensures, c.widen-2.ensures, c.from_nonzero.ensures) at (call.ensures.encoded valid) in
+    let pushed = rw (c.widen-begin.ensures, c.widen.ensures, c.widen-length.ensures, c.widen-2.ensures, c.from_nonzero.ensures) at (c.encode_onto-new_head.ensures.encoded valid) in
     record {
       models = models_more w g.row.PRECISION g.P.BitArray.BITS g.met.P.WordOf.width_law items 1 some _ _ c.in_ok-found.ensures.found models;
       coded = codes_more w s g.row.PRECISION g.P.BitArray.BITS items 1 some _ _ c.in_ok-found.ensures.found _ _ _ coded pushed;

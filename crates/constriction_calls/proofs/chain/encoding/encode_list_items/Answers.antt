@@ -1,4 +1,4 @@
-use Rattle.std.proofs.Common.{arith, sym}
+use Rattle.std.proofs.Common.{arith}
 use Rattle.constriction_calls.proofs.ChainPlaces.{single_put}
 use Rattle.constriction_calls.proofs.chain.encoding.encode_list_items.Goals as goal
 

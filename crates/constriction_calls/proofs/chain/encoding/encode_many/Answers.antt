@@ -1,4 +1,4 @@
-use Rattle.std.proofs.Common.{◌≡◌, ◌∙◌, arith, drop, length, refl}
+use Rattle.std.proofs.Common.{◌≡◌, ◌∙◌, arith, length, refl}
 use Rattle.std.proofs.lemmas.List.{drop_all}
 use Rattle.constriction_calls.proofs.ChainPlaces.{put_more, refused_more}
 use Rattle.constriction_calls.proofs.chain.encoding.encode_many.Goals as goal
@@ -30,6 +30,5 @@ returns-in-Err g c =
 
 pub returns : goal.returns
 returns g c =
-    let kept = c.loop-left.invariant in
     let zero : c.loop-left.left ≡ 0 = omega (arith, c.loop-left-test.false) in
-    record { put = rw zero at kept.put; refused = tt }
+    record { put = rw zero at c.loop-left.invariant.put; refused = tt }

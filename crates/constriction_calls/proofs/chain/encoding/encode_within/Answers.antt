@@ -41,14 +41,12 @@ returns-in-Err-finish_encoding g c =
 pub returns-in-Ok-finish_encoding : goal.returns-in-Ok-finish_encoding
 returns-in-Ok-finish_encoding g c =
     let number = g.Word.BitArray.number in
-    let w = g.Word.BitArray.BITS in
-    let s = g.State.BitArray.BITS in
     let items = g.L.ItemList.list_items c.args.list.now in
     let is : c.from_raw_parts-coder.result.state ≡ state (number c.args.heads.now.compressed) (g.State.BitArray.number c.args.heads.now.remainders) [] (stack_in number c.args.remainders.now c.args.rest.now)
     = ap (λ coder. coder.state) c.from_raw_parts-coder.ensures.value ∙ rw (c.requires.heads, c.new_at_write_end-lent.ensures, c.new_at_write_beginning.ensures, take-length (take c.args.rest.now c.args.remainders.now)) refl in
     let e = c.in-Ok-finish_encoding.ensures in
     let now = c.finish_encoding.new in
-    let put = put_in number w s _ _ c.args.compressed.now c.args.len.now c.args.remainders.now c.args.rest.now g.met.Word.BitArray.number_law (reverse items) _ _ now.rest
+    let put = put_in number g.Word.BitArray.BITS g.State.BitArray.BITS _ _ c.args.compressed.now c.args.len.now c.args.remainders.now c.args.rest.now g.met.Word.BitArray.number_law (reverse items) _ _ now.rest
     e.compressed.0 now.compressed now.len c.encode_list_items.new.coder.state c.requires.remainders (rw is at c.in-Ok.ensures.put) e.heads.0 e.heads.1 e.remainders e.compressed.1 e.compressed.2 in
     record {
       put = put.1;

@@ -9,7 +9,6 @@ use Rattle.constriction_calls.proofs.chain.words.into_words.Goals as goal
 pub returns-in-Ok : goal.returns-in-Ok
 returns-in-Ok g c =
     let number = g.Word.BitArray.number in
-    let within : c.args.len.now ≤ length c.args.words.now = omega (arith, c.if-len-words.false) in
     let right = c.in-Some.ensures.variant.0 refl in
     let h : ℕ = number c.args.heads.now.compressed in
     let r : ℕ = g.State.BitArray.number c.args.heads.now.remainders in
@@ -18,7 +17,7 @@ returns-in-Ok g c =
     let found = compressed_above number g.Word.BitArray.BITS h r c.in-Ok.added.items (stack_in number c.args.words.now c.args.len.now) c.from_raw_parts-coder.result.state is c.in-Ok.ensures.ok in
     record {
       call = rw c.in-InCompressed.is (ends_at number g.State.BitArray.number g.Word.BitArray.BITS g.State.BitArray.BITS g.row.PRECISION InCompressed c.args.heads.now (record { words = c.args.words.now; len = c.args.len.now })
-          (record { words = c.append.new.buffer; len = c.append.new.len }) c.in-Ok.added.items within (record { heads = record { some = right.0; window = right.1 }; whole = found.0 }) found.1 c.append.result
+          (record { words = c.append.new.buffer; len = c.append.new.len }) c.in-Ok.added.items (omega (arith, c.if-len-words.false)) (record { heads = record { some = right.0; window = right.1 }; whole = found.0 }) found.1 c.append.result
           (rw c.deref.ensures.value at c.append.ensures.ok) (rw c.deref.ensures.value at c.append.ensures.full) _ (rw c.deref.ensures.value at c.append.ensures.err) c.append.ensures.kept);
     }
 

@@ -1,10 +1,8 @@
-use Rattle.std.proofs.Common.{inl, inr, refl, ◌≡◌, ◌∙◌, ◌-◌, ◌≤◌, ℕ, List, ap, arith, length, map, rules, sym}
+use Rattle.std.proofs.Common.{◌≡◌, ◌∙◌, ◌-◌, ◌≤◌, ℕ, List, ap, arith, length, map, rules, sym}
 use Rattle.std.proofs.lemmas.List.{length-map}
-use Rattle.std.proofs.lemmas.Result.{err_from_is_err_and}
 use Rattle.constriction_queue.specs.Range.{QuantileInInterval, narrowed_by}
 use Rattle.constriction_inputs.specs.Coded.{items}
-use Rattle.constriction_calls.specs.RangeCalls.{ValidDecoder}
-use Rattle.constriction_inputs.proofs.Asking.{fit_ok, fit_refused, fit_then}
+use Rattle.constriction_inputs.proofs.Asking.{fit_ok}
 use Rattle.constriction_inputs.proofs.KnownItems.{known_by}
 use Rattle.constriction_calls.proofs.RangeAnswers.{takes_after, takes_fault, words_moved}
 use Rattle.constriction_queue.proofs.ReadingOn.{finds_same}
@@ -30,11 +28,9 @@ returns-in-Ok g c =
     let size = length-map c.args.words.now number in
     let within : old.pos ≤ length buffer = omega (arith, c.if-decoder-words.false, size) in
     let fit = fit_ok P (coded symbols) c.in_ok-check_for.ensures.asks in
-    let is : ValidDecoder state w s old = search rules in
-    let count : length put ≡ length symbols = counts c.put_numbers.new.symbols ∙ (c.put_numbers.ensures.count ∙ sym (counts c.args.symbols.now)) in
     let kept = c.put_numbers.ensures.numbers ∙ ap g.G.Symbol.Symbol.kept c.deref.ensures.value in
     record {
-      call = takes_after state w s P coded buffer old symbols within fit is new put
+      call = takes_after state w s P coded buffer old symbols within fit (search rules) new put
           (λ words run at.
           let got = c.in-Ok.ensures.decoded words run (stands_read state w s buffer words run old c.in-Some.reading at c.in-Some.ensures.read) in
           let same : put ≡ again = kept ∙ g.met.G.DecoderModels.kept_law c.args.models.now again (c.in_ok-check_for.ensures.fit again c.in-Ok.ensures.count)
@@ -44,7 +40,7 @@ returns-in-Ok g c =
             stands_on state w s buffer words (items P (coded again)) run got.0 old new d at got.1 got.2 c.decoder_parts.ensures.lower c.decoder_parts.ensures.range c.decoder_parts.ensures.point
                 (c.decoder_parts.ensures.pos ∙ ap (λ n. n - length d.words) (sym size)),
           ))
-          (omega (arith, c.decoder_parts.ensures.pos, size)) count;
+          (omega (arith, c.decoder_parts.ensures.pos, size)) (counts c.put_numbers.new.symbols ∙ (c.put_numbers.ensures.count ∙ sym (counts c.args.symbols.now)));
     }
 
 pub returns-in-Err : goal.returns-in-Err
@@ -56,16 +52,14 @@ returns-in-Err g c =
     let P = g.row.PRECISION in
     let coded = g.G.Models.coded c.args.models.now in
     let buffer = map number c.args.words.now in
-    let counts = g.G.Symbol.Symbol.count_law in
     let symbols = g.G.Symbol.Symbol.numbers c.args.symbols.now in
     let old = c.args.decoder.now in
     let within : old.pos ≤ length buffer = omega (arith, c.if-decoder-words.false, length-map c.args.words.now number) in
     let fit = fit_ok P (coded symbols) c.in_ok-check_for.ensures.asks in
-    let is : ValidDecoder state w s old = search rules in
     record {
-      call = takes_fault state w s P coded buffer old symbols within fit is c.in-Err.refusal
+      call = takes_fault state w s P coded buffer old symbols within fit (search rules) c.in-Err.refusal
           (words_moved c.in-Err.refusal
           (λ none words others run last at all count.
-          none words others run last (stands_read state w s buffer words run old c.in-Some.reading at c.in-Some.ensures.read) all (count ∙ counts c.args.symbols.now))
+          none words others run last (stands_read state w s buffer words run old c.in-Some.reading at c.in-Some.ensures.read) all (count ∙ g.G.Symbol.Symbol.count_law c.args.symbols.now))
           c.in-Err.ensures.err);
     }

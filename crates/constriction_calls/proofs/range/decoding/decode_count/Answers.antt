@@ -15,8 +15,7 @@ returns-in-Err-clause-err g c = λ words symbols old last at all count.
     let sized = g.met.G.DecoderList.Model.EntropyModel.sized m in
     let model : Model ℕ = record { precision = P; table = g.G.DecoderList.Model.EntropyModel.table m } in
     let lawful : IsModel g.Word.BitArray.BITS model = record { some_bits = sized.0; within_word = omega (arith, sized.1, g.met.P.WordOf.width_law); lawful = g.G.DecoderList.Model.EntropyModel.lawful m } in
-    let found = finds_same g.Word.BitArray.BITS g.State.BitArray.BITS words _ (pairs_of P own symbols tables) old last (c.in-Some.ensures.items symbols count) all in
-    let here = c.loop-i.invariant.left words symbols old last at found count in
+    let here = c.loop-i.invariant.left words symbols old last at (finds_same g.Word.BitArray.BITS g.State.BitArray.BITS words _ (pairs_of P own symbols tables) old last (c.in-Some.ensures.items symbols count) all) count in
     let next = pairs_left P own symbols tables i model.table (omega (arith, c.loop-i-test.true, count)) (omega (arith, c.loop-i-test.true, c.in-Some.ensures.count)) placed in
     never_refused _ g.Word.BitArray.number _ _ g.Word.BitArray.BITS g.State.BitArray.BITS words tt model (get_or symbols i 0) (pairs_of P own (drop (i + 1) symbols) (drop (i + 1) tables)) here.0 last
     c.loop-i.decoder c.decode_symbol.new.self c.in-Err.field-0 _ (λ e. elim e [ ]) lawful here.1 (rw next at here.2) (λ h. h.1) c.in-Err.ensures.step

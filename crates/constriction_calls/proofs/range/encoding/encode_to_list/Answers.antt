@@ -7,8 +7,7 @@ use Rattle.constriction_calls.proofs.range.encoding.encode_to_list.Goals as goal
 
 pub encode_interval-requires-clause-step : goal.encode_interval-requires-clause-step
 encode_interval-requires-clause-step g c =
-    let items = g.L.ItemList.list_items c.args.list.now in
-    is_step_at g.Word.BitArray.BITS g.row.PRECISION g.P.BitArray.BITS items c.loop-i.i _ _ (rw c.loop-i.invariant.items at c.in_ok-found.ensures.found) g.met.P.WordOf.width_law
+    is_step_at g.Word.BitArray.BITS g.row.PRECISION g.P.BitArray.BITS (g.L.ItemList.list_items c.args.list.now) c.loop-i.i _ _ (rw c.loop-i.invariant.items at c.in_ok-found.ensures.found) g.met.P.WordOf.width_law
 
 pub encode_interval-requires-clause-symbols_left : goal.encode_interval-requires-clause-symbols_left
 encode_interval-requires-clause-symbols_left g c =
@@ -29,8 +28,7 @@ loop-i-preserved g c =
 
 pub returns : goal.returns
 returns g c =
-    let items = g.L.ItemList.list_items c.args.list.now in
     record {
-      narrowed = rw c.parts_over.ensures.run at (rw (take_all c.loop-i.i items (omega (arith, c.loop-i-test.false, c.loop-i.auto.i-end, c.count-i-end.ensures))) at c.loop-i.invariant.narrowed);
+      narrowed = rw c.parts_over.ensures.run at (rw (take_all c.loop-i.i (g.L.ItemList.list_items c.args.list.now) (omega (arith, c.loop-i-test.false, c.loop-i.auto.i-end, c.count-i-end.ensures))) at c.loop-i.invariant.narrowed);
       is = c.parts_over.ensures.coder;
     }

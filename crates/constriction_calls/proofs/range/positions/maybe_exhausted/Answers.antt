@@ -1,6 +1,5 @@
 use Rattle.std.proofs.Common.{◌∙◌, ◌≤◌, ap, arith, drop, inr, length, map, pow_pos, rules, sym}
 use Rattle.std.proofs.lemmas.List.{length-map}
-use Rattle.constriction_calls.specs.RangeCalls.{ValidDecoder}
 use Rattle.constriction_queue.proofs.ReadingOn.{as_number, may_end}
 use Rattle.constriction_calls.proofs.RangeSteps.{stands_read}
 use Rattle.constriction_calls.proofs.range.positions.maybe_exhausted.Goals as goal
@@ -13,7 +12,6 @@ returns-in-Some g c =
     let s = g.State.BitArray.BITS in
     let buffer = map number c.args.words.now in
     let d = c.in-Some.reading in
-    let is : ValidDecoder state w s c.args.decoder.now = search rules in
     let within : c.args.decoder.now.pos ≤ length c.args.words.now = omega (arith, c.if-decoder-words.false) in
     let inside : c.args.decoder.now.pos ≤ length buffer = omega (arith, within, length-map c.args.words.now number) in
     let told = as_number c.maybe_exhausted.result c.from.result c.from.ensures in
@@ -28,7 +26,7 @@ returns-in-Some g c =
             (λ one. may.0 (told.0.0 one), λ ends. told.0.1 (may.1 ends))
             );
         one_or_none = told.1;
-        asked = inr (inside, inr (is, tt));
+        asked = inr (inside, inr (search rules, tt));
         kept = tt;
       };
     }

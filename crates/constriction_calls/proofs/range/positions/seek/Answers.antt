@@ -1,4 +1,4 @@
-use Rattle.std.proofs.Common.{◌≡◌, ◌∙◌, ◌+◌, ◌-◌, ◌≤◌, ◌^◌, List, ap, arith, drop, inr, map, length, rules, subst, sym, take}
+use Rattle.std.proofs.Common.{◌≡◌, ◌∙◌, ◌+◌, ◌-◌, ◌≤◌, List, ap, arith, drop, inr, map, length, rules, subst, sym, take}
 use Rattle.std.proofs.lemmas.List.{drop-drop, length-drop, take_all}
 use Rattle.constriction_queue.proofs.Seals.{words_of_numbers}
 use Rattle.constriction_calls.specs.RangeCalls.{RangeBegins}
@@ -23,7 +23,6 @@ returns g c =
     let rest : drop (pos + begun.pos) words ≡ drop begun.pos part =
     sym (ap (λ ws. drop begun.pos ws) (map-drop number pos c.args.words.now) ∙ drop-drop begun.pos pos words) in
     let within : pos ≤ length c.args.words.now = omega (arith, c.if-pos-words.false) in
-    let wide : 2 ^ (s - w) ≤ state c.args.range = search rules in
     record {
       call = record {
         stands = λ there position. (
@@ -32,7 +31,7 @@ returns g c =
             record { lower_is = at.lower_is; range_is = at.range_is; point_is = at.point_is; rest_is = rest ∙ at.rest_is }
             );
         within = omega (arith, began.within, within, length-drop pos c.args.words.now);
-        asked = inr (within, inr (wide, tt));
+        asked = inr (within, inr (search rules, tt));
         kept = tt;
       };
     }

@@ -1,4 +1,4 @@
-use Rattle.std.proofs.Common.{◌∙◌, ◌-◌, ◌≡◌, ◌≤◌, ap, arith, length, refl, rules, sym}
+use Rattle.std.proofs.Common.{◌∙◌, ◌≡◌, ◌≤◌, ap, arith, length, refl, rules, sym}
 use Rattle.constriction_queue.specs.Encoder.{run_by}
 use Rattle.constriction_queue.specs.Range.{Run, sealed}
 use Rattle.constriction_calls.specs.RangeCalls.{CanEncode, IsSealed, RangeBuffers, count_needed}
@@ -35,11 +35,10 @@ returns-in-Ok g c =
     let can : CanEncode number state w s c.args.encoder.now 0 = search rules in
     let first = run_by w s c.in-Some.made in
     let own : c.sealed_count-count.result ≡ length (sealed w s first) = c.sealed_count-count.ensures ∙ ap (λ (r : Run). length (sealed w s r)) (sym c.in-Some.ensures.run) in
-    let room : length (sealed w s first) ≤ length c.args.buffer.now - c.args.len.now = omega (arith, own, c.if-count-buffer.false) in
     let all = c.in-Ok.added.items in
     record {
       call = seals_after number state w s old within can.is g.met.Word.BitArray.number_law g.met.State.BitArray.number_law c.requires first c.in-Some.ensures.run
-          all c.deref.result.now c.deref.ensures.value (sym (turned number all) ∙ c.in-Ok.ensures.ok) room c.append.result c.append.new.buffer c.append.new.len
+          all c.deref.result.now c.deref.ensures.value (sym (turned number all) ∙ c.in-Ok.ensures.ok) (omega (arith, own, c.if-count-buffer.false)) c.append.result c.append.new.buffer c.append.new.len
           c.append.ensures.ok c.append.ensures.err c.append.ensures.full c.append.ensures.kept;
     }
 

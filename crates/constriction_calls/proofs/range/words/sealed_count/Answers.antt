@@ -1,4 +1,4 @@
-use Rattle.std.proofs.Common.{◌≡◌, ◌∙◌, ◌≤◌, [], ap, arith, length, min}
+use Rattle.std.proofs.Common.{◌≡◌, ◌∙◌, [], ap, arith, length, min}
 use Rattle.constriction_queue.specs.Range.{Run, sealed}
 use Rattle.constriction_calls.specs.RangeCalls.{run_of_parts}
 use Rattle.constriction_calls.proofs.RangeBuffers.{short_count}
@@ -11,9 +11,8 @@ returns g c =
     let w = g.Word.BitArray.BITS in
     let s = g.State.BitArray.BITS in
     let parts = c.args.parts in
-    let narrow : w ≤ s = omega (arith, c.requires.sizes.two_words) in
     let least : c.min-held.result ≡ min parts.held 1 = c.min-held.ensures in
     let counted : c.num_words.result ≡ length (sealed w s (run_of_parts number state w s (record { lower = parts.lower; range = parts.range; held = c.min-held.result; first = parts.first }) [])) =
     c.num_words.ensures ∙ ap (λ (r : Run). length (sealed w s r)) c.in-Some.ensures.run in
     let same = ap (λ held. length (sealed w s (run_of_parts number state w s (record { lower = parts.lower; range = parts.range; held = held; first = parts.first }) []))) least in
-    omega (arith, counted, same, least, short_count number state w s parts c.requires.kept narrow)
+    omega (arith, counted, same, least, short_count number state w s parts c.requires.kept (omega (arith, c.requires.sizes.two_words)))

@@ -11,16 +11,14 @@ use Rattle.constriction_calls.proofs.symbol.decoding.decode_at.Goals as goal
 
 pub returns-in_err-read_symbols : goal.returns-in_err-read_symbols
 returns-in_err-read_symbols g c =
-    let w = g.Word.BitArray.BITS in
     let words = map g.Word.BitArray.number c.args.words.now in
     let bit = c.args.bit.now in
     let book = g.C.Codes.book c.args.codes.now in
-    let is = subst (λ n. IsBit w n bit) (sym (length-map c.args.words.now g.Word.BitArray.number)) (c.is_bit.ensures.0 c.if-not-is_bit.false) in
+    let is = subst (λ n. IsBit g.Word.BitArray.BITS n bit) (sym (length-map c.args.words.now g.Word.BitArray.number)) (c.is_bit.ensures.0 c.if-not-is_bit.false) in
     let made = c.in_ok-codebook in
     let code = g.C.Decoder.Codebook.codeword made.codebook in
     let cut = g.C.Decoder.DecoderCodebook.reads_on made.codebook in
-    let invalid = g.C.Decoder.DecoderCodebook.is_invalid made.codebook in
-    let wrong : List Bool → Type 0 = λ bs. (v : g.row.C-Wrong.Denot) × invalid bs v in
+    let wrong : List Bool → Type 0 = λ bs. (v : g.row.C-Wrong.Denot) × (g.C.Decoder.DecoderCodebook.is_invalid made.codebook) bs v in
     let e = c.in_err-read_symbols in
     let err = subst (λ bs. SymbolReadFails code cut wrong (length c.args.symbols.now) bs e.field-0.0) c.from-bits.ensures e.ensures.err in
     let none = none_by code (codeword_in g.C.Codes.number book) made.ensures.codewords cut wrong (IsCutOff book) (IsWrong book) made.ensures.cut (λ bs h. made.ensures.wrong bs h.0 h.1) (length c.args.symbols.now) _ e.field-0.0 err in
@@ -41,26 +39,20 @@ overflow_add-bit g c =
     let words = map g.Word.BitArray.number c.args.words.now in
     let is = c.is_bit.ensures.0 c.if-not-is_bit.false in
     let all = length_words w words ∙ ap (λ n. n * w) (length-map c.args.words.now g.Word.BitArray.number) in
-    let left = c.left-before.ensures ∙ (ap length c.from-bits.ensures ∙ length-drop c.args.bit.now (bits_of_words w words)) in
-    omega (arith, is.0, is.1, all, left)
+    omega (arith, is.0, is.1, all, (c.left-before.ensures ∙ (ap length c.from-bits.ensures ∙ length-drop c.args.bit.now (bits_of_words w words))))
 
 pub returns : goal.returns
 returns g c =
-    let w = g.Word.BitArray.BITS in
     let words = map g.Word.BitArray.number c.args.words.now in
-    let bit = c.args.bit.now in
-    let book = g.C.Codes.book c.args.codes.now in
-    let is = subst (λ n. IsBit w n bit) (sym (length-map c.args.words.now g.Word.BitArray.number)) (c.is_bit.ensures.0 c.if-not-is_bit.false) in
+    let is = subst (λ n. IsBit g.Word.BitArray.BITS n c.args.bit.now) (sym (length-map c.args.words.now g.Word.BitArray.number)) (c.is_bit.ensures.0 c.if-not-is_bit.false) in
     let made = c.in_ok-codebook in
     let e = c.in_ok-read_symbols in
     let rest = c.read_symbols.new.stream in
-    let symbols = c.read_symbols.new.symbols in
-    let off = taken_by (g.C.Decoder.Codebook.codeword made.codebook) (codeword_in g.C.Codes.number book) made.ensures.codewords symbols c.from-bits.result rest e.ensures.ok in
-    let size = ap length off.2 ∙ length-append off.0 rest in
+    let off = taken_by (g.C.Decoder.Codebook.codeword made.codebook) (codeword_in g.C.Codes.number (g.C.Codes.book c.args.codes.now)) made.ensures.codewords c.read_symbols.new.symbols c.from-bits.result rest e.ensures.ok in
     record {
       call = record {
         count = e.ensures.count;
-        taken = (off.0, rest, off.1, sym c.from-bits.ensures ∙ off.2, omega (arith, size, c.left-before.ensures, c.left.ensures));
+        taken = (off.0, rest, off.1, sym c.from-bits.ensures ∙ off.2, omega (arith, (ap length off.2 ∙ length-append off.0 rest), c.left-before.ensures, c.left.ensures));
         asked = inr (is, inr ((asked_ok made.ensures.asks).0, tt));
         kept = tt;
       };

@@ -11,8 +11,7 @@ use Rattle.constriction_calls.proofs.symbol.decoding.decode_stack.Goals as goal
 pub returns-in-Err-Frontend : goal.returns-in-Err-Frontend
 returns-in-Err-Frontend g c =
     let words = c.args.words.now in
-    let rest = c.in-Err-Frontend.field-0-0 in
-    let refused = c.from_compressed.ensures.frontend rest (let is = c.in-Err-Frontend.is in let outer = c.in-Err-Frontend.field-0-is in cc) in
+    let refused = c.from_compressed.ensures.frontend c.in-Err-Frontend.field-0-0 (let is = c.in-Err-Frontend.is in let outer = c.in-Err-Frontend.field-0-is in cc) in
     let all = ap (λ ws. reverse ws) (sym (take-length words)) ∙ (sym (ap (λ q. reverse (take q.pos q.buf.now)) c.new_at_write_end.ensures) ∙ refused.3 tt) in
     record {
       call = record {

@@ -10,8 +10,7 @@ pub returns-then-are_below : goal.returns-then-are_below
 returns-then-are_below g c =
     let weights = map g.P.BitArray.number c.args.self.now.weights.now in
     let long = length-map c.args.self.now.weights.now g.P.BitArray.number in
-    let below = c.are_below.ensures.0 c.if-are_below.true in
-    inr (c.make_tree.ensures.0 c.if-not-make_tree.false, inr (all_have (huffman weights) c.args.symbols.now (λ k d inside. known_symbol weights _ (omega (arith, below k d inside, long))), tt))
+    inr (c.make_tree.ensures.0 c.if-not-make_tree.false, inr (all_have (huffman weights) c.args.symbols.now (λ k d inside. known_symbol weights _ (omega (arith, (c.are_below.ensures.0 c.if-are_below.true) k d inside, long))), tt))
 
 pub returns-else-are_below : goal.returns-else-are_below
 returns-else-are_below g c =
