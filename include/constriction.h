@@ -88,12 +88,12 @@
    NO_MEMORY can replace only those after IMPOSSIBLE_SYMBOL.
 
    MEMORY. Most functions use the program's malloc, realloc and free, and free all of their memory before they return.
-   An encode by intervals or by rows of weights requests memory for words only. A decode by rows of weights requests it
-   for symbols and for words only, and with a stack coder not at all. A stack coder's encode by one table of weights, or
-   .._indexed, requests memory for up to one word per symbol, even if it writes fewer. A stack, chain or range coder's
-   encode of one symbol requests none for words, unless a range coder has more than one word pending. A call .._indexed
-   also requests up to 120 bytes for each table and, if it makes tables, up to 12 bytes for each weight (32 for an
-   encode).
+   An encode by intervals, or by rows of weights or counts, requests memory for words only. A decode by such rows
+   requests it for symbols and for words only, and with a stack coder not at all. A stack coder's encode by one table of
+   weights, or .._indexed, requests memory for up to one word per symbol, even if it writes fewer. A stack, chain or
+   range coder's encode of one symbol requests none for words, unless a range coder has more than one word pending. A
+   call .._indexed also requests up to 120 bytes for each table and, if it makes tables, up to 12 bytes for each weight
+   (32 for an encode).
    malloc, realloc and free must come from one allocator. malloc and realloc must align a block to each power of two up
    to 16 that divides its size. Don't call a function from a signal handler, or from the forked child of a process that
    had threads. */

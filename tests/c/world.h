@@ -154,6 +154,13 @@ static inline void refused_memory(const char *about, call *run, const struct wor
     CHECK(about, 0);
 }
 
+/* Makes a call that has to succeed without a request for memory. */
+static inline void requests_nothing(const char *about, call *run, const struct world *start) {
+    struct world w = *start;
+    requests = 0;
+    CHECK(about, run(&w) == CONSTRICTION_DONE && !requests);
+}
+
 /* Refuses each request for memory once: the call returns NO_MEMORY and changes nothing, or takes another way that requests
    memory again, and succeeds. */
 static inline void asks_again(const char *about, call *run, const struct world *start) {

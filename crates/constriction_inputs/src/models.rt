@@ -8,6 +8,7 @@
 //! - [`Families`]: a family of distributions, with a location and a scale for each symbol.
 //! - [`Mixtures`]: a row of distributions of one family for each symbol, and a weight for each distribution.
 
+pub mod count_row;
 mod counts;
 mod families;
 mod guided;
@@ -272,45 +273,6 @@ impl<
     #[inline]
     fn model(&self) -> &M {
         &self.model
-    }
-}
-
-/// A list of models that stores a separate model for each symbol.
-///
-/// # Examples
-///
-/// ```
-/// let rows = Rows { weights: &[255u8, 1, 128, 128], width: 2 };
-/// if let Some(mut list) = DecoderModels::<u8, 8>::decoder_list(&rows, alloc, 2) {
-///     DecoderModelList::<u8, 8>::select(&mut list, 1);
-///     DecoderModelList::<u8, 8>::model(&list).quantile_function(255) // (1, 128, 128)
-/// }
-/// ```
-#[derive(Drop)]
-pub struct Each<M> {
-    models: Vec<M>,
-    place: usize,
-}
-
-impl<
-    P: BitArray,
-    M: DecoderModel<PRECISION, Symbol = usize, Probability = P>,
-    const PRECISION: usize,
-> DecoderModelList<P, PRECISION> for Each<M> {
-    type Model = M;
-
-    ghost tables = { λ each. map M.table each.models.items };
-
-    ghost turned_to = { λ each. each.place };
-
-    #[inline]
-    fn select(&mut self, place: usize) {
-        self.place = place;
-    }
-
-    #[inline]
-    fn model(&self) -> &M {
-        &self.models[self.place]
     }
 }
 

@@ -1,20 +1,20 @@
 //! `Counts`: a row of counts for each symbol.
 
-ghost use Rattle.std.specs.Prelude.{◌≡◌, ◌↔◌, ◌+◌, ◌*◌, ◌<◌, ◌≤◌, length, map, IfOk, IsTrue};
+ghost use Rattle.std.specs.Prelude.{◌≡◌, ◌↔◌, ◌+◌, ◌*◌, ◌<◌, ◌≤◌, Some, length, IsTrue};
+ghost use Rattle.std.specs.Option.{option_map};
 ghost use Rattle.constriction_inputs.specs.Counts.{AreCountRows, IsCountPrecision, by_counts, count_tables};
 ghost use Rattle.constriction_inputs.specs.Mixtures.{row_at_index};
-ghost use Rattle.constriction_models.specs.Categorical.{MakeCategorical, categorical};
 ghost use Rattle.std.proofs.Common.{refl};
 
+use crate::models::count_row::CountRow;
 use crate::models::families::are_below;
-use crate::models::{DecoderModels, Each, EncoderModels, ModelList, Models};
+use crate::models::{DecoderModelList, DecoderModels, EncoderModels, ModelList, Models};
 use crate::refusal::Refusal;
 use crate::rows::adding::is_product;
 use crate::symbol::Symbol;
-use constriction_base::model::EntropyModel;
 use constriction_models::categorical::CategoricalCounts;
 use constriction_words::{BitArray, Reciprocal, WordOf};
-use std::alloc::{AllocError, Global};
+use std::alloc::Global;
 use std::marker::PhantomData;
 
 /// Rows of `width` counts, one after another in `counts`, with one row for each symbol to encode or decode.
@@ -65,7 +65,8 @@ impl<'a, P: WordOf<u32>, const PRECISION: usize> EncoderModels<P, PRECISION> for
             counts: self.counts,
             width: self.width,
             count,
-            of: PhantomData,
+            place: count,
+            row: None,
         })
     }
 }
@@ -73,23 +74,19 @@ impl<'a, P: WordOf<u32>, const PRECISION: usize> EncoderModels<P, PRECISION> for
 impl<'a, P: WordOf<u32>, const PRECISION: usize> DecoderModels<P, PRECISION> for Counts<'a> {
     type Symbol = usize;
 
-    type DecoderList = Each<CategoricalCounts<'a, P, PRECISION>>;
+    type DecoderList = CountList<'a, P, PRECISION>;
 
-    fn decoder_list(
-        &self,
-        alloc: Global,
-        count: usize,
-    ) -> Option<Each<CategoricalCounts<'a, P, PRECISION>>> {
-        match count_models(alloc, self.counts, self.width, count) {
-            Ok(models) => Some(Each { models, place: 0 }),
-            Err(_) => None,
-        }
+    #[inline]
+    fn decoder_list(&self, alloc: Global, count: usize) -> Option<CountList<'a, P, PRECISION>> {
+        EncoderModels::<P, PRECISION>::list(self, alloc, count, false)
     }
 
     ghost kept_law = { λ given ns fit known. refl };
 }
 
-/// Rows of counts that are checked. A look-up adds up the counts of its row.
+/// Rows of counts that are checked. A look-up adds up the counts of its row. The list needs no memory.
+///
+/// To decode, the list keeps the row that `select` selected. Before a row is selected, it keeps none.
 ///
 /// # Examples
 ///
@@ -104,11 +101,14 @@ pub struct CountList<'a, P: WordOf<u32>, const PRECISION: usize> {
     counts: &'a [u32],
     width: usize,
     count: usize,
-    of: PhantomData<P>,
+    place: usize,
+    row: Option<CountRow<'a, P, PRECISION>>,
     ghost positive: { 1 ≤ PRECISION },
     ghost fits: { IsCountPrecision P.BITS PRECISION },
     ghost counted: { length counts.now ≡ width * count },
     ghost rows: { AreCountRows PRECISION width count counts.now },
+    ghost selected: { place < count → option_map (λ chosen. chosen.counts.now) row
+        ≡ Some (row_at_index width place counts.now) },
 }
 
 impl<'a, P: WordOf<u32>, const PRECISION: usize> ModelList<P, PRECISION>
@@ -136,6 +136,33 @@ impl<'a, P: WordOf<u32>, const PRECISION: usize> ModelList<P, PRECISION>
     }
 }
 
+impl<'a, P: WordOf<u32>, const PRECISION: usize> DecoderModelList<P, PRECISION>
+    for CountList<'a, P, PRECISION> {
+    type Model = CountRow<'a, P, PRECISION>;
+
+    ghost tables = { λ list. count_tables PRECISION list.width list.count list.counts.now };
+
+    ghost turned_to = { λ list. list.place };
+
+    #[inline]
+    fn select(&mut self, place: usize) {
+        let counts = row_at(self.counts, self.width, place);
+        self.row = Some(CountRow {
+            counts,
+            of: PhantomData,
+        });
+        self.place = place;
+    }
+
+    #[inline]
+    fn model(&self) -> &CountRow<'a, P, PRECISION> {
+        match &self.row {
+            Some(row) => row,
+            None => unreachable!(),
+        }
+    }
+}
+
 /// Returns row `place` of `counts`, which has rows of `width` counts, one after another.
 ///
 /// The caller proves that there is such a row.
@@ -147,25 +174,6 @@ fn row_at(counts: &[u32], width: usize, place: usize) -> &[u32]
     let start = width * place;
     let end = start + width;
     &counts[start..end]
-}
-
-/// Returns the model of row `place` of `counts`, which has rows of `width` counts, one after another.
-///
-/// The caller proves that there is such a row, and that it has a table.
-#[inline]
-fn model_at<'a, P: WordOf<u32>, const PRECISION: usize>(
-    counts: &'a [u32],
-    width: usize,
-    place: usize,
-) -> CategoricalCounts<'a, P, PRECISION>
-    requires precision { 1 ≤ PRECISION }
-    requires sizes { IsCountPrecision P.BITS PRECISION }
-    requires within { width * place + width ≤ length counts.now }
-    requires counts { MakeCategorical PRECISION (row_at_index width place counts.now) }
-    ensures { ⟦<CategoricalCounts<'a, P, PRECISION> as EntropyModel<PRECISION>>⟧.table result
-        ≡ categorical PRECISION (row_at_index width place counts.now) }
-{
-    CategoricalCounts::new(row_at(counts, width, place)).unwrap()
 }
 
 /// Returns whether counts can have tables at this precision, and each of `count` rows of `width` counts has one.
@@ -209,32 +217,4 @@ fn are_rows<P: WordOf<u32>, const PRECISION: usize>(
         start = end;
     }
     true
-}
-
-/// Returns `count` models, one for each row of `width` counts. `counts` has the rows one after another.
-///
-/// The caller proves that `counts` has `count` rows, and that each row has a table.
-///
-/// # Errors
-///
-/// Returns `AllocError` if there is no memory for the list of models.
-fn count_models<'a, P: WordOf<u32>, const PRECISION: usize>(
-    alloc: Global,
-    counts: &'a [u32],
-    width: usize,
-    count: usize,
-) -> Result<Vec<CategoricalCounts<'a, P, PRECISION>>, AllocError>
-    requires precision { 1 ≤ PRECISION }
-    requires sizes { IsCountPrecision P.BITS PRECISION }
-    requires counted { length counts.now ≡ width * count }
-    requires counts { AreCountRows PRECISION width count counts.now }
-    ensures { IfOk result (λ models.
-        map ⟦<CategoricalCounts<'a, P, PRECISION> as EntropyModel<PRECISION>>⟧.table models.items
-        ≡ count_tables PRECISION width count counts.now) }
-{
-    let mut models = Vec::with_capacity(alloc, count)?;
-    for place in 0..count {
-        models.push_reserved(model_at::<P, PRECISION>(counts, width, place));
-    }
-    Ok(models)
 }

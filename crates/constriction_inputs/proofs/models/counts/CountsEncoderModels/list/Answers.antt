@@ -1,4 +1,4 @@
-use Rattle.std.proofs.Common.{refl}
+use Rattle.std.proofs.Common.{arith, refl}
 use Rattle.constriction_inputs.proofs.CountTables.{items_listed, tables_counted}
 use Rattle.constriction_inputs.proofs.models.counts.CountsEncoderModels.list.Goals as goal
 
@@ -11,6 +11,7 @@ invariant_of-result g c =
       fits = fit.2.0;
       counted = rw long at fit.0;
       rows = rw long at fit.2.1;
+      selected = λ within. absurd (omega (arith, within));
     }
 
 pub returns-clause-count : goal.returns-clause-count
