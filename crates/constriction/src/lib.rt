@@ -30,7 +30,8 @@
 //!
 //! # At the root
 //!
-//! - [`BitArray`]: a type of unsigned numbers with a fixed number of bits, for words and heads.
+//! - [`BitArray`]: a type of unsigned numbers with a fixed number of bits, for words and heads. [`Natural`] is its part
+//!   that compares, adds, subtracts and multiplies.
 //! - [`WordOf`]: a type of words that fit another type of numbers, such as the type of states.
 //! - [`Reciprocal`]: the reciprocal of a divisor, such as a symbol's weight. A multiplication by it replaces a
 //!   division.
@@ -193,7 +194,7 @@ pub use constriction_base::backends::{Pos, PosSeek, Queue, Seek, Semantics, Stac
 pub use constriction_base::errors::{
     CoderError, DefaultEncoderError, DefaultEncoderFrontendError, ReadWriteError,
 };
-pub use constriction_words::{BitArray, Reciprocal, WordOf};
+pub use constriction_words::{BitArray, Natural, Reciprocal, WordOf};
 
 pub mod base {
     pub use constriction_base::backends::{
@@ -209,7 +210,7 @@ pub mod base {
     pub use constriction_base::model::{DecoderModel, EncoderModel, EntropyModel};
     pub use constriction_base::reverse::Reverse;
     pub use constriction_base::weights::{TableError, WeightTable};
-    pub use constriction_words::{BitArray, Reciprocal, WordOf};
+    pub use constriction_words::{BitArray, Natural, Reciprocal, WordOf};
 }
 
 pub mod backends {

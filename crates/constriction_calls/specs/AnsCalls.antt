@@ -10,7 +10,7 @@ use Rattle.constriction_inputs.specs.Coded.{AsksFit, Coded, items}
 use Rattle.constriction_inputs.specs.Refusals.{Asks, Otherwise, OnlyNoMemory, NoRefusal, NoMemoryOrSpace}
 use Rattle.constriction_inputs.specs.declared.refusal.Refusal.{Refusal}
 use Rattle.constriction_inputs.specs.declared.refusal.Refusal.TheVariants.{ImpossibleSymbol, InvalidData, WrongLength}
-use Rattle.constriction_words.specs.declared.bit_array.BitArray as numbers
+use Rattle.constriction_words.specs.declared.natural.Natural as numbers
 
 -- A coder that a caller keeps: a head, and a buffer whose first `len` words are in use. The last of these is on top.
 pub record AnsBuffers (Word State : Type 0) : Type 0 where
@@ -77,13 +77,13 @@ pub record AnsDecodesList {Word State : Type 0} (number : Word → ℕ) (state :
 -- ---- symbols, with the numbers of types
 -- `AnsEncodesList` with the numbers and sizes in bits of two types: of words and of heads. The head, the buffer and the
 -- number of words in use come first as they are before the call, and then as they are after it.
-abbrev pub AnsEncodesListBy : {Word State N M : Type 0} → numbers.Ghosts Word N → numbers.Ghosts State M → ℕ → Coded
+abbrev pub AnsEncodesListBy : {Word State : Type 0} → numbers.Ghosts Word → numbers.Ghosts State → ℕ → Coded
     → State → List Word → ℕ → State → List Word → ℕ → Result (Unit {0}) Refusal → Type 0
 AnsEncodesListBy word state precision coded head words len new_head new_words new_len answer =
     AnsEncodesList word.number state.number word.BITS state.BITS precision coded (coder_of head words len) (coder_of new_head new_words new_len) answer
 
 -- `AnsDecodesList` with the numbers and sizes in bits of two types: of words and of heads. The buffer stays as it is.
-abbrev pub AnsDecodesListBy : {Word State N M : Type 0} → numbers.Ghosts Word N → numbers.Ghosts State M → ℕ → (List ℕ → Coded)
+abbrev pub AnsDecodesListBy : {Word State : Type 0} → numbers.Ghosts Word → numbers.Ghosts State → ℕ → (List ℕ → Coded)
     → List Word → State → ℕ → State → ℕ → List ℕ → List ℕ → Result (Unit {0}) Refusal → Type 0
 AnsDecodesListBy word state precision coded words head len new_head new_len old_symbols new_symbols answer =
     AnsDecodesList word.number state.number word.BITS state.BITS precision coded (coder_of head words len) (coder_of new_head words new_len) old_symbols new_symbols answer
@@ -99,7 +99,7 @@ pub record AnsImports {Word State : Type 0} (number : Word → ℕ) (state : Sta
   pub kept : OnErr answer (new ≡ old)
 
 -- `AnsImports` with the numbers and sizes in bits of two types: of words and of heads. `makes` takes the sizes first.
-abbrev pub AnsImportsBy : {Word State N M : Type 0} → numbers.Ghosts Word N → numbers.Ghosts State M → (ℕ → ℕ → List ℕ → AnsState) → (List ℕ → Type 0)
+abbrev pub AnsImportsBy : {Word State : Type 0} → numbers.Ghosts Word → numbers.Ghosts State → (ℕ → ℕ → List ℕ → AnsState) → (List ℕ → Type 0)
     → List Word → State → ℕ → State → ℕ → Result (Unit {0}) Refusal → Type 0
 AnsImportsBy word state makes holds words head len new_head new_len answer =
     AnsImports word.number state.number (makes word.BITS state.BITS) holds (coder_of head words len) (coder_of new_head words new_len) answer

@@ -12,7 +12,7 @@ use Rattle.constriction_inputs.specs.Refusals.{Asks, NoMemorySpaceOrData, Otherw
 use Rattle.constriction_calls.specs.declared.chain.ChainHeads.{ChainHeads}
 use Rattle.constriction_inputs.specs.declared.refusal.Refusal.{Refusal}
 use Rattle.constriction_inputs.specs.declared.refusal.Refusal.TheVariants.{ImpossibleSymbol, InvalidData, WrongLength}
-use Rattle.constriction_words.specs.declared.bit_array.BitArray as numbers
+use Rattle.constriction_words.specs.declared.natural.Natural as numbers
 
 -- ---- states
 -- The chain coder's state with the compressed head `h`, the remainders head `r`, and the words in use of two buffers.
@@ -116,7 +116,7 @@ pub record ChainEncodesList {Word State : Type 0} (number : Word → ℕ) (state
   pub kept : OnErr answer (new ≡ old)
 
 -- `ChainEncodesList` with the numbers and sizes in bits of two types: of words and of remainders heads.
-abbrev pub ChainEncodesListBy : {Word State N M : Type 0} → numbers.Ghosts Word N → numbers.Ghosts State M → ℕ → Coded
+abbrev pub ChainEncodesListBy : {Word State : Type 0} → numbers.Ghosts Word → numbers.Ghosts State → ℕ → Coded
     → ChainBuffers Word State → ChainBuffers Word State → Result (Unit {0}) Refusal → Type 0
 ChainEncodesListBy word state P coded old new answer = ChainEncodesList word.number state.number word.BITS state.BITS P coded old new answer
 
@@ -140,7 +140,7 @@ pub record ChainDecodesList {Word State : Type 0} (number : Word → ℕ) (state
   pub kept : OnErr answer ((new ≡ old) × (new_symbols ≡ old_symbols))
 
 -- `ChainDecodesList` with the numbers and sizes in bits of two types: of words and of remainders heads.
-abbrev pub ChainDecodesListBy : {Word State N M : Type 0} → numbers.Ghosts Word N → numbers.Ghosts State M → ℕ → (List ℕ → Coded)
+abbrev pub ChainDecodesListBy : {Word State : Type 0} → numbers.Ghosts Word → numbers.Ghosts State → ℕ → (List ℕ → Coded)
     → ChainBuffers Word State → ChainBuffers Word State → List ℕ → List ℕ → Result (Unit {0}) Refusal → Type 0
 ChainDecodesListBy word state P coded old new old_symbols new_symbols answer =
     ChainDecodesList word.number state.number word.BITS state.BITS P coded old new old_symbols new_symbols answer

@@ -12,7 +12,7 @@ use Rattle.constriction_calls.specs.declared.chain.Form.{Form}
 use Rattle.constriction_calls.specs.declared.chain.Form.TheVariants.{InBinary, InCompressed, InRemainders}
 use Rattle.constriction_inputs.specs.declared.refusal.Refusal.{Refusal}
 use Rattle.constriction_inputs.specs.declared.refusal.Refusal.TheVariants.{InvalidData, WrongLength}
-use Rattle.constriction_words.specs.declared.bit_array.BitArray as numbers
+use Rattle.constriction_words.specs.declared.natural.Natural as numbers
 
 -- The state with these heads and the words in use below them. The words are remainders in the form `InRemainders`, and
 -- compressed words in the other forms.
@@ -44,7 +44,7 @@ pub record ChainBegins {Word State : Type 0} (number : Word → ℕ) (state : St
 
 -- `ChainBegins` with the numbers and sizes in bits of two types: of words and of remainders heads. The heads and the
 -- number of words below them come first as they are before the call, and then as they are after it.
-abbrev pub ChainBeginsBy : {Word State N M : Type 0} → numbers.Ghosts Word N → numbers.Ghosts State M → ℕ → Form → List Word
+abbrev pub ChainBeginsBy : {Word State : Type 0} → numbers.Ghosts Word → numbers.Ghosts State → ℕ → Form → List Word
     → ChainHeads Word State → ℕ → ChainHeads Word State → ℕ → Result (Unit {0}) Refusal → Type 0
 ChainBeginsBy word state P form words heads len new_heads new_len answer =
     ChainBegins word.number state.number word.BITS state.BITS P form words (record { heads = heads; len = len }) (record { heads = new_heads; len = new_len }) answer
@@ -91,7 +91,7 @@ pub record ChainEnds {Word State : Type 0} (number : Word → ℕ) (state : Stat
 
 -- `ChainEnds` with the numbers and sizes in bits of two types: of words and of remainders heads. The buffer and the
 -- number of words in use come first as they are before the call, and then as they are after it.
-abbrev pub ChainEndsBy : {Word State N M : Type 0} → numbers.Ghosts Word N → numbers.Ghosts State M → ℕ → Form → ChainHeads Word State
+abbrev pub ChainEndsBy : {Word State : Type 0} → numbers.Ghosts Word → numbers.Ghosts State → ℕ → Form → ChainHeads Word State
     → List Word → ℕ → List Word → ℕ → Result (Unit {0}) Refusal → Type 0
 ChainEndsBy word state P form heads words len new_words new_len answer =
     ChainEnds word.number state.number word.BITS state.BITS P form heads (record { words = words; len = len }) (record { words = new_words; len = new_len }) answer

@@ -13,7 +13,7 @@ use Rattle.constriction_inputs.specs.Coded.{AsksFit, Coded, items}
 use Rattle.constriction_inputs.specs.Refusals.{Asks, Otherwise, NoRefusal, NoMemoryOrSpace, NoMemoryOrInvalid}
 use Rattle.constriction_inputs.specs.declared.refusal.Refusal.{Refusal}
 use Rattle.constriction_inputs.specs.declared.refusal.Refusal.TheVariants.{ImpossibleSymbol, InvalidData, NoMemory, NoSpace, WrongLength}
-use Rattle.constriction_words.specs.declared.bit_array.BitArray as numbers
+use Rattle.constriction_words.specs.declared.natural.Natural as numbers
 use Rattle.constriction_calls.specs.declared.range.parts.EncoderParts.{EncoderParts}
 use Rattle.constriction_calls.specs.declared.range.parts.DecoderParts.{DecoderParts}
 
@@ -114,7 +114,7 @@ pub record RangeEncodesList {Word State : Type 0} (number : Word → ℕ) (state
 
 -- `RangeEncodesList` with the numbers and sizes in bits of two types: of words and of interval ends. The encoder, the
 -- buffer and the number of words in use come first as they are before the call, and then as they are after it.
-abbrev pub RangeEncodesListBy : {Word State N M : Type 0} → numbers.Ghosts Word N → numbers.Ghosts State M → ℕ → Coded → ℕ
+abbrev pub RangeEncodesListBy : {Word State : Type 0} → numbers.Ghosts Word → numbers.Ghosts State → ℕ → Coded → ℕ
     → EncoderParts Word State → List Word → ℕ → EncoderParts Word State → List Word → ℕ → Result (Unit {0}) Refusal → Type 0
 RangeEncodesListBy word state precision coded count encoder words len new_encoder new_words new_len answer =
     RangeEncodesList word.number state.number word.BITS state.BITS precision coded count (range_buffers encoder words len) (range_buffers new_encoder new_words new_len) answer
@@ -146,7 +146,7 @@ pub record RangeSeals {Word State : Type 0} (number : Word → ℕ) (state : Sta
 
 -- `RangeSeals` with the numbers and sizes in bits of two types: of words and of interval ends. `ends` takes the sizes
 -- first. The call leaves the encoder as it is.
-abbrev pub RangeSealsBy : {Word State N M : Type 0} → numbers.Ghosts Word N → numbers.Ghosts State M → (ℕ → ℕ → Run → List ℕ → Type 0)
+abbrev pub RangeSealsBy : {Word State : Type 0} → numbers.Ghosts Word → numbers.Ghosts State → (ℕ → ℕ → Run → List ℕ → Type 0)
     → EncoderParts Word State → List Word → ℕ → List Word → ℕ → Result (Unit {0}) Refusal → Type 0
 RangeSealsBy word state ends encoder words len new_words new_len answer =
     RangeSeals word.number state.number word.BITS state.BITS (ends word.BITS state.BITS) (range_buffers encoder words len) (range_buffers encoder new_words new_len) answer

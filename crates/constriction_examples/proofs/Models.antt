@@ -15,7 +15,7 @@ pub sizes : IsSizes 32 64
 sizes = record { some_bits = lit≤ tt; two_words = lit≤ tt; whole = refl }
 
 -- a table of 12 bits is a model at words of 32 bits
-pub is_model : {Probability NonZero : Type 0} {word : _} (table : WeightTable Probability 12 NonZero word) → IsModel 32 (model_of table)
+pub is_model : {Probability NonZero : Type 0} {bits : _} {word : _} (table : WeightTable Probability 12 NonZero bits word) → IsModel 32 (model_of table)
 is_model table = record { some_bits = lit≤ tt; within_word = lit≤ tt; lawful = entries_are_table table }
 
 -- what a look-up lends is the model of that place

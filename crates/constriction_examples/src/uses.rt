@@ -13,7 +13,7 @@ ghost use Rattle.constriction.specs.stack.Symbols.{DecodesAll, EncodesAll};
 ghost use Rattle.constriction_examples.specs.Packing.{ArePacked, AreUnpacked, reading_order};
 
 use anyhow::{Result, bail};
-use constriction::BitArray;
+use constriction::Natural;
 use constriction::backends::Cursor;
 use constriction::laws::errors::RoundTripError;
 use constriction::laws::stack::round_trips::pairs::{pairs_from_words, words_with_pairs};
@@ -75,7 +75,7 @@ pub fn unpack(
 /// Returns `None` if there is no memory.
 pub fn words_so_far(alloc: Global, coder: &mut DefaultAnsCoder) -> Option<Vec<u32>>
     ensures words { IfSome result (λ words.
-        map ⟦<u32 as BitArray>⟧.number (reverse words.items) ≡ exported 32 coder.old.state) }
+        map ⟦<u32 as Natural>⟧.number (reverse words.items) ≡ exported 32 coder.old.state) }
     ensures kept { coder.new.state ≡ coder.old.state }
 {
     let Ok(guard) = coder.get_compressed() else {

@@ -12,7 +12,7 @@ use Rattle.constriction_inputs.specs.Coded.{AsksFit, Coded, items}
 use Rattle.constriction_inputs.specs.Refusals.{Asks, Otherwise, OnlyNoMemory, NoMemoryOrSpace}
 use Rattle.constriction_inputs.specs.declared.refusal.Refusal.{Refusal}
 use Rattle.constriction_inputs.specs.declared.refusal.Refusal.TheVariants.{ImpossibleSymbol, WrongLength}
-use Rattle.constriction_words.specs.declared.bit_array.BitArray as numbers
+use Rattle.constriction_words.specs.declared.natural.Natural as numbers
 
 -- The coders that a caller keeps: their heads, a row of words for each coder, one row after another, and the number of
 -- words that each coder has in use.
@@ -141,13 +141,13 @@ pub record LanesEncodeList {Word State : Type 0} (number : Word → ℕ) (state 
 
 -- ---- with the numbers of types
 -- `LanesDecodeList` with the numbers and sizes in bits of two types: of words and of heads. The words stay as they are.
-abbrev pub LanesDecodeListBy : {Word State N M : Type 0} → numbers.Ghosts Word N → numbers.Ghosts State M → ℕ → (List ℕ → Coded)
+abbrev pub LanesDecodeListBy : {Word State : Type 0} → numbers.Ghosts Word → numbers.Ghosts State → ℕ → (List ℕ → Coded)
     → List Word → List State → List ℕ → List State → List ℕ → List ℕ → List ℕ → Result (Unit {0}) Refusal → Type 0
 LanesDecodeListBy word state precision coded words heads lens new_heads new_lens symbols new_symbols answer =
     LanesDecodeList word.number state.number word.BITS state.BITS precision coded (lanes_of heads words lens) (lanes_of new_heads words new_lens) symbols new_symbols answer
 
 -- `LanesEncodeList` with the numbers and sizes in bits of two types: of words and of heads.
-abbrev pub LanesEncodeListBy : {Word State N M : Type 0} → numbers.Ghosts Word N → numbers.Ghosts State M → ℕ → ℕ → Coded
+abbrev pub LanesEncodeListBy : {Word State : Type 0} → numbers.Ghosts Word → numbers.Ghosts State → ℕ → ℕ → Coded
     → List State → List Word → List ℕ → List State → List Word → List ℕ → Result (Unit {0}) Refusal → Type 0
 LanesEncodeListBy word state precision count coded heads words lens new_heads new_words new_lens answer =
     LanesEncodeList word.number state.number word.BITS state.BITS precision count coded (lanes_of heads words lens) (lanes_of new_heads new_words new_lens) answer

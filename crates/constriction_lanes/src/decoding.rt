@@ -48,7 +48,7 @@ pub fn decode<
 ) -> Result<(), Refusal>
     requires sizes { IsSizes Word.BITS State.BITS }
     requires precision { (1 ≤ PRECISION) × (PRECISION ≤ P.BITS) }
-    ensures call { LanesDecodeListBy Word.BitArray State.BitArray PRECISION (G.coded models.now)
+    ensures call { LanesDecodeListBy Word.Natural State.Natural PRECISION (G.coded models.now)
         words.now heads.old lens.old heads.new lens.new symbols.old symbols.new result }
 {
     let Some((width, count)) = row_lengths(heads.len(), words.len(), lens, symbols.len()) else {
@@ -86,7 +86,7 @@ pub fn decode_by_weights<
 ) -> Result<(), Refusal>
     requires sizes { IsSizes Word.BITS State.BITS }
     requires precision { (1 ≤ PRECISION) × (PRECISION ≤ P.BITS) }
-    ensures call { LanesDecodeListBy Word.BitArray State.BitArray PRECISION (by_weights (map P.number weights.now))
+    ensures call { LanesDecodeListBy Word.Natural State.Natural PRECISION (by_weights (map P.number weights.now))
         words.now heads.old lens.old heads.new lens.new symbols.old symbols.new result }
 {
     let Some((width, count)) = row_lengths(heads.len(), words.len(), lens, symbols.len()) else {

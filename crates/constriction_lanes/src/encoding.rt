@@ -48,7 +48,7 @@ pub fn encode_reverse<
 ) -> Result<(), Refusal>
     requires sizes { IsSizes Word.BITS State.BITS }
     requires precision { (1 ≤ PRECISION) × (PRECISION ≤ P.BITS) }
-    ensures call { LanesEncodeListBy Word.BitArray State.BitArray PRECISION (I.item_count items.now)
+    ensures call { LanesEncodeListBy Word.Natural State.Natural PRECISION (I.item_count items.now)
         (I.coded items.now) heads.old words.old lens.old heads.new words.new lens.new result }
 {
     let Some((width, count)) = row_lengths(heads.len(), words.len(), lens, items.count()) else {

@@ -10,7 +10,7 @@ ghost use Rattle.constriction_base.specs.Tables.{Has, Covers};
 ghost use Rattle.constriction_models.specs.Lookup.{AreRows, HasHighSymbol, HasLowSymbols, IsEntryAt};
 
 use constriction_base::model::{DecoderModel, EncoderModel, EntropyModel};
-use constriction_words::BitArray;
+use constriction_words::{BitArray, Natural};
 use std::alloc::Global;
 use thiserror::Error;
 

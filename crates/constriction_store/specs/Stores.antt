@@ -22,7 +22,7 @@ abbrev pub entry_of : ℕ → ℕ → ℕ → ℕ → Entry
 entry_of place lower range len = record { place = place; lower = lower; range = range; len = len }
 
 -- An item of an index as an entry.
-abbrev pub entry_at : {Word State WordNonZero StateNonZero : Type 0} {word : _} {state : _} → ℕ × RangeCoderState Word State WordNonZero StateNonZero word state × ℕ → Entry
+abbrev pub entry_at : {Word State WordNonZero StateNonZero : Type 0} {word_bits : _} {word : _} {state_bits : _} {state : _} → ℕ × RangeCoderState Word State WordNonZero StateNonZero word_bits word state_bits state × ℕ → Entry
 entry_at item = entry_of item.0 (lower_of item.1) (range_of item.1) item.2
 
 -- The entry of a chunk, or an empty entry past the last one.

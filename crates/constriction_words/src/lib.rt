@@ -2,6 +2,7 @@
 //!
 //! - [`bit_array`]: `BitArray`, the trait of word types with exact arithmetic, and its six impls for `u8`, `u16`,
 //!   `u32`, `u64`, `u128` and `usize`.
+//! - [`natural`]: `Natural`, the part of `BitArray` that compares, adds, subtracts and multiplies.
 //! - [`reciprocal`]: `Reciprocal`, which replaces divisions by a fixed number with multiplications.
 //! - [`word_of`]: `WordOf<T>`, which widens a word to a `T` and narrows a `T` to a word, and its eighteen impls.
 //!
@@ -26,18 +27,21 @@
 //! }
 //! ```
 //!
-//! No method of `BitArray` or `WordOf` shares its name with a method of `num_traits`. Code that needs `BitArray` and a
-//! trait of `num_traits` writes both bounds, as in `Word: BitArray + PrimInt`, and calls every method by its bare name.
+//! No method of `Natural`, `BitArray` or `WordOf` shares its name with a method of `num_traits`. Code that needs
+//! `BitArray` and a trait of `num_traits` writes both bounds, as in `Word: BitArray + PrimInt`, and calls every method by
+//! its bare name.
 //!
 //! `docs/CONTRACTS.md` has the contract of each call that the crate `constriction` exports.
 #![tactic(auto)]
 
 pub mod bit_array;
 mod division;
+pub mod natural;
 pub mod reciprocal;
 mod reversing;
 pub mod word_of;
 
 pub use crate::bit_array::BitArray;
+pub use crate::natural::Natural;
 pub use crate::reciprocal::Reciprocal;
 pub use crate::word_of::WordOf;

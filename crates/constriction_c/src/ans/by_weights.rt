@@ -47,7 +47,7 @@ pub fn encode_reverse_by_weights<
 ) -> Result<(), Refusal>
     requires sizes { IsSizes Word.BITS State.BITS }
     requires precision { (1 ≤ PRECISION) × (PRECISION ≤ P.BITS) }
-    ensures call { AnsEncodesListBy Word.BitArray State.BitArray PRECISION
+    ensures call { AnsEncodesListBy Word.Natural State.Natural PRECISION
         (by_weights (map P.number weights.now) (S.numbers symbols.now)) head.old words.old len.old
         head.new words.new len.new result }
 {
@@ -87,7 +87,7 @@ pub fn decode_by_weights<
 ) -> Result<(), Refusal>
     requires sizes { IsSizes Word.BITS State.BITS }
     requires precision { (1 ≤ PRECISION) × (PRECISION ≤ P.BITS) }
-    ensures call { AnsDecodesListBy Word.BitArray State.BitArray PRECISION (by_weights (map P.number weights.now))
+    ensures call { AnsDecodesListBy Word.Natural State.Natural PRECISION (by_weights (map P.number weights.now))
         words.now head.old len.old head.new len.new symbols.old symbols.new result }
 {
     let models = Weights { weights };
@@ -126,7 +126,7 @@ pub fn decode_narrow<
 ) -> Result<(), Refusal>
     requires sizes { IsSizes Word.BITS State.BITS }
     requires precision { (1 ≤ PRECISION) × (PRECISION ≤ P.BITS) }
-    ensures call { AnsDecodesListBy Word.BitArray State.BitArray PRECISION
+    ensures call { AnsDecodesListBy Word.Natural State.Natural PRECISION
         (narrow_by_weights S.many (map P.number weights.now)) words.now head.old len.old head.new len.new
         (S.numbers symbols.old) (S.numbers symbols.new) result }
 {

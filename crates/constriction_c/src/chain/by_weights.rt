@@ -53,7 +53,7 @@ pub fn encode_reverse_by_weights<
     requires sized { IsSized Word.BITS State.BITS PRECISION }
     requires within { PRECISION ≤ P.BITS }
     requires fits { CoderFits Word.row State.row }
-    ensures call { ChainEncodesListBy Word.BitArray State.BitArray PRECISION
+    ensures call { ChainEncodesListBy Word.Natural State.Natural PRECISION
         (by_weights (map P.number weights.now) (S.numbers symbols.now))
         (chain_buffers heads.old compressed.old count.old remainders.now rest.old)
         (chain_buffers heads.new compressed.new count.new remainders.now rest.new) result }
@@ -102,7 +102,7 @@ pub fn decode_by_weights<
     requires sized { IsSized Word.BITS State.BITS PRECISION }
     requires within { PRECISION ≤ P.BITS }
     requires fits { CoderFits Word.row State.row }
-    ensures call { ChainDecodesListBy Word.BitArray State.BitArray PRECISION (by_weights (map P.number weights.now))
+    ensures call { ChainDecodesListBy Word.Natural State.Natural PRECISION (by_weights (map P.number weights.now))
         (chain_buffers heads.old compressed.now len.old remainders.old rest.old)
         (chain_buffers heads.new compressed.now len.new remainders.new rest.new) symbols.old symbols.new result }
 {
@@ -150,7 +150,7 @@ pub fn decode_narrow<
     requires sized { IsSized Word.BITS State.BITS PRECISION }
     requires within { PRECISION ≤ P.BITS }
     requires fits { CoderFits Word.row State.row }
-    ensures call { ChainDecodesListBy Word.BitArray State.BitArray PRECISION
+    ensures call { ChainDecodesListBy Word.Natural State.Natural PRECISION
         (narrow_by_weights S.many (map P.number weights.now))
         (chain_buffers heads.old compressed.now len.old remainders.old rest.old)
         (chain_buffers heads.new compressed.now len.new remainders.new rest.new)

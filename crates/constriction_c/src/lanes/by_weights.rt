@@ -46,7 +46,7 @@ pub fn encode_reverse_by_weights<
 ) -> Result<(), Refusal>
     requires sizes { IsSizes Word.BITS State.BITS }
     requires precision { (1 ≤ PRECISION) × (PRECISION ≤ P.BITS) }
-    ensures call { LanesEncodeListBy Word.BitArray State.BitArray PRECISION (length symbols.now)
+    ensures call { LanesEncodeListBy Word.Natural State.Natural PRECISION (length symbols.now)
         (by_weights (map P.number weights.now) (S.numbers symbols.now)) heads.old words.old lens.old
         heads.new words.new lens.new result }
 {

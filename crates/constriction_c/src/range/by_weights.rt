@@ -49,7 +49,7 @@ pub fn encode_by_weights<
 ) -> Result<(), Refusal>
     requires sizes { IsSizes Word.BITS State.BITS }
     requires precision { (1 ≤ PRECISION) × (PRECISION ≤ P.BITS) }
-    ensures call { RangeEncodesListBy Word.BitArray State.BitArray PRECISION
+    ensures call { RangeEncodesListBy Word.Natural State.Natural PRECISION
         (by_weights (map P.number weights.now) (S.numbers symbols.now)) (length symbols.now)
         encoder.old buffer.old len.old encoder.new buffer.new len.new result }
 {

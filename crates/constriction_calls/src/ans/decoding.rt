@@ -42,7 +42,7 @@ pub fn decode<
 ) -> Result<(), Refusal>
     requires sizes { IsSizes Word.BITS State.BITS }
     requires precision { (1 ≤ PRECISION) × (PRECISION ≤ P.BITS) }
-    ensures call { AnsDecodesListBy Word.BitArray State.BitArray PRECISION (G.coded models.now)
+    ensures call { AnsDecodesListBy Word.Natural State.Natural PRECISION (G.coded models.now)
         words.now head.old len.old head.new len.new
         (G.Symbol.numbers symbols.old) (G.Symbol.numbers symbols.new) result }
 {

@@ -39,7 +39,7 @@ pub fn encode_reverse<
 ) -> Result<(), Refusal>
     requires sizes { IsSizes Word.BITS State.BITS }
     requires precision { (1 ≤ PRECISION) × (PRECISION ≤ P.BITS) }
-    ensures call { AnsEncodesListBy Word.BitArray State.BitArray PRECISION (I.coded items.now)
+    ensures call { AnsEncodesListBy Word.Natural State.Natural PRECISION (I.coded items.now)
         head.old words.old len.old head.new words.new len.new result }
 {
     if *len > words.len() {

@@ -29,7 +29,7 @@ pub fn from_compressed<Word: WordOf<State>, State: BitArray>(
     head: &mut State,
 ) -> Result<(), Refusal>
     requires { IsSizes Word.BITS State.BITS }
-    ensures { AnsImportsBy Word.BitArray State.BitArray (λ w s. filled w s 0) BeginsHigh
+    ensures { AnsImportsBy Word.Natural State.Natural (λ w s. filled w s 0) BeginsHigh
         words.now head.old len.old head.new len.new result }
 {
     let Ok(coder) = AnsCoder::<Word, State, Cursor<Word, &[Word]>>::from_compressed_slice(words)
@@ -52,7 +52,7 @@ pub fn from_binary<Word: WordOf<State>, State: BitArray>(
     head: &mut State,
 )
     requires { IsSizes Word.BITS State.BITS }
-    ensures { AnsImportsBy Word.BitArray State.BitArray binary_state (λ all. Unit {0})
+    ensures { AnsImportsBy Word.Natural State.Natural binary_state (λ all. Unit {0})
         words.now head.old len.old head.new len.new (Ok tt) }
 {
     let coder = AnsCoder::<Word, State, Cursor<Word, &[Word]>>::from_binary_slice(words);

@@ -63,7 +63,7 @@ pub fn decode<
     requires sized { IsSized Word.BITS State.BITS PRECISION }
     requires within { PRECISION ≤ P.BITS }
     requires fits { CoderFits Word.row State.row }
-    ensures call { ChainDecodesListBy Word.BitArray State.BitArray PRECISION (G.coded models.now)
+    ensures call { ChainDecodesListBy Word.Natural State.Natural PRECISION (G.coded models.now)
         (chain_buffers heads.old compressed.now len.old remainders.old rest.old)
         (chain_buffers heads.new compressed.now len.new remainders.new rest.new)
         (G.Symbol.numbers symbols.old) (G.Symbol.numbers symbols.new) result }

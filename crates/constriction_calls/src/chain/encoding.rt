@@ -56,7 +56,7 @@ pub fn encode_reverse<
     requires sized { IsSized Word.BITS State.BITS PRECISION }
     requires within { PRECISION ≤ P.BITS }
     requires fits { CoderFits Word.row State.row }
-    ensures call { ChainEncodesListBy Word.BitArray State.BitArray PRECISION (I.coded items.now)
+    ensures call { ChainEncodesListBy Word.Natural State.Natural PRECISION (I.coded items.now)
         (chain_buffers heads.old compressed.old len.old remainders.now rest.old)
         (chain_buffers heads.new compressed.new len.new remainders.now rest.new) result }
 {

@@ -38,7 +38,7 @@ pub fn from_words<Word: WordOf<State>, State: BitArray, const PRECISION: usize>(
 ) -> Result<(), Refusal>
     requires sized { IsSized Word.BITS State.BITS PRECISION }
     requires fits { CoderFits Word.row State.row }
-    ensures call { ChainBeginsBy Word.BitArray State.BitArray PRECISION form words.now
+    ensures call { ChainBeginsBy Word.Natural State.Natural PRECISION form words.now
         heads.old len.old heads.new len.new result }
 {
     let lent = Cursor::new_at_write_end(words);
@@ -99,7 +99,7 @@ pub fn into_words<Word: WordOf<State>, State: BitArray, const PRECISION: usize>(
 ) -> Result<(), Refusal>
     requires sized { IsSized Word.BITS State.BITS PRECISION }
     requires fits { CoderFits Word.row State.row }
-    ensures call { ChainEndsBy Word.BitArray State.BitArray PRECISION form heads.now
+    ensures call { ChainEndsBy Word.Natural State.Natural PRECISION form heads.now
         words.old len.old words.new len.new result }
 {
     if *len > words.len() {

@@ -48,7 +48,7 @@ pub fn encode<
 ) -> Result<(), Refusal>
     requires sizes { IsSizes Word.BITS State.BITS }
     requires precision { (1 ≤ PRECISION) × (PRECISION ≤ P.BITS) }
-    ensures call { RangeEncodesListBy Word.BitArray State.BitArray PRECISION (I.coded items.now)
+    ensures call { RangeEncodesListBy Word.Natural State.Natural PRECISION (I.coded items.now)
         (I.item_count items.now)
         encoder.old buffer.old len.old encoder.new buffer.new len.new result }
 {
@@ -95,7 +95,7 @@ fn encode_list<
     requires precision { (1 ≤ PRECISION) × (PRECISION ≤ P.BITS) }
     requires within { len.now ≤ length buffer.now }
     requires fit { AreFit PRECISION (I.coded items.now) }
-    ensures call { RangeEncodesListBy Word.BitArray State.BitArray PRECISION (I.coded items.now)
+    ensures call { RangeEncodesListBy Word.Natural State.Natural PRECISION (I.coded items.now)
         (I.item_count items.now)
         encoder.old buffer.old len.old encoder.new buffer.new len.new result }
 {

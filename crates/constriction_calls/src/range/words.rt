@@ -30,7 +30,7 @@ pub fn into_compressed<Word: WordOf<State>, State: BitArray>(
     len: &mut usize,
 ) -> Result<(), Refusal>
     requires { IsSizes Word.BITS State.BITS }
-    ensures call { RangeSealsBy Word.BitArray State.BitArray IsSealed
+    ensures call { RangeSealsBy Word.Natural State.Natural IsSealed
         encoder.now buffer.old len.old buffer.new len.new result }
 {
     if *len > buffer.len() {
@@ -85,7 +85,7 @@ pub fn into_self_delimited<Word: WordOf<State>, State: BitArray>(
 ) -> Result<(), Refusal>
     requires sizes { IsSizes Word.BITS State.BITS }
     requires two_words { State.BITS / Word.BITS ≡ 2 }
-    ensures call { RangeSealsBy Word.BitArray State.BitArray IsSelfSealed
+    ensures call { RangeSealsBy Word.Natural State.Natural IsSelfSealed
         encoder.now buffer.old len.old buffer.new len.new result }
 {
     into_compressed(alloc, encoder, buffer, len)

@@ -35,13 +35,13 @@ NoPairs w s precision table words models =
     NoList w s words (λ symbols. pairs_of precision table symbols models) (length models) (initial s)
 
 -- The position is recorded as the number of words before it and an interval; it is that of this run.
-abbrev pub IsRecorded : {Word State WordNonZero StateNonZero : Type 0} {word : _} {state : _} → ℕ → Run
-    → ℕ × RangeCoderState Word State WordNonZero StateNonZero word state → Type 0
+abbrev pub IsRecorded : {Word State WordNonZero StateNonZero : Type 0} {word_bits : _} {word : _} {state_bits : _} {state : _} → ℕ → Run
+    → ℕ × RangeCoderState Word State WordNonZero StateNonZero word_bits word state_bits state → Type 0
 IsRecorded s there position = IsPosition s there position.0 (lower_of position.1) (range_of position.1)
 
 -- Decoding as many symbols as there are models from the position fails with this error.
-abbrev pub NoPairsAt : {S M Word State WordNonZero StateNonZero : Type 0} {word : _} {state : _} → ℕ → ℕ → ℕ
-    → (M → List (S × ℕ × ℕ)) → List ℕ → List M → ℕ × RangeCoderState Word State WordNonZero StateNonZero word state
+abbrev pub NoPairsAt : {S M Word State WordNonZero StateNonZero : Type 0} {word_bits : _} {word : _} {state_bits : _} {state : _} → ℕ → ℕ → ℕ
+    → (M → List (S × ℕ × ℕ)) → List ℕ → List M → ℕ × RangeCoderState Word State WordNonZero StateNonZero word_bits word state_bits state
     → DecodeError → Type 0
 NoPairsAt w s precision table words models position e =
     NoListAt w s words (λ symbols. pairs_of precision table symbols models) (length models)
@@ -49,8 +49,8 @@ NoPairsAt w s precision table words models position e =
 
 -- If the position is that of a run, and the words hold symbols from this run on, one for each model, a successful call
 -- returns these symbols.
-abbrev pub ReturnsFrom : {S M A E Word State WordNonZero StateNonZero : Type 0} {word : _} {state : _} → ℕ → ℕ → ℕ
-    → (M → List (S × ℕ × ℕ)) → List ℕ → List M → ℕ × RangeCoderState Word State WordNonZero StateNonZero word state
+abbrev pub ReturnsFrom : {S M A E Word State WordNonZero StateNonZero : Type 0} {word_bits : _} {word : _} {state_bits : _} {state : _} → ℕ → ℕ → ℕ
+    → (M → List (S × ℕ × ℕ)) → List ℕ → List M → ℕ × RangeCoderState Word State WordNonZero StateNonZero word_bits word state_bits state
     → Result (Vec S A) E → Type 0
 ReturnsFrom {S} w s precision table words models position result =
     (symbols : List S) (there last : Run) → IsRecorded s there position

@@ -1,9 +1,9 @@
 //! Tests of the methods that take two words.
 
 use super::arithmetic::{difference, div_rem, product, quotient, quotient_by, remainder, sum};
-use constriction_words::BitArray;
+use constriction_words::{BitArray, Natural};
 
-/// Two words, and the results that the methods of [`BitArray`] should return for them.
+/// Two words, and the results that the methods of [`Natural`] and [`BitArray`] should return for them.
 #[derive(Drop)]
 pub struct Pair<W> {
     pub numbers: (W, W),
@@ -19,7 +19,7 @@ fn is_pair(pair: &Pair<u8>) -> bool {
     let (first, second) = pair.numbers;
     let [added, taken, times, ratio, left] = pair.exact;
     let (quickly, rest) = div_rem(first, second, 8);
-    let (slowly, same_rest) = div_rem(first, second, <u8 as BitArray>::BITS);
+    let (slowly, same_rest) = div_rem(first, second, <u8 as Natural>::BITS);
     let exact = [
         sum(first, second),
         difference(first, second),

@@ -1,9 +1,9 @@
 //! Tests of the methods that take one word.
 
 use super::arithmetic::{index, shifted, through_nonzero};
-use constriction_words::BitArray;
+use constriction_words::{BitArray, Natural};
 
-/// A word, and the results that the methods of [`BitArray`] should return for it.
+/// A word, and the results that the methods of [`Natural`] and [`BitArray`] should return for it.
 #[derive(Drop)]
 pub struct Single<W> {
     pub number: W,
@@ -20,7 +20,7 @@ pub struct Single<W> {
 /// Returns whether the methods return the results of `single`.
 fn is_single(single: &Single<u8>) -> bool {
     let number = single.number;
-    single.by < <u8 as BitArray>::BITS
+    single.by < <u8 as Natural>::BITS
         && shifted(number, single.by) == single.left
         && number.shift_right(single.by) == single.right_and_low.0
         && number.low_bits(single.by) == single.right_and_low.1
@@ -41,7 +41,7 @@ fn are_singles(bits: u32, named: (u8, u8, u8), singles: &[Single<u8>]) -> bool {
             return false;
         }
     }
-    <u8 as BitArray>::BITS == bits && (u8::nothing(), u8::unit(), u8::greatest()) == named
+    <u8 as Natural>::BITS == bits && (u8::nothing(), u8::unit(), u8::greatest()) == named
 }
 
 /// Returns whether `index` returns `indices` for `words`.

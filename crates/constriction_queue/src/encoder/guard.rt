@@ -112,7 +112,8 @@ impl<Word: WordOf<State>, State: BitArray, A: Allocator> RangeEncoder<Word, Stat
         ensures room { OnErr result
             (TooShortForSeal (⟦<Vec<Word, A> as WriteWords<Word>>⟧.room) Word.BITS State.BITS self.old) }
         ensures* kept { sem 𝓛 (RestsIfErr (the_row Word.row State.row (vec_row Word.row A.row A.Allocator)
-            Word.NonZero.row State.NonZero.row Word.BitArray State.BitArray ⟦<Vec<Word, A> as Holds<Word, Stack>>⟧)
+            Word.NonZero.row State.NonZero.row Word.BitArray.own Word.Natural State.BitArray.own State.Natural
+            ⟦<Vec<Word, A> as Holds<Word, Stack>>⟧)
             self.entry (λ g. (lender g).ghost_name) result
             (λ after. HasHeads self.old after × (after.words ≡ self.old.words))) }
     {

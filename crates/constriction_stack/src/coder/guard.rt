@@ -195,7 +195,7 @@ where
             (ExportNotWritten Word.number Backend.Holds Backend.WriteWords.own Word.BITS self.old) }
         ensures* kept { sem 𝓛 (RestsIfErr
             (the_row Word.row State.row Backend.row Word.NonZero.row State.NonZero.row
-            Word.BitArray State.BitArray Backend.Holds)
+            Word.BitArray.own Word.Natural State.BitArray.own State.Natural Backend.Holds)
             self.entry (λ g. (lender g).ghost_name) result
             (λ after. IfErr result (λ e. ExportLeft Word.number Backend.Holds Backend.WriteWords.own Backend.reads
             Word.BITS self.old e after))) }
@@ -231,7 +231,7 @@ where
             BinaryExportNotWritten Word.number Backend.Holds Backend.WriteWords.own Word.BITS self.old e }
         ensures* kept { sem 𝓛 (RestsIfErr
             (the_row Word.row State.row Backend.row Word.NonZero.row State.NonZero.row
-            Word.BitArray State.BitArray Backend.Holds)
+            Word.BitArray.own Word.Natural State.BitArray.own State.Natural Backend.Holds)
             self.entry (λ g. (lender g).ghost_name) result
             (λ after. IfErr result (λ error. BinaryLeft Word.number Backend.Holds Backend.WriteWords.own Backend.reads
             Word.BITS self.old error after))) }

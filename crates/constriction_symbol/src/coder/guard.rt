@@ -160,8 +160,8 @@ impl<Word: BitArray, A: Allocator> StackCoder<Word, Vec<Word, A>> {
         ensures last { IfOk result (λ g. (lender g).now.last ≡ self.old.last) }
         ensures err { OnErr result (LacksEnd Word.BITS self.old) }
         ensures* kept { sem 𝓛 (RestsIfErr
-            (the_row Word.row order.the_row (vec_row Word.row A.row A.Allocator) Word.NonZero.row Word.BitArray
-            ⟦<Vec<Word, A> as Holds<Word, Stack>>⟧)
+            (the_row Word.row order.the_row (vec_row Word.row A.row A.Allocator) Word.NonZero.row
+            Word.BitArray.own Word.Natural ⟦<Vec<Word, A> as Holds<Word, Stack>>⟧)
             self.entry (λ g. (lender g).ghost_name) result (λ after. OnErr result (SameBits self.old after))) }
     {
         let count = self.put_end()?;
@@ -191,8 +191,8 @@ impl<Word: BitArray, A: Allocator> QueueEncoder<Word, Vec<Word, A>> {
         ensures last { IfOk result (λ g. (lender g).now.last ≡ self.old.last) }
         ensures err { OnErr result (LacksRest self.old) }
         ensures* kept { sem 𝓛 (RestsIfErr
-            (the_row Word.row order.the_row (vec_row Word.row A.row A.Allocator) Word.NonZero.row Word.BitArray
-            ⟦<Vec<Word, A> as Holds<Word, Stack>>⟧)
+            (the_row Word.row order.the_row (vec_row Word.row A.row A.Allocator) Word.NonZero.row
+            Word.BitArray.own Word.Natural ⟦<Vec<Word, A> as Holds<Word, Stack>>⟧)
             self.entry (λ g. (lender g).ghost_name) result (λ after. OnErr result (SameBits self.old after))) }
     {
         let count = self.put_rest()?;

@@ -1,4 +1,4 @@
-// Implements `BitArray` for `u128`. Its `quotient_by` is the default method, which divides.
+// Implements `Natural` and `BitArray` for `u128`. Its `quotient_by` is the default method, which divides.
 
 ghost use Rattle.std.specs.Prelude.{◌+◌, ◌-◌, ◌%◌, ◌^◌};
 ghost use Rattle.std.proofs.Common.{rules};
@@ -6,20 +6,17 @@ ghost use Rattle.std.specs.Int.NonZero.{non_zero_u128_get};
 ghost use Rattle.constriction_words.specs.Numbers.{above_zero, below_power};
 
 use super::BitArray;
+use crate::natural::Natural;
 use crate::reversing;
 use num_traits::{PrimInt, WrappingAdd, WrappingSub};
 use std::num::NonZero;
 
-impl BitArray for u128 {
+impl Natural for u128 {
     ghost BITS = { 128 };
 
     const BITS: u32 = u128::BITS;
 
     ghost number = { λ x. x % 2 ^ 128 };
-
-    type NonZero = NonZero<u128>;
-
-    ghost nonzero_number = { λ n. (non_zero_u128_get n - 1) % (2 ^ 128 - 1) + 1 };
 
     fn nothing() -> u128 {
         0
@@ -53,6 +50,28 @@ impl BitArray for u128 {
         self * other
     }
 
+    fn wrapping_plus(self, other: u128) -> u128 {
+        WrappingAdd::wrapping_add(&self, &other)
+    }
+
+    fn wrapping_minus(self, other: u128) -> u128 {
+        WrappingSub::wrapping_sub(&self, &other)
+    }
+
+    fn to_index(self) -> usize {
+        self as usize
+    }
+
+    ghost number_law = { below_power 128 };
+
+    ghost bits_law = { Prim.search rules };
+}
+
+impl BitArray for u128 {
+    type NonZero = NonZero<u128>;
+
+    ghost nonzero_number = { λ n. (non_zero_u128_get n - 1) % (2 ^ 128 - 1) + 1 };
+
     fn quotient(self, other: u128) -> u128 {
         self / other
     }
@@ -81,14 +100,6 @@ impl BitArray for u128 {
         u128::BITS - PrimInt::leading_zeros(self)
     }
 
-    fn wrapping_plus(self, other: u128) -> u128 {
-        WrappingAdd::wrapping_add(&self, &other)
-    }
-
-    fn wrapping_minus(self, other: u128) -> u128 {
-        WrappingSub::wrapping_sub(&self, &other)
-    }
-
     fn to_nonzero(self) -> Option<NonZero<u128>> {
         NonZero::<u128>::new(self)
     }
@@ -97,13 +108,5 @@ impl BitArray for u128 {
         nonzero.get()
     }
 
-    fn to_index(self) -> usize {
-        self as usize
-    }
-
-    ghost number_law = { below_power 128 };
-
     ghost nonzero_law = { λ n. above_zero ((non_zero_u128_get n - 1) % (2 ^ 128 - 1)) };
-
-    ghost bits_law = { Prim.search rules };
 }

@@ -1,4 +1,4 @@
-// Implements `BitArray` for `u16`, with the operations of the primitive type and of `num_traits`.
+// Implements `Natural` and `BitArray` for `u16`, with the operations of the primitive type and of `num_traits`.
 
 ghost use Rattle.std.specs.Prelude.{◌+◌, ◌-◌, ◌%◌, ◌^◌};
 ghost use Rattle.std.proofs.Common.{rules};
@@ -6,20 +6,17 @@ ghost use Rattle.std.specs.Int.NonZero.{non_zero_u16_get};
 ghost use Rattle.constriction_words.specs.Numbers.{above_zero, below_power};
 
 use super::BitArray;
+use crate::natural::Natural;
 use crate::reciprocal::Reciprocal;
 use num_traits::{PrimInt, WrappingAdd, WrappingSub};
 use std::num::NonZero;
 
-impl BitArray for u16 {
+impl Natural for u16 {
     ghost BITS = { 16 };
 
     const BITS: u32 = u16::BITS;
 
     ghost number = { λ x. x % 2 ^ 16 };
-
-    type NonZero = NonZero<u16>;
-
-    ghost nonzero_number = { λ n. (non_zero_u16_get n - 1) % (2 ^ 16 - 1) + 1 };
 
     fn nothing() -> u16 {
         0
@@ -53,6 +50,28 @@ impl BitArray for u16 {
         self * other
     }
 
+    fn wrapping_plus(self, other: u16) -> u16 {
+        WrappingAdd::wrapping_add(&self, &other)
+    }
+
+    fn wrapping_minus(self, other: u16) -> u16 {
+        WrappingSub::wrapping_sub(&self, &other)
+    }
+
+    fn to_index(self) -> usize {
+        self as usize
+    }
+
+    ghost number_law = { below_power 16 };
+
+    ghost bits_law = { Prim.search rules };
+}
+
+impl BitArray for u16 {
+    type NonZero = NonZero<u16>;
+
+    ghost nonzero_number = { λ n. (non_zero_u16_get n - 1) % (2 ^ 16 - 1) + 1 };
+
     fn quotient(self, other: u16) -> u16 {
         self / other
     }
@@ -85,14 +104,6 @@ impl BitArray for u16 {
         u16::BITS - PrimInt::leading_zeros(self)
     }
 
-    fn wrapping_plus(self, other: u16) -> u16 {
-        WrappingAdd::wrapping_add(&self, &other)
-    }
-
-    fn wrapping_minus(self, other: u16) -> u16 {
-        WrappingSub::wrapping_sub(&self, &other)
-    }
-
     fn to_nonzero(self) -> Option<NonZero<u16>> {
         NonZero::<u16>::new(self)
     }
@@ -101,13 +112,5 @@ impl BitArray for u16 {
         nonzero.get()
     }
 
-    fn to_index(self) -> usize {
-        self as usize
-    }
-
-    ghost number_law = { below_power 16 };
-
     ghost nonzero_law = { λ n. above_zero ((non_zero_u16_get n - 1) % (2 ^ 16 - 1)) };
-
-    ghost bits_law = { Prim.search rules };
 }

@@ -1,4 +1,4 @@
-// Implements `BitArray` for `u32`, with the operations of the primitive type and of `num_traits`.
+// Implements `Natural` and `BitArray` for `u32`, with the operations of the primitive type and of `num_traits`.
 
 ghost use Rattle.std.specs.Prelude.{◌+◌, ◌-◌, ◌%◌, ◌^◌};
 ghost use Rattle.std.proofs.Common.{rules};
@@ -6,20 +6,17 @@ ghost use Rattle.std.specs.Int.NonZero.{non_zero_u32_get};
 ghost use Rattle.constriction_words.specs.Numbers.{above_zero, below_power};
 
 use super::BitArray;
+use crate::natural::Natural;
 use crate::reciprocal::Reciprocal;
 use num_traits::{PrimInt, WrappingAdd, WrappingSub};
 use std::num::NonZero;
 
-impl BitArray for u32 {
+impl Natural for u32 {
     ghost BITS = { 32 };
 
     const BITS: u32 = u32::BITS;
 
     ghost number = { λ x. x % 2 ^ 32 };
-
-    type NonZero = NonZero<u32>;
-
-    ghost nonzero_number = { λ n. (non_zero_u32_get n - 1) % (2 ^ 32 - 1) + 1 };
 
     fn nothing() -> u32 {
         0
@@ -52,6 +49,28 @@ impl BitArray for u32 {
     fn times(self, other: u32) -> u32 {
         self * other
     }
+
+    fn wrapping_plus(self, other: u32) -> u32 {
+        WrappingAdd::wrapping_add(&self, &other)
+    }
+
+    fn wrapping_minus(self, other: u32) -> u32 {
+        WrappingSub::wrapping_sub(&self, &other)
+    }
+
+    fn to_index(self) -> usize {
+        self as usize
+    }
+
+    ghost number_law = { below_power 32 };
+
+    ghost bits_law = { Prim.search rules };
+}
+
+impl BitArray for u32 {
+    type NonZero = NonZero<u32>;
+
+    ghost nonzero_number = { λ n. (non_zero_u32_get n - 1) % (2 ^ 32 - 1) + 1 };
 
     fn quotient(self, other: u32) -> u32 {
         self / other
@@ -97,14 +116,6 @@ impl BitArray for u32 {
         u32::BITS - PrimInt::leading_zeros(self)
     }
 
-    fn wrapping_plus(self, other: u32) -> u32 {
-        WrappingAdd::wrapping_add(&self, &other)
-    }
-
-    fn wrapping_minus(self, other: u32) -> u32 {
-        WrappingSub::wrapping_sub(&self, &other)
-    }
-
     fn to_nonzero(self) -> Option<NonZero<u32>> {
         NonZero::<u32>::new(self)
     }
@@ -113,13 +124,5 @@ impl BitArray for u32 {
         nonzero.get()
     }
 
-    fn to_index(self) -> usize {
-        self as usize
-    }
-
-    ghost number_law = { below_power 32 };
-
     ghost nonzero_law = { λ n. above_zero ((non_zero_u32_get n - 1) % (2 ^ 32 - 1)) };
-
-    ghost bits_law = { Prim.search rules };
 }

@@ -1,4 +1,4 @@
-// Implements `BitArray` for `u64`, with the operations of the primitive type and of `num_traits`.
+// Implements `Natural` and `BitArray` for `u64`, with the operations of the primitive type and of `num_traits`.
 
 ghost use Rattle.std.specs.Prelude.{◌+◌, ◌-◌, ◌%◌, ◌^◌};
 ghost use Rattle.std.proofs.Common.{rules};
@@ -6,21 +6,18 @@ ghost use Rattle.std.specs.Int.NonZero.{non_zero_u64_get};
 ghost use Rattle.constriction_words.specs.Numbers.{above_zero, below_power};
 
 use super::BitArray;
+use crate::natural::Natural;
 use crate::reciprocal::Reciprocal;
 use crate::{division, reversing};
 use num_traits::{PrimInt, WrappingAdd, WrappingSub};
 use std::num::NonZero;
 
-impl BitArray for u64 {
+impl Natural for u64 {
     ghost BITS = { 64 };
 
     const BITS: u32 = u64::BITS;
 
     ghost number = { λ x. x % 2 ^ 64 };
-
-    type NonZero = NonZero<u64>;
-
-    ghost nonzero_number = { λ n. (non_zero_u64_get n - 1) % (2 ^ 64 - 1) + 1 };
 
     fn nothing() -> u64 {
         0
@@ -53,6 +50,28 @@ impl BitArray for u64 {
     fn times(self, other: u64) -> u64 {
         self * other
     }
+
+    fn wrapping_plus(self, other: u64) -> u64 {
+        WrappingAdd::wrapping_add(&self, &other)
+    }
+
+    fn wrapping_minus(self, other: u64) -> u64 {
+        WrappingSub::wrapping_sub(&self, &other)
+    }
+
+    fn to_index(self) -> usize {
+        self as usize
+    }
+
+    ghost number_law = { below_power 64 };
+
+    ghost bits_law = { Prim.search rules };
+}
+
+impl BitArray for u64 {
+    type NonZero = NonZero<u64>;
+
+    ghost nonzero_number = { λ n. (non_zero_u64_get n - 1) % (2 ^ 64 - 1) + 1 };
 
     fn quotient(self, other: u64) -> u64 {
         self / other
@@ -90,14 +109,6 @@ impl BitArray for u64 {
         u64::BITS - PrimInt::leading_zeros(self)
     }
 
-    fn wrapping_plus(self, other: u64) -> u64 {
-        WrappingAdd::wrapping_add(&self, &other)
-    }
-
-    fn wrapping_minus(self, other: u64) -> u64 {
-        WrappingSub::wrapping_sub(&self, &other)
-    }
-
     fn to_nonzero(self) -> Option<NonZero<u64>> {
         NonZero::<u64>::new(self)
     }
@@ -106,13 +117,5 @@ impl BitArray for u64 {
         nonzero.get()
     }
 
-    fn to_index(self) -> usize {
-        self as usize
-    }
-
-    ghost number_law = { below_power 64 };
-
     ghost nonzero_law = { λ n. above_zero ((non_zero_u64_get n - 1) % (2 ^ 64 - 1)) };
-
-    ghost bits_law = { Prim.search rules };
 }

@@ -1,4 +1,4 @@
-// Implements `BitArray` for `usize`, with the operations of the primitive type and of `num_traits`.
+// Implements `Natural` and `BitArray` for `usize`, with the operations of the primitive type and of `num_traits`.
 
 ghost use Rattle.std.specs.Prelude.{◌+◌, ◌-◌, ◌%◌, ◌^◌};
 ghost use Rattle.std.proofs.Common.{rules};
@@ -6,21 +6,18 @@ ghost use Rattle.std.specs.Int.NonZero.{non_zero_usize_get};
 ghost use Rattle.constriction_words.specs.Numbers.{above_zero, below_power};
 
 use super::BitArray;
+use crate::natural::Natural;
 use crate::reciprocal::Reciprocal;
 use crate::{division, reversing};
 use num_traits::{PrimInt, WrappingAdd, WrappingSub};
 use std::num::NonZero;
 
-impl BitArray for usize {
+impl Natural for usize {
     ghost BITS = { 64 };
 
     const BITS: u32 = usize::BITS;
 
     ghost number = { λ x. x % 2 ^ 64 };
-
-    type NonZero = NonZero<usize>;
-
-    ghost nonzero_number = { λ n. (non_zero_usize_get n - 1) % (2 ^ 64 - 1) + 1 };
 
     fn nothing() -> usize {
         0
@@ -53,6 +50,28 @@ impl BitArray for usize {
     fn times(self, other: usize) -> usize {
         self * other
     }
+
+    fn wrapping_plus(self, other: usize) -> usize {
+        WrappingAdd::wrapping_add(&self, &other)
+    }
+
+    fn wrapping_minus(self, other: usize) -> usize {
+        WrappingSub::wrapping_sub(&self, &other)
+    }
+
+    fn to_index(self) -> usize {
+        self
+    }
+
+    ghost number_law = { below_power 64 };
+
+    ghost bits_law = { Prim.search rules };
+}
+
+impl BitArray for usize {
+    type NonZero = NonZero<usize>;
+
+    ghost nonzero_number = { λ n. (non_zero_usize_get n - 1) % (2 ^ 64 - 1) + 1 };
 
     fn quotient(self, other: usize) -> usize {
         self / other
@@ -91,14 +110,6 @@ impl BitArray for usize {
         usize::BITS - PrimInt::leading_zeros(self)
     }
 
-    fn wrapping_plus(self, other: usize) -> usize {
-        WrappingAdd::wrapping_add(&self, &other)
-    }
-
-    fn wrapping_minus(self, other: usize) -> usize {
-        WrappingSub::wrapping_sub(&self, &other)
-    }
-
     fn to_nonzero(self) -> Option<NonZero<usize>> {
         NonZero::<usize>::new(self)
     }
@@ -107,13 +118,5 @@ impl BitArray for usize {
         nonzero.get()
     }
 
-    fn to_index(self) -> usize {
-        self
-    }
-
-    ghost number_law = { below_power 64 };
-
     ghost nonzero_law = { λ n. above_zero ((non_zero_usize_get n - 1) % (2 ^ 64 - 1)) };
-
-    ghost bits_law = { Prim.search rules };
 }

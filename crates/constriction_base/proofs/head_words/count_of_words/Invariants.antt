@@ -4,8 +4,8 @@ use Rattle.constriction_base.proofs.head_words.count_of_words.Given as goal
 
 abbrev pub invariant-words : goal.invariant-words
 invariant-words g l =
-    l.count + length (digits_of (2 ^ g.Word.BitArray.BITS) (g.State.BitArray.number l.rest))
-    ≡ length (digits_of (2 ^ g.Word.BitArray.BITS) (g.State.BitArray.number l.fn.head))
+    l.count + length (digits_of (2 ^ g.Word.Natural.BITS) (g.State.Natural.number l.rest))
+    ≡ length (digits_of (2 ^ g.Word.Natural.BITS) (g.State.Natural.number l.fn.head))
 
 abbrev pub decreases-words : goal.decreases-words
-decreases-words g l = g.State.BitArray.number l.rest
+decreases-words g l = g.State.Natural.number l.rest

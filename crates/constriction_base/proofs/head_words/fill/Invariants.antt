@@ -4,14 +4,14 @@ use Rattle.constriction_base.proofs.head_words.fill.Given as goal
 
 abbrev pub invariant-words : goal.invariant-words
 invariant-words g l =
-    let w = g.Word.BitArray.BITS in
-    let n = g.State.BitArray.number l.full in
+    let w = g.Word.Natural.BITS in
+    let n = g.State.Natural.number l.full in
     record {
       some : 0 < n;
-      below : g.State.BitArray.number l.fn.head < 2 ^ (l.bits + w) → n < 2 ^ (l.bits + w);
-      untouched : 2 ^ l.bits ≤ g.State.BitArray.number l.fn.head → (l.full ≡ l.fn.head) × (l.bulk ≡ l.initial.bulk);
-      moved : MovesIn g.Word.BitArray.number g.Backend.Holds g.Backend.ReadWords w (g.State.BitArray.number l.fn.head) l.initial.bulk n l.bulk;
+      below : g.State.Natural.number l.fn.head < 2 ^ (l.bits + w) → n < 2 ^ (l.bits + w);
+      untouched : 2 ^ l.bits ≤ g.State.Natural.number l.fn.head → (l.full ≡ l.fn.head) × (l.bulk ≡ l.initial.bulk);
+      moved : MovesIn g.Word.Natural.number g.Backend.Holds g.Backend.ReadWords w (g.State.Natural.number l.fn.head) l.initial.bulk n l.bulk;
     }
 
 abbrev pub decreases-words : goal.decreases-words
-decreases-words g l = 2 ^ g.State.BitArray.BITS - g.State.BitArray.number l.full
+decreases-words g l = 2 ^ g.State.Natural.BITS - g.State.Natural.number l.full

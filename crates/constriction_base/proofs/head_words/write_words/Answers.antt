@@ -21,8 +21,8 @@ words-init g c =
 
 pub words-preserved : goal.words-preserved
 words-preserved g c =
-    let w = g.Word.BitArray.BITS in
-    let rest = g.State.BitArray.number c.words.rest in
+    let w = g.Word.Natural.BITS in
+    let rest = g.State.Natural.number c.words.rest in
     record {
       within = omega (arith, c.words.invariant.within);
       written = rest % 2 ^ w ∷ c.words.invariant.written;
@@ -35,26 +35,26 @@ words-preserved g c =
 
 pub returns-in-Err-clause-written : goal.returns-in-Err-clause-written
 returns-in-Err-clause-written g c =
-    let b = 2 ^ g.Word.BitArray.BITS in
-    let len = fixed-length b c.args.count (g.State.BitArray.number c.args.head) in
+    let b = 2 ^ g.Word.Natural.BITS in
+    let len = fixed-length b c.args.count (g.State.Natural.number c.args.head) in
     let none = no_room _ (λ some. g.met.Backend.WriteWords.room_law c.words.bulk c.in-Err.refusal some c.in-Err.ensures.err) in
     record {
       words = tt;
       in_turn = tt;
       room_used = tt;
       begun = record {
-        later = fixed_digits b c.words.left (g.State.BitArray.number c.words.rest);
+        later = fixed_digits b c.words.left (g.State.Natural.number c.words.rest);
         written = c.words.invariant.written;
-        missing = omega (arith, fixed-length b c.words.left (g.State.BitArray.number c.words.rest));
+        missing = omega (arith, fixed-length b c.words.left (g.State.Natural.number c.words.rest));
         parts = sym c.words.invariant.digits;
-        is = ap (λ ws. map g.Word.BitArray.number ws) c.in-Err.ensures.kept ∙ c.words.invariant.holds;
+        is = ap (λ ws. map g.Word.Natural.number ws) c.in-Err.ensures.kept ∙ c.words.invariant.holds;
       };
       short = omega (arith, none, c.words.invariant.room, len);
       error = record {
-        later = fixed_digits b (c.words.left - 1) (g.State.BitArray.number c.words.rest / b);
+        later = fixed_digits b (c.words.left - 1) (g.State.Natural.number c.words.rest / b);
         word = c.narrow.result;
         written = c.words.invariant.written;
-        parts = rw c.narrow.ensures (sym (fixed_less b c.words.left (g.State.BitArray.number c.words.rest) c.words.invariant.written (omega arith) ∙ c.words.invariant.digits));
+        parts = rw c.narrow.ensures (sym (fixed_less b c.words.left (g.State.Natural.number c.words.rest) c.words.invariant.written (omega arith) ∙ c.words.invariant.digits));
         last = c.words.bulk;
         led = c.words.invariant.in_turn;
         refused = c.in-Err.ensures.writes;
@@ -65,12 +65,12 @@ returns-in-Err-clause-written g c =
 
 pub returns-clause-written : goal.returns-clause-written
 returns-clause-written g c =
-    let b = 2 ^ g.Word.BitArray.BITS in
-    let len = fixed-length b c.args.count (g.State.BitArray.number c.args.head) in
+    let b = 2 ^ g.Word.Natural.BITS in
+    let len = fixed-length b c.args.count (g.State.Natural.number c.args.head) in
     let none : c.words.left ≡ 0 = omega arith in
     record {
-      in_turn = subst (λ (ws : List ℕ). WriteTrace g.Word.BitArray.number g.Backend.WriteWords ws c.args.bulk.now c.words.bulk) (rw none at c.words.invariant.digits) c.words.invariant.in_turn;
-      words = c.words.invariant.holds ∙ ap (λ (ws : List ℕ). ws ++ map g.Word.BitArray.number (g.Backend.Holds.words c.args.bulk.now)) (rw none at c.words.invariant.digits);
+      in_turn = subst (λ (ws : List ℕ). WriteTrace g.Word.Natural.number g.Backend.WriteWords ws c.args.bulk.now c.words.bulk) (rw none at c.words.invariant.digits) c.words.invariant.in_turn;
+      words = c.words.invariant.holds ∙ ap (λ (ws : List ℕ). ws ++ map g.Word.Natural.number (g.Backend.Holds.words c.args.bulk.now)) (rw none at c.words.invariant.digits);
       room_used = omega (arith, c.words.invariant.room, len, none);
       begun = tt;
       short = tt;

@@ -12,18 +12,18 @@ regain-requires-clause-few g c = rw c.widen-p.ensures (omega (arith, c.requires.
 
 pub plus-quantile-requires : goal.plus-quantile-requires
 plus-quantile-requires g c =
-    let place = placed _ g.Word.BitArray.BITS _ _ (g.State.BitArray.number c.in-Ok-Some.v) c.requires.sized.within_word c.requires.some c.requires.total in
+    let place = placed _ g.Word.Natural.BITS _ _ (g.State.Natural.number c.in-Ok-Some.v) c.requires.sized.within_word c.requires.some c.requires.total in
     rw (c.narrow.ensures, c.div_rem-quotient.ensures.rest, c.widen-p.ensures, place.0) place.2
 
 pub give_quantile-requires-clause-below : goal.give_quantile-requires-clause-below
 give_quantile-requires-clause-below g c =
-    let place = placed _ g.Word.BitArray.BITS _ _ (g.State.BitArray.number c.in-Ok-Some.v) c.requires.sized.within_word c.requires.some c.requires.total in
+    let place = placed _ g.Word.Natural.BITS _ _ (g.State.Natural.number c.in-Ok-Some.v) c.requires.sized.within_word c.requires.some c.requires.total in
     rw (c.plus-quantile.ensures, c.narrow.ensures, c.div_rem-quotient.ensures.rest, c.widen-p.ensures, place.0) place.1
 
 pub returns-in-Err-clause-step : goal.returns-in-Err-clause-step
 returns-in-Err-clause-step g c =
-    let number = g.Word.BitArray.number in
-    let law = g.met.Word.BitArray.number_law in
+    let number = g.Word.Natural.number in
+    let law = g.met.Word.Natural.number_law in
     let parts = c.requires in
     let refused = c.in-Err.ensures.err in
     let words = ap (λ (ws : List _). map number ws) c.in-Err.ensures.words in
@@ -45,8 +45,8 @@ returns-in-Err-clause-step g c =
 
 pub returns-in-Ok-None-clause-step : goal.returns-in-Ok-None-clause-step
 returns-in-Ok-None-clause-step g c =
-    let number = g.Word.BitArray.number in
-    let law = g.met.Word.BitArray.number_law in
+    let number = g.Word.Natural.number in
+    let law = g.met.Word.Natural.number_law in
     let parts = c.requires in
     let refused = rw (c.in-Ok-None.field-0-is, c.widen-p.ensures) at c.in-Ok-None.ensures.none in
     let words = ap (λ (ws : List _). map number ws) c.prepare_for_quantile.ensures.words in
@@ -73,8 +73,8 @@ returns-in-Ok-None-clause-step g c =
 
 pub returns-in-Err-regain-clause-step : goal.returns-in-Err-regain-clause-step
 returns-in-Err-regain-clause-step g c =
-    let number = g.Word.BitArray.number in
-    let law = g.met.Word.BitArray.number_law in
+    let number = g.Word.Natural.number in
+    let law = g.met.Word.Natural.number_law in
     let parts = c.requires in
     let refused = rw (c.widen-p.ensures) at c.in-Err-regain.ensures.err in
     let words = ap (λ (ws : List _). map number ws) c.prepare_for_quantile.ensures.words in
@@ -101,11 +101,11 @@ returns-in-Err-regain-clause-step g c =
 
 pub returns-in-Ok-clause-step : goal.returns-in-Ok-clause-step
 returns-in-Ok-clause-step g c =
-    let number = g.Word.BitArray.number in
-    let law = g.met.Word.BitArray.number_law in
+    let number = g.Word.Natural.number in
+    let law = g.met.Word.Natural.number_law in
     let parts = c.requires in
-    let v = g.State.BitArray.number c.in-Ok-Some.v in
-    let place = placed _ g.Word.BitArray.BITS _ _ v parts.sized.within_word c.requires.some c.requires.total in
+    let v = g.State.Natural.number c.in-Ok-Some.v in
+    let place = placed _ g.Word.Natural.BITS _ _ v parts.sized.within_word c.requires.some c.requires.total in
     let quantile = rw (c.narrow.ensures, c.div_rem-quotient.ensures.rest, c.widen-p.ensures, place.0) at c.plus-quantile.ensures in
     let quotient = rw c.widen-p.ensures at c.div_rem-quotient.ensures.quotient in
     let found = rw c.in-Ok-Some.field-0-is at c.in-Ok-Some.ensures.ok in
@@ -114,7 +114,7 @@ returns-in-Ok-clause-step g c =
     let walk = rw (c.prepare_for_quantile.ensures.words, quantile) at given.walk in
     let used = rw c.prepare_for_quantile.ensures.words at given.room_used in
     let asked = c.in_default.ensures.ok in
-    let window : IsInWindow g.Word.BitArray.BITS (least g.Word.BitArray.BITS g.State.BitArray.BITS c.args.precision) (g.State.BitArray.number c.div_rem-quotient.result.0) = rw quotient within in
+    let window : IsInWindow g.Word.Natural.BITS (least g.Word.Natural.BITS g.State.Natural.BITS c.args.precision) (g.State.Natural.number c.div_rem-quotient.result.0) = rw quotient within in
     let after = coder_of _ _ _ number law g.C.Holds g.R.Holds _ _ c.give_quantile.new.compressed c.regain.new.remainders parts.sized c.in-Ok.ensures.some (law _) window in
     record {
       ok = record {
@@ -135,8 +135,8 @@ returns-in-Ok-clause-step g c =
 
 pub returns-in-Err-give_quantile-clause-step : goal.returns-in-Err-give_quantile-clause-step
 returns-in-Err-give_quantile-clause-step g c =
-    let number = g.Word.BitArray.number in
-    let law = g.met.Word.BitArray.number_law in
+    let number = g.Word.Natural.number in
+    let law = g.met.Word.Natural.number_law in
     let parts = c.requires in
     let found = rw c.in-Ok-Some.field-0-is at c.in-Ok-Some.ensures.ok in
     let by = rw c.widen-p.ensures at found.by in

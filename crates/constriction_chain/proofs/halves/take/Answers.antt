@@ -4,8 +4,8 @@ use Rattle.constriction_chain.proofs.halves.take.Goals as goal
 
 pub returns-clause-step : goal.returns-clause-step
 returns-clause-step g c =
-    let number = g.Word.BitArray.number in
-    let law = g.met.Word.BitArray.number_law in
+    let number = g.Word.Natural.number in
+    let law = g.met.Word.Natural.number_law in
     let parts = c.requires in
     let before = coder_of _ _ _ number law g.C.Holds g.R.Holds _ _ c.args.compressed.now c.args.remainders.now parts.sized parts.head (law _) parts.window in
     let after = coder_of _ _ _ number law g.C.Holds g.R.Holds _ _ c.take_quantile.new.compressed c.take_quantile.new.remainders parts.sized parts.head (law _) parts.window in

@@ -7,7 +7,7 @@ use Rattle.constriction_inputs.proofs.known.all_known_in_rows.Goals as goal
 
 pub returns-then-not-is_known : goal.returns-then-not-is_known
 returns-then-not-is_known g c =
-    let number = g.P.BitArray.number in
+    let number = g.P.Natural.number in
     let l = c.loop-i in
     let xs = g.S.Symbol.numbers c.args.symbols.now in
     let within : l.i < length xs = omega (arith, c.loop-i-test.true, g.S.Symbol.count_law c.args.symbols.now) in
@@ -17,7 +17,7 @@ returns-then-not-is_known g c =
 
 pub loop-i-preserved : goal.loop-i-preserved
 loop-i-preserved g c =
-    let number = g.P.BitArray.number in
+    let number = g.P.Natural.number in
     let l = c.loop-i in
     let all = map number c.args.weights.now in
     let given = c.args.symbols.now in

@@ -6,7 +6,7 @@ use Rattle.constriction_inputs.proofs.known.all_known_in_rows.Given as goal
 abbrev pub invariant-loop-i : goal.invariant-loop-i
 invariant-loop-i g l =
     let items = row_items g.row.PRECISION l.width in
-    let all = map g.P.BitArray.number l.weights in
+    let all = map g.P.Natural.number l.weights in
     let xs = g.S.Symbol.numbers l.symbols in
     record {
       rest : l.start + l.width * (length l.symbols - l.i) ≡ length l.weights;

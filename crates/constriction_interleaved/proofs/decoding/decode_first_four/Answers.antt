@@ -33,7 +33,7 @@ returns-clause-decoded g c =
     let heads : 4 ≤ length c.args.heads.now = omega (arith, c.if-heads-lt4.false) in
     let lens : 4 ≤ length c.args.lens.now = omega (arith, heads, c.requires.lens) in
     let symbols = four_within (length c.args.heads.now) c.args.count (length c.args.symbols.now) heads c.requires.symbols in
-    first_lanes g.Word.BitArray.number g.State.BitArray.number g.Word.BitArray.BITS g.State.BitArray.BITS model c.args.width c.args.count c.args.words.now c.args.heads.now c.args.lens.now
+    first_lanes g.Word.Natural.number g.State.Natural.number g.Word.Natural.BITS g.State.Natural.BITS model c.args.width c.args.count c.args.words.now c.args.heads.now c.args.lens.now
     4 call.new.heads _ call.new.lens _ call.new.symbols _
     (omega (arith, call.auto.heads, length-take-le 4 c.args.heads.now heads)) (omega (arith, call.auto.lens, length-take-le 4 c.args.lens.now lens))
     (omega (arith, call.auto.symbols, length-take-le (4 * c.args.count) c.args.symbols.now symbols)) call.ensures.decoded

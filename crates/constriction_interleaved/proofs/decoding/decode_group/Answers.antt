@@ -25,7 +25,7 @@ returns g c =
     let middle = c.split_at_mut-second.ensures.front_len in
     let end = c.split_at_mut-second.ensures.back_len in
     record {
-      decoded = three_lanes g.Word.BitArray.number g.State.BitArray.number g.Word.BitArray.BITS g.State.BitArray.BITS model c.args.width c.args.count c.args.words.now c.args.heads.now c.args.lens.now
+      decoded = three_lanes g.Word.Natural.number g.State.Natural.number g.Word.Natural.BITS g.State.Natural.BITS model c.args.width c.args.count c.args.words.now c.args.heads.now c.args.lens.now
           t.result.0 t.result.2 t.result.4 t.result.1 t.result.3 t.result.5 t.new.symbols_a t.new.symbols_b t.new.symbols_c c.index-heads-0.result c.index-heads-1.result c.index-heads-2.result _ _ _
           c.requires.heads c.requires.lens (omega (arith, t.auto.symbols_a, front)) (omega (arith, t.auto.symbols_b, middle)) (omega (arith, t.auto.symbols_c, end, back, c.requires.symbols))
           c.index-heads-0.is c.index-heads-1.is c.index-heads-2.is (first_row c.args.words.now c.args.width) (second_row c.args.words.now c.args.width) (third_row c.args.words.now c.args.width c.requires.words) t.ensures.first t.ensures.second t.ensures.third;

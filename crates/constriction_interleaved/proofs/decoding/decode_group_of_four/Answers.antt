@@ -16,7 +16,7 @@ returns g c =
     let third = c.split_at_mut-third.ensures.front_len in
     let end = c.split_at_mut-third.ensures.back_len in
     record {
-      decoded = four_lanes g.Word.BitArray.number g.State.BitArray.number g.Word.BitArray.BITS g.State.BitArray.BITS model width c.args.count words c.args.heads.now c.args.lens.now
+      decoded = four_lanes g.Word.Natural.number g.State.Natural.number g.Word.Natural.BITS g.State.Natural.BITS model width c.args.count words c.args.heads.now c.args.lens.now
           t.result.0 t.result.2 t.result.4 t.result.6 t.result.1 t.result.3 t.result.5 t.result.7 t.new.symbols_a t.new.symbols_b t.new.symbols_c t.new.symbols_d
           c.index-heads-0.result c.index-heads-1.result c.index-heads-2.result c.index-heads-3.result _ _ _ _ (omega (arith, c.requires.heads)) (omega (arith, c.requires.lens))
           (omega (arith, t.auto.symbols_a, front)) (omega (arith, t.auto.symbols_b, second)) (omega (arith, t.auto.symbols_c, third)) (omega (arith, t.auto.symbols_d, end, others, back, c.requires.symbols))

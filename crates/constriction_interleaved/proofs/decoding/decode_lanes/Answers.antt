@@ -81,7 +81,7 @@ threes-preserved g c =
     let decoded : length call.new.symbols ≡ 3 * count = omega (arith, call.auto.symbols, part_long l.symbols (j * count) (3 * count) in_symbols) in
     let next : first + (l.group + 1) * 3 ≡ j + 3 = omega arith in
     rw next (record {
-      done = lanes_more g.Word.BitArray.number g.State.BitArray.number g.Word.BitArray.BITS g.State.BitArray.BITS model width count c.args.words.now c.args.heads.now c.args.lens.now
+      done = lanes_more g.Word.Natural.number g.State.Natural.number g.Word.Natural.BITS g.State.Natural.BITS model width count c.args.words.now c.args.heads.now c.args.lens.now
           l.heads l.lens l.symbols j 3 call.new.heads _ call.new.lens _ call.new.symbols _ l.invariant.heads_left l.invariant.lens_left
           (omega arith) (omega arith) (omega arith) heads lens decoded (rw (row, one) at call.ensures.decoded) l.invariant.done;
       heads_left = left_behind j 3 l.heads c.args.heads.now call.new.heads in_heads heads l.invariant.heads_left;
@@ -117,7 +117,7 @@ rest-preserved g c =
     let call = c.decode_one-head in
     let long = part_long l.symbols (l.j * c.args.count) c.args.count within in
     record {
-      done = lane_more g.Word.BitArray.number g.State.BitArray.number g.Word.BitArray.BITS g.State.BitArray.BITS model c.args.width c.args.count c.args.words.now c.args.heads.now c.args.lens.now
+      done = lane_more g.Word.Natural.number g.State.Natural.number g.Word.Natural.BITS g.State.Natural.BITS model c.args.width c.args.count c.args.words.now c.args.heads.now c.args.lens.now
           l.heads l.lens l.symbols l.j call.result.0 call.result.1 c.index-heads-j.result call.new.symbols _ l.invariant.heads_left l.invariant.lens_left
           (omega (arith, lt, l.invariant.heads_count)) (omega (arith, lt, l.invariant.lens_count, c.requires.lens)) (omega (arith, within)) (omega (arith, call.auto.symbols, long)) c.index-heads-j.is
           (rw e at call.ensures.decoded, call.ensures.rest) l.invariant.done;

@@ -4,7 +4,7 @@ use Rattle.constriction_interleaved.proofs.decoding.decode_lanes.Given as goal
 
 abbrev pub invariant-threes : goal.invariant-threes
 invariant-threes g l = record {
-  done : DecodesLanes g.Word.BitArray.number g.State.BitArray.number g.Word.BitArray.BITS g.State.BitArray.BITS (record { precision = g.row.PRECISION; table = g.M.EntropyModel.table l.model }) l.width l.count l.words
+  done : DecodesLanes g.Word.Natural.number g.State.Natural.number g.Word.Natural.BITS g.State.Natural.BITS (record { precision = g.row.PRECISION; table = g.M.EntropyModel.table l.model }) l.width l.count l.words
       l.fn.heads l.fn.lens l.heads l.lens l.symbols (l.first + l.group * 3);
   heads_left : drop (l.first + l.group * 3) l.heads ≡ drop (l.first + l.group * 3) l.fn.heads;
   lens_left : drop (l.first + l.group * 3) l.lens ≡ drop (l.first + l.group * 3) l.fn.lens;
@@ -15,7 +15,7 @@ invariant-threes g l = record {
 
 abbrev pub invariant-rest : goal.invariant-rest
 invariant-rest g l = record {
-  done : DecodesLanes g.Word.BitArray.number g.State.BitArray.number g.Word.BitArray.BITS g.State.BitArray.BITS (record { precision = g.row.PRECISION; table = g.M.EntropyModel.table l.model }) l.width l.count l.words
+  done : DecodesLanes g.Word.Natural.number g.State.Natural.number g.Word.Natural.BITS g.State.Natural.BITS (record { precision = g.row.PRECISION; table = g.M.EntropyModel.table l.model }) l.width l.count l.words
       l.fn.heads l.fn.lens l.heads l.lens l.symbols (l.j);
   heads_left : drop (l.j) l.heads ≡ drop (l.j) l.fn.heads;
   lens_left : drop (l.j) l.lens ≡ drop (l.j) l.fn.lens;

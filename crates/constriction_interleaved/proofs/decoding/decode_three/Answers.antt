@@ -9,13 +9,13 @@ loop-place-preserved g c =
     let l = c.loop-place in
     let model : Model ℕ = record { precision = g.row.PRECISION; table = g.M.EntropyModel.table c.args.model.now } in
     record {
-      decoded_a = one_more g.Word.BitArray.BITS g.State.BitArray.BITS model l.symbols_a l.place c.decode_from-symbol_a.result.0 _ _ _ (omega (arith, c.loop-place-test.true, l.invariant.count_a)) l.invariant.decoded_a c.decode_from-symbol_a.ensures.decoded;
+      decoded_a = one_more g.Word.Natural.BITS g.State.Natural.BITS model l.symbols_a l.place c.decode_from-symbol_a.result.0 _ _ _ (omega (arith, c.loop-place-test.true, l.invariant.count_a)) l.invariant.decoded_a c.decode_from-symbol_a.ensures.decoded;
       left_a = omega (arith, c.decode_from-symbol_a.ensures.rest, l.invariant.left_a);
       count_a = length-set l.symbols_a l.place c.decode_from-symbol_a.result.0 ∙ l.invariant.count_a;
-      decoded_b = one_more g.Word.BitArray.BITS g.State.BitArray.BITS model l.symbols_b l.place c.decode_from-symbol_b.result.0 _ _ _ (omega (arith, c.loop-place-test.true, l.invariant.count_b, l.invariant.count_a, c.requires.count.0)) l.invariant.decoded_b c.decode_from-symbol_b.ensures.decoded;
+      decoded_b = one_more g.Word.Natural.BITS g.State.Natural.BITS model l.symbols_b l.place c.decode_from-symbol_b.result.0 _ _ _ (omega (arith, c.loop-place-test.true, l.invariant.count_b, l.invariant.count_a, c.requires.count.0)) l.invariant.decoded_b c.decode_from-symbol_b.ensures.decoded;
       left_b = omega (arith, c.decode_from-symbol_b.ensures.rest, l.invariant.left_b);
       count_b = length-set l.symbols_b l.place c.decode_from-symbol_b.result.0 ∙ l.invariant.count_b;
-      decoded_c = one_more g.Word.BitArray.BITS g.State.BitArray.BITS model l.symbols_c l.place c.decode_from-symbol_c.result.0 _ _ _ (omega (arith, c.loop-place-test.true, l.invariant.count_c, l.invariant.count_a, c.requires.count.1)) l.invariant.decoded_c c.decode_from-symbol_c.ensures.decoded;
+      decoded_c = one_more g.Word.Natural.BITS g.State.Natural.BITS model l.symbols_c l.place c.decode_from-symbol_c.result.0 _ _ _ (omega (arith, c.loop-place-test.true, l.invariant.count_c, l.invariant.count_a, c.requires.count.1)) l.invariant.decoded_c c.decode_from-symbol_c.ensures.decoded;
       left_c = omega (arith, c.decode_from-symbol_c.ensures.rest, l.invariant.left_c);
       count_c = length-set l.symbols_c l.place c.decode_from-symbol_c.result.0 ∙ l.invariant.count_c;
     }

@@ -6,16 +6,16 @@ use Rattle.constriction_interleaved.proofs.decoding.decode_three.Given as goal
 
 abbrev pub invariant-loop-place : goal.invariant-loop-place
 invariant-loop-place g l = record {
-  decoded_a : DecodesAll g.Word.BitArray.BITS g.State.BitArray.BITS (items_of (record { precision = g.row.PRECISION; table = g.M.EntropyModel.table l.model }) (take l.place l.symbols_a))
-      (lane g.Word.BitArray.number g.State.BitArray.number l.fn.head_a l.words_a l.fn.len_a) (lane g.Word.BitArray.number g.State.BitArray.number l.x_a l.words_a l.left_a);
+  decoded_a : DecodesAll g.Word.Natural.BITS g.State.Natural.BITS (items_of (record { precision = g.row.PRECISION; table = g.M.EntropyModel.table l.model }) (take l.place l.symbols_a))
+      (lane g.Word.Natural.number g.State.Natural.number l.fn.head_a l.words_a l.fn.len_a) (lane g.Word.Natural.number g.State.Natural.number l.x_a l.words_a l.left_a);
   left_a : l.left_a ≤ l.fn.len_a;
   count_a : length l.symbols_a ≡ length l.fn.symbols_a;
-  decoded_b : DecodesAll g.Word.BitArray.BITS g.State.BitArray.BITS (items_of (record { precision = g.row.PRECISION; table = g.M.EntropyModel.table l.model }) (take l.place l.symbols_b))
-      (lane g.Word.BitArray.number g.State.BitArray.number l.fn.head_b l.words_b l.fn.len_b) (lane g.Word.BitArray.number g.State.BitArray.number l.x_b l.words_b l.left_b);
+  decoded_b : DecodesAll g.Word.Natural.BITS g.State.Natural.BITS (items_of (record { precision = g.row.PRECISION; table = g.M.EntropyModel.table l.model }) (take l.place l.symbols_b))
+      (lane g.Word.Natural.number g.State.Natural.number l.fn.head_b l.words_b l.fn.len_b) (lane g.Word.Natural.number g.State.Natural.number l.x_b l.words_b l.left_b);
   left_b : l.left_b ≤ l.fn.len_b;
   count_b : length l.symbols_b ≡ length l.fn.symbols_b;
-  decoded_c : DecodesAll g.Word.BitArray.BITS g.State.BitArray.BITS (items_of (record { precision = g.row.PRECISION; table = g.M.EntropyModel.table l.model }) (take l.place l.symbols_c))
-      (lane g.Word.BitArray.number g.State.BitArray.number l.fn.head_c l.words_c l.fn.len_c) (lane g.Word.BitArray.number g.State.BitArray.number l.x_c l.words_c l.left_c);
+  decoded_c : DecodesAll g.Word.Natural.BITS g.State.Natural.BITS (items_of (record { precision = g.row.PRECISION; table = g.M.EntropyModel.table l.model }) (take l.place l.symbols_c))
+      (lane g.Word.Natural.number g.State.Natural.number l.fn.head_c l.words_c l.fn.len_c) (lane g.Word.Natural.number g.State.Natural.number l.x_c l.words_c l.left_c);
   left_c : l.left_c ≤ l.fn.len_c;
   count_c : length l.symbols_c ≡ length l.fn.symbols_c;
 }

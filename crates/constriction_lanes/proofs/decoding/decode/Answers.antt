@@ -18,7 +18,7 @@ returns g c =
     let is : items P (coded news) ≡ pairs P news tables = c.in-Some-decoder_list.ensures.items news long in
     let decoded = rw (found.1, found.2) at call.ensures.decoded in
     record {
-      call = lanes_decoded g.Word.BitArray.number g.State.BitArray.number g.Word.BitArray.BITS g.State.BitArray.BITS P coded c.args.heads.now call.new.heads c.args.words.now c.args.lens.now call.new.lens olds news
+      call = lanes_decoded g.Word.Natural.number g.State.Natural.number g.Word.Natural.BITS g.State.Natural.BITS P coded c.args.heads.now call.new.heads c.args.words.now c.args.lens.now call.new.lens olds news
           found.0 (fit_ok P (coded olds) (c.in_ok-check.ensures olds refl)) (fit_ok P (coded news) (c.in_ok-check.ensures news long)) call.auto.heads call.auto.lens long
           (λ j lt d. rw (is, pairs_row P _ j news tables) (decoded j lt d));
     }

@@ -24,7 +24,7 @@ loop-place-preserved g c =
     let room : length before < length left = omega (arith, length-drop c.args.first tables, within, l.invariant.count, c.requires.count) in
     record {
       decoded = rw (take_more_set l.symbols l.place x within, pairs_next P own before left x table room (rw long at))
-          (Trace-more (λ item. Decodes g.Word.BitArray.BITS g.State.BitArray.BITS item.model item.symbol) (pairs_of P own before left) (item_of (record { precision = P; table = table }) x)
+          (Trace-more (λ item. Decodes g.Word.Natural.BITS g.State.Natural.BITS item.model item.symbol) (pairs_of P own before left) (item_of (record { precision = P; table = table }) x)
           _ l.coder.state c.decode_next.new.coder.state l.invariant.decoded c.decode_next.ensures.decoded);
       buffer = c.decode_next.ensures.buffer ∙ l.invariant.buffer;
       count = length-set l.symbols l.place x ∙ l.invariant.count;
@@ -36,15 +36,15 @@ returns-clause-decoded g c =
     let l = c.loop-place in
     let xs : take l.place l.symbols ≡ l.symbols = take_all l.place l.symbols (omega (arith, c.loop-place-test.false, l.invariant.count)) in
     let words = c.args.words.now in
-    let number = g.Word.BitArray.number in
+    let number = g.Word.Natural.number in
     let first : c.new_at_write_end.result.buf.now ≡ take c.args.len words = rw c.new_at_write_end.ensures refl in
     let end : c.new_at_write_end.result.pos ≡ length (take c.args.len words) = rw c.new_at_write_end.ensures refl in
     let long : length (take c.args.len words) ≡ c.args.len = length-take-le c.args.len words c.requires.within in
     let from = c.from_raw_parts-coder.ensures.state
-    ∙ lent_state number (g.State.BitArray.number c.args.head) c.new_at_write_end.result.pos c.args.len c.args.len c.new_at_write_end.result.buf.now words first (rw (first, end) (omega arith)) (sym (end ∙ long)) in
+    ∙ lent_state number (g.State.Natural.number c.args.head) c.new_at_write_end.result.pos c.args.len c.args.len c.new_at_write_end.result.buf.now words first (rw (first, end) (omega arith)) (sym (end ∙ long)) in
     let last : c.into_raw_parts-cursor.result.0.buf.now ≡ take c.args.len words =
     rw (c.into_raw_parts-cursor.ensures.backend, l.invariant.buffer, c.from_raw_parts-coder.ensures.backend) first in
     let to = c.into_raw_parts-cursor.ensures.state
-    ∙ lent_state number (g.State.BitArray.number c.into_raw_parts-cursor.result.1) c.into_raw_parts-cursor.result.0.pos c.into_buf_and_pos-left.result.1 c.args.len c.into_raw_parts-cursor.result.0.buf.now words last
+    ∙ lent_state number (g.State.Natural.number c.into_raw_parts-cursor.result.1) c.into_raw_parts-cursor.result.0.pos c.into_buf_and_pos-left.result.1 c.args.len c.into_raw_parts-cursor.result.0.buf.now words last
     c.into_buf_and_pos-left.ensures.within c.into_buf_and_pos-left.ensures.pos in
     rw (sym from, sym to) (rw xs at l.invariant.decoded)

@@ -5,7 +5,7 @@ use Rattle.constriction_lanes.proofs.decoding.decode_row.Given as goal
 
 abbrev pub invariant-loop-place : goal.invariant-loop-place
 invariant-loop-place g l = record {
-  decoded : DecodesAll g.Word.BitArray.BITS g.State.BitArray.BITS (pairs_of g.row.PRECISION (λ table. table) (take l.place l.symbols) (drop l.first (g.L.DecoderModelList.tables l.fn.models)))
+  decoded : DecodesAll g.Word.Natural.BITS g.State.Natural.BITS (pairs_of g.row.PRECISION (λ table. table) (take l.place l.symbols) (drop l.first (g.L.DecoderModelList.tables l.fn.models)))
       l.initial.coder.state l.coder.state;
   buffer : l.coder.backend.buf.now ≡ l.initial.coder.backend.buf.now;
   count : length l.symbols ≡ length l.fn.symbols;

@@ -20,10 +20,10 @@ decode_row-head-requires-clause-within g c =
 pub rows-preserved : goal.rows-preserved
 rows-preserved g c =
     let l = c.rows in
-    let w = g.Word.BitArray.BITS in
-    let s = g.State.BitArray.BITS in
-    let number = g.Word.BitArray.number in
-    let state = g.State.BitArray.number in
+    let w = g.Word.Natural.BITS in
+    let s = g.State.Natural.BITS in
+    let number = g.Word.Natural.number in
+    let state = g.State.Natural.number in
     let width = c.args.width in
     let count = c.args.count in
     let tables = g.L.DecoderModelList.tables c.args.models.now in

@@ -4,7 +4,7 @@ use Rattle.constriction_lanes.proofs.decoding.decode_rows.Given as goal
 
 abbrev pub invariant-rows : goal.invariant-rows
 invariant-rows g l = record {
-  done : DecodesRows g.Word.BitArray.number g.State.BitArray.number g.Word.BitArray.BITS g.State.BitArray.BITS g.row.PRECISION (g.L.DecoderModelList.tables l.fn.models) l.width l.count l.words
+  done : DecodesRows g.Word.Natural.number g.State.Natural.number g.Word.Natural.BITS g.State.Natural.BITS g.row.PRECISION (g.L.DecoderModelList.tables l.fn.models) l.width l.count l.words
       l.fn.heads l.fn.lens l.heads l.lens l.symbols l.j;
   heads_left : drop l.j l.heads ≡ drop l.j l.fn.heads;
   lens_left : drop l.j l.lens ≡ drop l.j l.fn.lens;

@@ -17,7 +17,7 @@ items-init g c =
       within = omega arith;
       room = omega arith;
       long = refl;
-      valid = record { state = record { fits = g.met.State.BitArray.number_law c.args.head; are_words = tt }; full = inr refl };
+      valid = record { state = record { fits = g.met.State.Natural.number_law c.args.head; are_words = tt }; full = inr refl };
       models = rw end tt;
       coded = rw end refl;
     }
@@ -28,11 +28,11 @@ encode_interval-next-requires-clause-step g c =
     let count = length c.args.row.now in
     let kept = c.items.invariant in
     let at = at_row all c.args.first count c.items.rest _ c.items-test.true kept.within (rw kept.same at c.in_ok-found.ensures.found) in
-    is_step g.Word.BitArray.BITS g.row.PRECISION g.P.BitArray.BITS g.met.P.WordOf.width_law (take count (drop c.args.first all)) c.items.rest c.items-test.true _ _ at
+    is_step g.Word.Natural.BITS g.row.PRECISION g.P.Natural.BITS g.met.P.WordOf.width_law (take count (drop c.args.first all)) c.items.rest c.items-test.true _ _ at
 
 pub items-preserved : goal.items-preserved
 items-preserved g c =
-    let w = g.Word.BitArray.BITS in
+    let w = g.Word.Natural.BITS in
     let all = g.L.ItemList.list_items c.args.list.now in
     let count = length c.args.row.now in
     let items = take count (drop c.args.first all) in
@@ -46,8 +46,8 @@ items-preserved g c =
       room = omega (arith, kept.room, call.ensures.more.1, c.items-test.true);
       long = call.auto.words ∙ kept.long;
       valid = pushed.valid;
-      models = models_more w g.row.PRECISION g.P.BitArray.BITS g.met.P.WordOf.width_law items c.items.rest c.items-test.true _ _ at kept.models;
-      coded = codes_more w g.State.BitArray.BITS g.row.PRECISION g.P.BitArray.BITS items c.items.rest c.items-test.true _ _ at _ _ _ kept.coded pushed;
+      models = models_more w g.row.PRECISION g.P.Natural.BITS g.met.P.WordOf.width_law items c.items.rest c.items-test.true _ _ at kept.models;
+      coded = codes_more w g.State.Natural.BITS g.row.PRECISION g.P.Natural.BITS items c.items.rest c.items-test.true _ _ at _ _ _ kept.coded pushed;
     }
 
 pub returns-clause-coded : goal.returns-clause-coded

@@ -41,7 +41,7 @@ rows-preserved g c =
     let coded = rw (long, l.invariant.same) at c.in-Some.ensures.coded in
     record {
       done = each_more count l.heads l.lens l.words l.j c.in-Some.made.0 c.in-Some.made.1 call.new.row _
-          (λ j d head len new. CodesRow g.Word.BitArray.number g.State.BitArray.number g.Word.BitArray.BITS g.State.BitArray.BITS (row count j all) (get_or heads j d) head new len)
+          (λ j d head len new. CodesRow g.Word.Natural.number g.State.Natural.number g.Word.Natural.BITS g.State.Natural.BITS (row count j all) (get_or heads j d) head new len)
           here (omega (arith, lt, l.invariant.lens_count, c.requires.lens)) (omega (arith, within)) (omega (arith, call.auto.row, long))
           (λ d. rw (sym (get_or_read l.heads l.j c.index-heads-j.result here c.index-heads-j.is d ∙ same_here l.j l.heads heads d l.invariant.heads_left)) coded) l.invariant.done;
       heads_left = left_more l.j l.heads heads c.in-Some.made.0 l.invariant.heads_left;

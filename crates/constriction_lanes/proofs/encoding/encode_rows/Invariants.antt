@@ -4,7 +4,7 @@ use Rattle.constriction_lanes.proofs.encoding.encode_rows.Given as goal
 
 abbrev pub invariant-rows : goal.invariant-rows
 invariant-rows g l = record {
-  done : CodesRows g.Word.BitArray.number g.State.BitArray.number g.Word.BitArray.BITS g.State.BitArray.BITS (g.L.ItemList.list_items l.fn.list) l.count l.fn.heads l.heads l.words l.lens l.j;
+  done : CodesRows g.Word.Natural.number g.State.Natural.number g.Word.Natural.BITS g.State.Natural.BITS (g.L.ItemList.list_items l.fn.list) l.count l.fn.heads l.heads l.words l.lens l.j;
   heads_left : drop l.j l.heads ≡ drop l.j l.fn.heads;
   heads_count : length l.heads ≡ length l.fn.heads;
   words_count : length l.words ≡ length l.fn.words;

@@ -4,6 +4,6 @@ use Rattle.constriction_models.proofs.cumulative.checked_sum_of.Given as goal
 
 abbrev pub invariant-loop-count : goal.invariant-loop-count
 invariant-loop-count g l = record {
-  total : l.total ≡ sum_by g.C.BitArray.number (take l.count-index l.counts);
+  total : l.total ≡ sum_by g.C.Natural.number (take l.count-index l.counts);
   fits : l.total < 1099511627776;
 }

@@ -6,7 +6,7 @@ use Rattle.constriction_models.proofs.cumulative.sums_of.Goals as goal
 
 pub loop-count-preserved : goal.loop-count-preserved
 loop-count-preserved g c =
-    let number = g.C.BitArray.number in
+    let number = g.C.Natural.number in
     let counts = c.args.counts.now in
     let i = c.loop-count.invariant in
     let more = sum_by_more number counts c.loop-count.count-index c.count-item.result (omega arith) in

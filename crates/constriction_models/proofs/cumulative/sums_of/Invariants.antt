@@ -5,8 +5,8 @@ use Rattle.constriction_models.proofs.cumulative.sums_of.Given as goal
 
 abbrev pub invariant-loop-count : goal.invariant-loop-count
 invariant-loop-count g l = record {
-  before : l.before ≡ sum_by g.C.BitArray.number (take l.count-index l.counts);
+  before : l.before ≡ sum_by g.C.Natural.number (take l.count-index l.counts);
   capacity : vec_capacity l.sums ≡ length l.counts + 1;
   counted : vec_len l.sums ≡ l.count-index + 1;
-  sums : Sums g.C.BitArray.number l.counts l.sums.items (l.count-index + 1);
+  sums : Sums g.C.Natural.number l.counts l.sums.items (l.count-index + 1);
 }

@@ -13,7 +13,7 @@ plus-start-requires g c =
 pub loop-number-preserved : goal.loop-number-preserved
 loop-number-preserved g c =
     let before = c.loop-number.invariant in
-    let number = g.M.Probability.BitArray.number in
+    let number = g.M.Probability.Natural.number in
     let length_of = g.M.Probability.BitArray.nonzero_number in
     let table = g.M.EntropyModel.table c.args.model.now in
     let lawful = g.M.EntropyModel.lawful c.args.model.now in

@@ -15,7 +15,7 @@ plus-next-requires g c =
 pub loop-quantile-preserved : goal.loop-quantile-preserved
 loop-quantile-preserved g c =
     let before = c.loop-quantile.invariant in
-    let number = g.M.Probability.BitArray.number in
+    let number = g.M.Probability.Natural.number in
     let length_of = g.M.Probability.BitArray.nonzero_number in
     let table = g.M.EntropyModel.table c.args.model.now in
     let lawful = g.M.EntropyModel.lawful c.args.model.now in
@@ -44,7 +44,7 @@ pub returns-clause-found : goal.returns-clause-found
 returns-clause-found g c =
     let made = c.loop-quantile.invariant in
     let all : c.loop-quantile.quantile ≡ 2 ^ g.row.PRECISION = omega (arith, made.last, made.within, c.loop-quantile-test.false) in
-    subst (λ (n : ℕ). AreRows g.M.Probability.BitArray.number g.M.Probability.BitArray.nonzero_number (g.M.EntropyModel.table c.args.model.now) c.loop-quantile.symbols.items c.loop-quantile.rows.items n) all made.rows
+    subst (λ (n : ℕ). AreRows g.M.Probability.Natural.number g.M.Probability.BitArray.nonzero_number (g.M.EntropyModel.table c.args.model.now) c.loop-quantile.symbols.items c.loop-quantile.rows.items n) all made.rows
 
 pub returns-clause-fits : goal.returns-clause-fits
 returns-clause-fits g c =

@@ -8,7 +8,7 @@ use Rattle.constriction_queue.proofs.flagged.encode_flagged.Goals.{then-switched
 
 pub returns-in-Err-clause-steps : goal.returns-in-Err-clause-steps
 returns-in-Err-clause-steps g c =
-    let step = EncodesItem {A = ℕ} g.Word.BitArray.number g.Backend.Holds g.Backend.WriteWords g.Word.BitArray.BITS g.State.BitArray.BITS in
+    let step = EncodesItem {A = ℕ} g.Word.Natural.number g.Backend.Holds g.Backend.WriteWords g.Word.Natural.BITS g.State.Natural.BITS in
     let first : Model ℕ = record { precision = g.row.P1; table = g.M1.EntropyModel.table c.args.first.now } in
     let second : Model ℕ = record { precision = g.row.P2; table = g.M2.EntropyModel.table c.args.second.now } in
     let inv = c.loop-symbol.invariant in
@@ -16,7 +16,7 @@ returns-in-Err-clause-steps g c =
 
 pub returns-in-Err-encode_symbol-clause-steps : goal.returns-in-Err-encode_symbol-clause-steps
 returns-in-Err-encode_symbol-clause-steps g c =
-    let step = EncodesItem {A = ℕ} g.Word.BitArray.number g.Backend.Holds g.Backend.WriteWords g.Word.BitArray.BITS g.State.BitArray.BITS in
+    let step = EncodesItem {A = ℕ} g.Word.Natural.number g.Backend.Holds g.Backend.WriteWords g.Word.Natural.BITS g.State.Natural.BITS in
     let first : Model ℕ = record { precision = g.row.P1; table = g.M1.EntropyModel.table c.args.first.now } in
     let second : Model ℕ = record { precision = g.row.P2; table = g.M2.EntropyModel.table c.args.second.now } in
     let inv = c.loop-symbol.invariant in
@@ -24,7 +24,7 @@ returns-in-Err-encode_symbol-clause-steps g c =
 
 pub loop-symbol-preserved : goal.loop-symbol-preserved
 loop-symbol-preserved g c =
-    let step = EncodesItem {A = ℕ} g.Word.BitArray.number g.Backend.Holds g.Backend.WriteWords g.Word.BitArray.BITS g.State.BitArray.BITS in
+    let step = EncodesItem {A = ℕ} g.Word.Natural.number g.Backend.Holds g.Backend.WriteWords g.Word.Natural.BITS g.State.Natural.BITS in
     let first : Model ℕ = record { precision = g.row.P1; table = g.M1.EntropyModel.table c.args.first.now } in
     let second : Model ℕ = record { precision = g.row.P2; table = g.M2.EntropyModel.table c.args.second.now } in
     let inv = c.loop-symbol.invariant in

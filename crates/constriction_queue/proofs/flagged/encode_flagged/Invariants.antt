@@ -8,7 +8,7 @@ use Rattle.constriction_queue.proofs.flagged.encode_flagged.Given as goal
 abbrev pub invariant-loop-symbol : goal.invariant-loop-symbol
 invariant-loop-symbol g l =
     record {
-      coded : Trace (λ item old new. EncodesItem g.Word.BitArray.number g.Backend.Holds g.Backend.WriteWords g.Word.BitArray.BITS g.State.BitArray.BITS old item (Ok tt) new)
+      coded : Trace (λ item old new. EncodesItem g.Word.Natural.number g.Backend.Holds g.Backend.WriteWords g.Word.Natural.BITS g.State.Natural.BITS old item (Ok tt) new)
           (flagged l.flag (record { precision = g.row.P1; table = g.M1.EntropyModel.table l.first }) (record { precision = g.row.P2; table = g.M2.EntropyModel.table l.second }) (take l.symbol-index l.symbols))
           l.fn.encoder l.encoder;
       switched : l.switched ≡ has_flag l.flag (take l.symbol-index l.symbols);

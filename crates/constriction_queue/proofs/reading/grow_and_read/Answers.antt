@@ -14,14 +14,14 @@ pub shift_left-range-requires-clause-fits : goal.shift_left-range-requires-claus
 shift_left-range-requires-clause-fits g c =
     let is = rw (c.BITS.ensures, c.BITS-2.ensures) at c.shift_right.ensures in
     let short = small_of_shr _ _ (sym is ∙ c.if-not-is_nothing.ensures.0 refl) in
-    let fits = range_fits g.Word.BitArray.BITS g.State.BitArray.BITS _ (omega arith) (omega (arith, g.met.Word.BitArray.bits_law)) short in
+    let fits = range_fits g.Word.Natural.BITS g.State.Natural.BITS _ (omega arith) (omega (arith, g.met.Word.Natural.bits_law)) short in
     rw c.BITS-4.ensures (omega arith)
 
 pub shift_left-requires-clause-fits : goal.shift_left-requires-clause-fits
 shift_left-requires-clause-fits g c =
     let is = rw (c.BITS.ensures, c.BITS-2.ensures) at c.shift_right.ensures in
     let short = small_of_shr _ _ (sym is ∙ c.if-not-is_nothing.ensures.0 refl) in
-    let room = room_for_word g.Word.BitArray.BITS g.State.BitArray.BITS (g.State.BitArray.number c.args.distance) 0 (omega arith) (omega (arith, short, c.requires.below)) (pow_pos g.Word.BitArray.BITS) in
+    let room = room_for_word g.Word.Natural.BITS g.State.Natural.BITS (g.State.Natural.number c.args.distance) 0 (omega arith) (omega (arith, short, c.requires.below)) (pow_pos g.Word.Natural.BITS) in
     rw c.BITS-5.ensures (omega (arith, room))
 
 pub plus-distance-requires : goal.plus-distance-requires
@@ -29,7 +29,7 @@ plus-distance-requires g c =
     let is = rw (c.BITS.ensures, c.BITS-2.ensures) at c.shift_right.ensures in
     let short = small_of_shr _ _ (sym is ∙ c.if-not-is_nothing.ensures.0 refl) in
     rw (c.shift_left.ensures, c.BITS-5.ensures, c.widen.ensures)
-    (room_for_word g.Word.BitArray.BITS g.State.BitArray.BITS (g.State.BitArray.number c.args.distance) _ (omega arith) (omega (arith, short, c.requires.below)) (g.met.Word.BitArray.number_law _))
+    (room_for_word g.Word.Natural.BITS g.State.Natural.BITS (g.State.Natural.number c.args.distance) _ (omega arith) (omega (arith, short, c.requires.below)) (g.met.Word.Natural.number_law _))
 
 pub returns-then-not-is_nothing : goal.returns-then-not-is_nothing
 returns-then-not-is_nothing g c =
@@ -63,21 +63,21 @@ returns g c =
     let lower = rw (c.low_bits.ensures, c.BITS.ensures, c.BITS-2.ensures, c.BITS-3.ensures) at c.shift_left-lower.ensures in
     let range = rw c.BITS-4.ensures at c.shift_left-range.ensures in
     let distance = rw (c.shift_left.ensures, c.BITS-5.ensures, c.widen.ensures) at c.plus-distance.ensures in
-    let point : (g.State.BitArray.number c.plus-distance.result + g.State.BitArray.number c.shift_left-lower.result) % 2 ^ g.State.BitArray.BITS
-    ≡ (g.State.BitArray.number c.args.distance + g.State.BitArray.number c.args.lower) % 2 ^ g.State.BitArray.BITS % 2 ^ (g.State.BitArray.BITS - g.Word.BitArray.BITS) * 2 ^ g.Word.BitArray.BITS + g.Word.BitArray.number c.in_ok-word.word =
-    rw (distance, lower) (point_shifted g.Word.BitArray.BITS g.State.BitArray.BITS (g.State.BitArray.number c.args.distance) (g.State.BitArray.number c.args.lower) _ (omega arith) (g.met.Word.BitArray.number_law c.in_ok-word.word)) in
+    let point : (g.State.Natural.number c.plus-distance.result + g.State.Natural.number c.shift_left-lower.result) % 2 ^ g.State.Natural.BITS
+    ≡ (g.State.Natural.number c.args.distance + g.State.Natural.number c.args.lower) % 2 ^ g.State.Natural.BITS % 2 ^ (g.State.Natural.BITS - g.Word.Natural.BITS) * 2 ^ g.Word.Natural.BITS + g.Word.Natural.number c.in_ok-word.word =
+    rw (distance, lower) (point_shifted g.Word.Natural.BITS g.State.Natural.BITS (g.State.Natural.number c.args.distance) (g.State.Natural.number c.args.lower) _ (omega arith) (g.met.Word.Natural.number_law c.in_ok-word.word)) in
     record {
       wide = rw range c.requires.wide;
       list = λ list ws r h.
-          at_short _ _ ws r _ _ _ _ _ _ _ _ _ (omega arith) (g.met.Word.BitArray.number_law _) short lower range point (c.in_ok-word.ensures.word list) (c.in_ok-word.ensures.rest list) h;
+          at_short _ _ ws r _ _ _ _ _ _ _ _ _ (omega arith) (g.met.Word.Natural.number_law _) short lower range point (c.in_ok-word.ensures.word list) (c.in_ok-word.ensures.rest list) h;
       kept = λ _. tt;
       reads = inl (
         short,
         (
-          g.Word.BitArray.number c.in_ok-word.word,
+          g.Word.Natural.number c.in_ok-word.word,
           c.in_ok-word.ensures.reads,
           λ ws r rest h.
-              at_short _ _ ws r _ _ _ _ _ _ _ (g.Word.BitArray.number c.in_ok-word.word ∷ rest) rest (omega arith) (g.met.Word.BitArray.number_law _) short lower range point refl refl h,
+              at_short _ _ ws r _ _ _ _ _ _ _ (g.Word.Natural.number c.in_ok-word.word ∷ rest) rest (omega arith) (g.met.Word.Natural.number_law _) short lower range point refl refl h,
         ),
       );
       err = tt;

@@ -15,10 +15,10 @@ pub returns-in-Ok : goal.returns-in-Ok
 returns-in-Ok g c =
     let scale = c.shift_right-scale.ensures in
     let lower = rw c.times-before.ensures at c.wrapping_plus-start.ensures in
-    let some = scale_some g.Word.BitArray.BITS g.State.BitArray.BITS c.args.precision _ c.requires.step.within_word c.requires.sizes.two_words c.requires.wide in
-    let before = part_from (g.State.BitArray.number c.args.distance) _ (g.State.BitArray.number c.args.left) some c.requires.above in
-    let stays : (g.State.BitArray.number c.minus.result + g.State.BitArray.number c.wrapping_plus-start.result) % 2 ^ g.State.BitArray.BITS ≡ (g.State.BitArray.number c.args.distance + g.State.BitArray.number c.args.lower) % 2 ^ g.State.BitArray.BITS =
-    rw (c.minus.ensures, lower, c.times-before.ensures, scale) (point_stays (g.State.BitArray.number c.args.distance) (g.State.BitArray.number c.args.lower) _ (2 ^ g.State.BitArray.BITS) (pow_pos g.State.BitArray.BITS) before) in
+    let some = scale_some g.Word.Natural.BITS g.State.Natural.BITS c.args.precision _ c.requires.step.within_word c.requires.sizes.two_words c.requires.wide in
+    let before = part_from (g.State.Natural.number c.args.distance) _ (g.State.Natural.number c.args.left) some c.requires.above in
+    let stays : (g.State.Natural.number c.minus.result + g.State.Natural.number c.wrapping_plus-start.result) % 2 ^ g.State.Natural.BITS ≡ (g.State.Natural.number c.args.distance + g.State.Natural.number c.args.lower) % 2 ^ g.State.Natural.BITS =
+    rw (c.minus.ensures, lower, c.times-before.ensures, scale) (point_stays (g.State.Natural.number c.args.distance) (g.State.Natural.number c.args.lower) _ (2 ^ g.State.Natural.BITS) (pow_pos g.State.Natural.BITS) before) in
     let range = rw scale at c.times-part.ensures in
     let reads = rw stays at c.in-Ok.ensures.reads in
     record {
@@ -43,10 +43,10 @@ pub shift_right-scale-requires : goal.shift_right-scale-requires
 shift_right-scale-requires g c = omega (arith, c.requires.step.within_word, c.requires.sizes.two_words, c.requires.sizes.some_bits)
 
 pub times-part-requires : goal.times-part-requires
-times-part-requires g c = part_fits _ _ _ _ _ _ c.shift_right-scale.ensures c.requires.step.inside (g.met.State.BitArray.number_law _)
+times-part-requires g c = part_fits _ _ _ _ _ _ c.shift_right-scale.ensures c.requires.step.inside (g.met.State.Natural.number_law _)
 
 pub times-before-requires : goal.times-before-requires
-times-before-requires g c = before_fits _ _ _ _ _ _ c.shift_right-scale.ensures c.requires.step.inside (g.met.State.BitArray.number_law _)
+times-before-requires g c = before_fits _ _ _ _ _ _ c.shift_right-scale.ensures c.requires.step.inside (g.met.State.Natural.number_law _)
 
 pub grow_and_read-requires-clause-sized : goal.grow_and_read-requires-clause-sized
 grow_and_read-requires-clause-sized g c = c.requires.sizes.two_words
@@ -62,10 +62,10 @@ returns-in-Err g c = record {
 
 pub minus-requires : goal.minus-requires
 minus-requires g c =
-    let some = scale_some g.Word.BitArray.BITS g.State.BitArray.BITS c.args.precision _ c.requires.step.within_word c.requires.sizes.two_words c.requires.wide in
-    rw (c.times-before.ensures, c.shift_right-scale.ensures) (part_from (g.State.BitArray.number c.args.distance) _ (g.State.BitArray.number c.args.left) some c.requires.above)
+    let some = scale_some g.Word.Natural.BITS g.State.Natural.BITS c.args.precision _ c.requires.step.within_word c.requires.sizes.two_words c.requires.wide in
+    rw (c.times-before.ensures, c.shift_right-scale.ensures) (part_from (g.State.Natural.number c.args.distance) _ (g.State.Natural.number c.args.left) some c.requires.above)
 
 pub grow_and_read-requires-clause-below : goal.grow_and_read-requires-clause-below
 grow_and_read-requires-clause-below g c =
-    let some = scale_some g.Word.BitArray.BITS g.State.BitArray.BITS c.args.precision _ c.requires.step.within_word c.requires.sizes.two_words c.requires.wide in
-    rw (c.minus.ensures, c.times-before.ensures, c.times-part.ensures, c.shift_right-scale.ensures) (part_below (g.State.BitArray.number c.args.distance) _ (g.State.BitArray.number c.args.left) (g.State.BitArray.number c.args.p) some c.requires.above c.requires.below)
+    let some = scale_some g.Word.Natural.BITS g.State.Natural.BITS c.args.precision _ c.requires.step.within_word c.requires.sizes.two_words c.requires.wide in
+    rw (c.minus.ensures, c.times-before.ensures, c.times-part.ensures, c.shift_right-scale.ensures) (part_below (g.State.Natural.number c.args.distance) _ (g.State.Natural.number c.args.left) (g.State.Natural.number c.args.p) some c.requires.above c.requires.below)

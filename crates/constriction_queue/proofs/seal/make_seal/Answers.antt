@@ -6,7 +6,7 @@ use Rattle.constriction_queue.proofs.seal.make_seal.Goals as goal
 
 pub returns-then-not-is_below-clause-words : goal.returns-then-not-is_below-clause-words
 returns-then-not-is_below-clause-words g c words all =
-    let law = g.met.State.BitArray.number_law c.args.state.range in
+    let law = g.met.State.Natural.number_law c.args.state.range in
     let test = rw c.length-range.ensures.value at c.if-not-is_below.ensures in
     let whole = greatest_range _ _ _ law c.greatest.ensures (λ less. false≢true (test.1 less)) in
     let start = held_start _ _ _ c.args.situation _ _ c.requires.fit whole in
@@ -14,7 +14,7 @@ returns-then-not-is_below-clause-words g c words all =
 
 pub returns-then-not-is_below-clause-followed : goal.returns-then-not-is_below-clause-followed
 returns-then-not-is_below-clause-followed g c words all =
-    let law = g.met.State.BitArray.number_law c.args.state.range in
+    let law = g.met.State.Natural.number_law c.args.state.range in
     let test = rw c.length-range.ensures.value at c.if-not-is_below.ensures in
     let whole = greatest_range _ _ _ law c.greatest.ensures (λ less. false≢true (test.1 less)) in
     let start = held_start _ _ _ c.args.situation _ _ c.requires.fit whole in
@@ -24,7 +24,7 @@ pub minus-requires : goal.minus-requires
 minus-requires g c =
     let ones = rw c.BITS-3.ensures at c.shift_right-ones.ensures ∙ ones_below _ _ _ (omega arith) c.greatest-2.ensures in
     let rest = rw (c.BITS.ensures, c.BITS-2.ensures) at c.low_bits.ensures in
-    let small = mod-lt (g.State.BitArray.number c.wrapping_plus-point.result) (pow_pos (g.State.BitArray.BITS - g.Word.BitArray.BITS)) in
+    let small = mod-lt (g.State.Natural.number c.wrapping_plus-point.result) (pow_pos (g.State.Natural.BITS - g.Word.Natural.BITS)) in
     omega (arith, ones, rest, small)
 
 pub minus-gap-requires : goal.minus-gap-requires
@@ -35,7 +35,7 @@ minus-gap-requires g c =
 pub zeros_for-zeros-requires-clause-some : goal.zeros_for-zeros-requires-clause-some
 zeros_for-zeros-requires-clause-some g c =
     let ones = rw c.BITS-3.ensures at c.shift_right-ones.ensures ∙ ones_below _ _ _ (omega arith) c.greatest-2.ensures in
-    let some = pow_pos (g.State.BitArray.BITS - g.Word.BitArray.BITS) in
+    let some = pow_pos (g.State.Natural.BITS - g.Word.Natural.BITS) in
     omega (arith, ones, c.minus.ensures, c.minus-gap.ensures, c.length-range.ensures.wide, some)
 
 pub release_pending-requires-clause-carry : goal.release_pending-requires-clause-carry
@@ -55,7 +55,7 @@ returns-clause-words g c words all =
     let less = lesser_range _ _ _ c.greatest.ensures test in
     let zeros = c.zeros_for-zeros.result in
     rw (append_assoc, c.zero_if.ensures)
-    (sealed_by_gap g.Word.BitArray.BITS g.State.BitArray.BITS _ _ _ _ _ c.is_below-2.result _ _ (omega arith) (g.met.State.BitArray.number_law _) c.args.state.wide (c.release_pending.ensures.words words all) point (rw c.lower-lower.ensures at c.is_below-2.ensures) top gap
+    (sealed_by_gap g.Word.Natural.BITS g.State.Natural.BITS _ _ _ _ _ c.is_below-2.result _ _ (omega arith) (g.met.State.Natural.number_law _) c.args.state.wide (c.release_pending.ensures.words words all) point (rw c.lower-lower.ensures at c.is_below-2.ensures) top gap
     zeros _ less (some_wanted zeros) (zeros_by_gap _ _ zeros _ c.zeros_for-zeros.ensures.enough c.zeros_for-zeros.ensures.least))
 
 pub returns-clause-followed : goal.returns-clause-followed
@@ -69,5 +69,5 @@ returns-clause-followed g c words all =
     let less = lesser_range _ _ _ c.greatest.ensures test in
     let zeros = c.zeros_for-zeros.result in
     rw (append_assoc, append_assoc, append_assoc, c.zero_if.ensures, c.other_zeros.ensures)
-    (self_delimited_by_gap g.Word.BitArray.BITS g.State.BitArray.BITS _ _ _ _ _ c.is_below-2.result _ _ (omega arith) (g.met.State.BitArray.number_law _) c.args.state.wide (c.release_pending.ensures.words words all) point (rw c.lower-lower.ensures at c.is_below-2.ensures) top gap
+    (self_delimited_by_gap g.Word.Natural.BITS g.State.Natural.BITS _ _ _ _ _ c.is_below-2.result _ _ (omega arith) (g.met.State.Natural.number_law _) c.args.state.wide (c.release_pending.ensures.words words all) point (rw c.lower-lower.ensures at c.is_below-2.ensures) top gap
     zeros _ less (some_wanted zeros) c.zeros_for-zeros.ensures.few c.zeros_for-zeros.ensures.enough c.zeros_for-zeros.ensures.least)

@@ -17,7 +17,7 @@ pub shift_left-range-requires-clause-fits : goal.shift_left-range-requires-claus
 shift_left-range-requires-clause-fits g c =
     let is = rw (c.BITS.ensures, c.BITS-2.ensures) at c.shift_right.ensures in
     let short = small_of_shr _ _ (sym is ∙ c.if-not-is_nothing.ensures.0 refl) in
-    let fits = range_fits g.Word.BitArray.BITS g.State.BitArray.BITS _ (omega arith) (omega (arith, g.met.Word.BitArray.bits_law)) short in
+    let fits = range_fits g.Word.Natural.BITS g.State.Natural.BITS _ (omega arith) (omega (arith, g.met.Word.Natural.bits_law)) short in
     rw c.BITS-4.ensures (omega arith)
 
 pub returns-in-Inverted-clause-fit : goal.returns-in-Inverted-clause-fit
@@ -28,9 +28,9 @@ returns-in-Inverted-clause-fit g c =
     let range = rw c.BITS-4.ensures at c.shift_left-range.ensures in
     let fit = rw c.in-Inverted.is at c.requires.fit in
     let place = rw c.in-Inverted.is at c.requires.place in
-    let fits = range_fits g.Word.BitArray.BITS g.State.BitArray.BITS _ (omega arith) (omega (arith, g.met.Word.BitArray.bits_law)) short in
+    let fits = range_fits g.Word.Natural.BITS g.State.Natural.BITS _ (omega arith) (omega (arith, g.met.Word.Natural.bits_law)) short in
     rw c.nonzero_count.ensures (
-      over_fits _ _ _ _ _ _ (omega arith) (g.met.State.BitArray.number_law _) short fit.0 lower range,
+      over_fits _ _ _ _ _ _ (omega arith) (g.met.State.Natural.number_law _) short fit.0 lower range,
       fit.1,
       rw range fits,
       omega arith,
@@ -44,7 +44,7 @@ returns-in-Inverted-clause-run g c words =
     let range = rw c.BITS-4.ensures at c.shift_left-range.ensures in
     let fit = rw c.in-Inverted.is at c.requires.fit in
     rw (c.in-Inverted.is, c.nonzero_count.ensures, c.get.ensures.value)
-    (held_run _ _ _ _ _ _ _ _ words (omega arith) (g.met.State.BitArray.number_law _) short fit.0 (omega arith) lower range)
+    (held_run _ _ _ _ _ _ _ _ words (omega arith) (g.met.State.Natural.number_law _) short fit.0 (omega arith) lower range)
 
 pub returns-then-reaches_over-clause-fit : goal.returns-then-reaches_over-clause-fit
 returns-then-reaches_over-clause-fit g c =
@@ -53,9 +53,9 @@ returns-then-reaches_over-clause-fit g c =
     let lower = rw (c.low_bits.ensures, c.BITS.ensures, c.BITS-2.ensures, c.BITS-3.ensures) at c.shift_left-lower.ensures in
     let range = rw c.BITS-4.ensures at c.shift_left-range.ensures in
     let fit = rw c.in-Normal.is at c.requires.fit in
-    let fits = range_fits g.Word.BitArray.BITS g.State.BitArray.BITS _ (omega arith) (omega (arith, g.met.Word.BitArray.bits_law)) short in
+    let fits = range_fits g.Word.Natural.BITS g.State.Natural.BITS _ (omega arith) (omega (arith, g.met.Word.Natural.bits_law)) short in
     let top = rw (c.shift_right-2.ensures, c.BITS.ensures, c.BITS-2.ensures) at c.narrow-top.ensures in
-    let top_same = top ∙ top_is _ _ _ (omega arith) (g.met.State.BitArray.number_law _) in
+    let top_same = top ∙ top_is _ _ _ (omega arith) (g.met.State.Natural.number_law _) in
     let over = c.if-reaches_over.ensures.0 refl in
     rw c.nonzero_count-then-reaches_over.ensures (
       over,
@@ -71,9 +71,9 @@ returns-then-reaches_over-clause-run g c words =
     let lower = rw (c.low_bits.ensures, c.BITS.ensures, c.BITS-2.ensures, c.BITS-3.ensures) at c.shift_left-lower.ensures in
     let range = rw c.BITS-4.ensures at c.shift_left-range.ensures in
     let top = rw (c.shift_right-2.ensures, c.BITS.ensures, c.BITS-2.ensures) at c.narrow-top.ensures in
-    let top_same = top ∙ top_is _ _ _ (omega arith) (g.met.State.BitArray.number_law _) in
+    let top_same = top ∙ top_is _ _ _ (omega arith) (g.met.State.Natural.number_law _) in
     rw (c.in-Normal.is, c.nonzero_count-then-reaches_over.ensures)
-    (shifted_run _ _ _ _ _ _ _ words (omega arith) (g.met.State.BitArray.number_law _) short top_same lower range)
+    (shifted_run _ _ _ _ _ _ _ words (omega arith) (g.met.State.Natural.number_law _) short top_same lower range)
 
 pub returns-else-reaches_over-clause-run : goal.returns-else-reaches_over-clause-run
 returns-else-reaches_over-clause-run g c words =
@@ -82,9 +82,9 @@ returns-else-reaches_over-clause-run g c words =
     let lower = rw (c.low_bits.ensures, c.BITS.ensures, c.BITS-2.ensures, c.BITS-3.ensures) at c.shift_left-lower.ensures in
     let range = rw c.BITS-4.ensures at c.shift_left-range.ensures in
     let top = rw (c.shift_right-2.ensures, c.BITS.ensures, c.BITS-2.ensures) at c.narrow-top.ensures in
-    let top_same = top ∙ top_is _ _ _ (omega arith) (g.met.State.BitArray.number_law _) in
+    let top_same = top ∙ top_is _ _ _ (omega arith) (g.met.State.Natural.number_law _) in
     rw c.in-Normal.is
-    (shifted_run _ _ _ _ _ _ _ words (omega arith) (g.met.State.BitArray.number_law _) short top_same lower range)
+    (shifted_run _ _ _ _ _ _ _ words (omega arith) (g.met.State.Natural.number_law _) short top_same lower range)
 
 pub returns-then-not-is_nothing-clause-fit : goal.returns-then-not-is_nothing-clause-fit
 returns-then-not-is_nothing-clause-fit g c = c.requires.fit

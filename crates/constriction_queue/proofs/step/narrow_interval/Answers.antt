@@ -23,7 +23,7 @@ returns-then-reaches_over-clause-run g c words =
     let scale = c.shift_right-scale.ensures in
     let lower = rw c.times.ensures at c.wrapping_plus-start.ensures in
     let fit = rw c.in-Inverted.is at c.requires.fit in
-    let same = over_part _ _ _ _ _ _ _ _ _ scale lower c.times-part.ensures c.requires.total (g.met.State.BitArray.number_law _) (g.met.State.BitArray.number_law _) (c.if-reaches_over.ensures.0 refl) in
+    let same = over_part _ _ _ _ _ _ _ _ _ scale lower c.times-part.ensures c.requires.total (g.met.State.Natural.number_law _) (g.met.State.Natural.number_law _) (c.if-reaches_over.ensures.0 refl) in
     rw c.in-Inverted.is (part_run _ _ _ _ _ _ _ _ _ _ _ scale c.times-part.ensures same)
 
 pub returns-else-reaches_over-clause-run : goal.returns-else-reaches_over-clause-run
@@ -31,7 +31,7 @@ returns-else-reaches_over-clause-run g c words =
     let scale = c.shift_right-scale.ensures in
     let lower = rw c.times.ensures at c.wrapping_plus-start.ensures in
     rw c.in-Inverted.is
-    (released_run _ _ _ _ _ _ _ _ _ _ _ _ _ _ words scale lower c.times-part.ensures c.requires.total (g.met.State.BitArray.number_law _) (g.met.State.BitArray.number_law _) c.add_carry.ensures c.is_below.ensures)
+    (released_run _ _ _ _ _ _ _ _ _ _ _ _ _ _ words scale lower c.times-part.ensures c.requires.total (g.met.State.Natural.number_law _) (g.met.State.Natural.number_law _) c.add_carry.ensures c.is_below.ensures)
 
 pub returns-else-reaches_over-clause-few : goal.returns-else-reaches_over-clause-few
 returns-else-reaches_over-clause-few g c =
@@ -39,10 +39,10 @@ returns-else-reaches_over-clause-few g c =
     rw c.add_carry.ensures (held_few _ _ _ fit.3)
 
 pub times-part-requires : goal.times-part-requires
-times-part-requires g c = part_fits _ _ _ _ _ _ c.shift_right-scale.ensures c.requires.total (g.met.State.BitArray.number_law _)
+times-part-requires g c = part_fits _ _ _ _ _ _ c.shift_right-scale.ensures c.requires.total (g.met.State.Natural.number_law _)
 
 pub times-requires : goal.times-requires
-times-requires g c = before_fits _ _ _ _ _ _ c.shift_right-scale.ensures c.requires.total (g.met.State.BitArray.number_law _)
+times-requires g c = before_fits _ _ _ _ _ _ c.shift_right-scale.ensures c.requires.total (g.met.State.Natural.number_law _)
 
 pub add_carry-requires : goal.add_carry-requires
 add_carry-requires g c = (rw c.in-Inverted.is at c.requires.fit).1
@@ -60,7 +60,7 @@ pub returns-in-Normal-clause-none : goal.returns-in-Normal-clause-none
 returns-in-Normal-clause-none g c = λ none. refl
 
 pub returns-in-Normal-clause-range : goal.returns-in-Normal-clause-range
-returns-in-Normal-clause-range g c = c.times-part.ensures ∙ ap (λ z. z * g.State.BitArray.number c.args.p) c.shift_right-scale.ensures
+returns-in-Normal-clause-range g c = c.times-part.ensures ∙ ap (λ z. z * g.State.Natural.number c.args.p) c.shift_right-scale.ensures
 
 pub returns-then-reaches_over-clause-fit : goal.returns-then-reaches_over-clause-fit
 returns-then-reaches_over-clause-fit g c =
@@ -81,7 +81,7 @@ pub returns-then-reaches_over-clause-none : goal.returns-then-reaches_over-claus
 returns-then-reaches_over-clause-none g c = λ none. refl
 
 pub returns-then-reaches_over-clause-range : goal.returns-then-reaches_over-clause-range
-returns-then-reaches_over-clause-range g c = c.times-part.ensures ∙ ap (λ z. z * g.State.BitArray.number c.args.p) c.shift_right-scale.ensures
+returns-then-reaches_over-clause-range g c = c.times-part.ensures ∙ ap (λ z. z * g.State.Natural.number c.args.p) c.shift_right-scale.ensures
 
 pub returns-else-reaches_over-clause-fit : goal.returns-else-reaches_over-clause-fit
 returns-else-reaches_over-clause-fit g c = not_over _ _ _ _ refl c.if-reaches_over.ensures
@@ -98,4 +98,4 @@ returns-else-reaches_over-clause-none g c = λ none.
     absurd (held_never _ _ _ held)
 
 pub returns-else-reaches_over-clause-range : goal.returns-else-reaches_over-clause-range
-returns-else-reaches_over-clause-range g c = c.times-part.ensures ∙ ap (λ z. z * g.State.BitArray.number c.args.p) c.shift_right-scale.ensures
+returns-else-reaches_over-clause-range g c = c.times-part.ensures ∙ ap (λ z. z * g.State.Natural.number c.args.p) c.shift_right-scale.ensures

@@ -12,22 +12,22 @@ grow-after-requires-clause-wide g c =
 
 pub returns : goal.returns
 returns g c =
-    let number = g.Word.BitArray.number in
+    let number = g.Word.Natural.number in
     let words = map number (g.Backend.Holds.words c.args.bulk.now) in
     let released = released_of number c.narrow_interval-part.result.released in
     let top = word_of number c.grow-after.result.top in
-    let all = c.grow-after.ensures.run (released ++ words) ∙ ap (grown g.Word.BitArray.BITS g.State.BitArray.BITS) (c.narrow_interval-part.ensures.run words) in
+    let all = c.grow-after.ensures.run (released ++ words) ∙ ap (grown g.Word.Natural.BITS g.State.Natural.BITS) (c.narrow_interval-part.ensures.run words) in
     let is = rw (sym (append_assoc top released words)) at all in
     record {
       ok = record {
-        before = is_encoder number g.Backend.Holds _ _ _ _ _ c.args.situation c.requires.sizes c.requires.fit c.requires.wide (g.met.State.BitArray.number_law _) (g.met.State.BitArray.number_law _);
-        after = is_encoder number g.Backend.Holds _ _ _ _ _ c.grow-after.result.situation c.requires.sizes c.grow-after.ensures.fit c.grow-after.ensures.wide (g.met.State.BitArray.number_law _) (g.met.State.BitArray.number_law _);
+        before = is_encoder number g.Backend.Holds _ _ _ _ _ c.args.situation c.requires.sizes c.requires.fit c.requires.wide (g.met.State.Natural.number_law _) (g.met.State.Natural.number_law _);
+        after = is_encoder number g.Backend.Holds _ _ _ _ _ c.grow-after.result.situation c.requires.sizes c.grow-after.ensures.fit c.grow-after.ensures.wide (g.met.State.Natural.number_law _) (g.met.State.Natural.number_law _);
         narrowed = rw c.in_ok-write_step.ensures.written.words is;
         written = record {
           owed = top ++ released;
           owes = record {
-            are_words = owed_are_words number _ g.met.Word.BitArray.number_law c.narrow_interval-part.result.released c.grow-after.result.top;
-            lower_fits = g.met.State.BitArray.number_law _;
+            are_words = owed_are_words number _ g.met.Word.Natural.number_law c.narrow_interval-part.result.released c.grow-after.result.top;
+            lower_fits = g.met.State.Natural.number_law _;
             situation = c.grow-after.result.situation;
             lower = _;
             range = _;
@@ -50,17 +50,17 @@ returns g c =
 
 pub returns-in_err-write_step : goal.returns-in_err-write_step
 returns-in_err-write_step g c =
-    let number = g.Word.BitArray.number in
+    let number = g.Word.Natural.number in
     let words = map number (g.Backend.Holds.words c.args.bulk.now) in
     let released = released_of number c.narrow_interval-part.result.released in
     let top = word_of number c.grow-after.result.top in
-    let all = c.grow-after.ensures.run (released ++ words) ∙ ap (grown g.Word.BitArray.BITS g.State.BitArray.BITS) (c.narrow_interval-part.ensures.run words) in
+    let all = c.grow-after.ensures.run (released ++ words) ∙ ap (grown g.Word.Natural.BITS g.State.Natural.BITS) (c.narrow_interval-part.ensures.run words) in
     let is = rw (sym (append_assoc top released words)) at all in
     let told = err_from_is_err_and c.from_residual.result c.from_residual.ensures.1 in
     rw (told.1, told.2) record {
       err = record {
-        before = is_encoder number g.Backend.Holds _ _ _ _ _ c.args.situation c.requires.sizes c.requires.fit c.requires.wide (g.met.State.BitArray.number_law _) (g.met.State.BitArray.number_law _);
-        after = is_encoder number g.Backend.Holds _ _ _ _ _ c.args.situation c.requires.sizes c.requires.fit c.requires.wide (g.met.State.BitArray.number_law _) (g.met.State.BitArray.number_law _);
+        before = is_encoder number g.Backend.Holds _ _ _ _ _ c.args.situation c.requires.sizes c.requires.fit c.requires.wide (g.met.State.Natural.number_law _) (g.met.State.Natural.number_law _);
+        after = is_encoder number g.Backend.Holds _ _ _ _ _ c.args.situation c.requires.sizes c.requires.fit c.requires.wide (g.met.State.Natural.number_law _) (g.met.State.Natural.number_law _);
         narrowed = tt;
         written = tt;
         held = omega arith;
@@ -69,8 +69,8 @@ returns-in_err-write_step g c =
         error = record {
           owed = top ++ released;
           owes = record {
-            are_words = owed_are_words number _ g.met.Word.BitArray.number_law c.narrow_interval-part.result.released c.grow-after.result.top;
-            lower_fits = g.met.State.BitArray.number_law _;
+            are_words = owed_are_words number _ g.met.Word.Natural.number_law c.narrow_interval-part.result.released c.grow-after.result.top;
+            lower_fits = g.met.State.Natural.number_law _;
             situation = c.grow-after.result.situation;
             lower = _;
             range = _;

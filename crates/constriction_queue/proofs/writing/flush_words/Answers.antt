@@ -7,7 +7,7 @@ use Rattle.constriction_queue.proofs.writing.flush_words.Goals as goal
 
 pub returns-in_err-prepare : goal.returns-in_err-prepare
 returns-in_err-prepare g c =
-    let number = g.Word.BitArray.number in
+    let number = g.Word.Natural.number in
     let holds = g.Backend.Holds in
     let writes = g.Backend.WriteWords in
     let held = released_of number c.args.held in
@@ -22,7 +22,7 @@ returns-in_err-prepare g c =
 
 pub returns-in_err-write_released : goal.returns-in_err-write_released
 returns-in_err-write_released g c =
-    let number = g.Word.BitArray.number in
+    let number = g.Word.Natural.number in
     let holds = g.Backend.Holds in
     let writes = g.Backend.WriteWords in
     let held = released_of number c.args.held in
@@ -40,7 +40,7 @@ returns-in_err-write_released g c =
 
 pub returns-in_err-write_word : goal.returns-in_err-write_word
 returns-in_err-write_word g c =
-    let number = g.Word.BitArray.number in
+    let number = g.Word.Natural.number in
     let holds = g.Backend.Holds in
     let writes = g.Backend.WriteWords in
     let held = released_of number c.args.held in
@@ -59,7 +59,7 @@ returns-in_err-write_word g c =
 
 pub returns-in_err-write_word-2 : goal.returns-in_err-write_word-2
 returns-in_err-write_word-2 g c =
-    let number = g.Word.BitArray.number in
+    let number = g.Word.Natural.number in
     let holds = g.Backend.Holds in
     let writes = g.Backend.WriteWords in
     let held = released_of number c.args.held in
@@ -78,7 +78,7 @@ returns-in_err-write_word-2 g c =
 
 pub returns : goal.returns
 returns g c =
-    let number = g.Word.BitArray.number in
+    let number = g.Word.Natural.number in
     let holds = g.Backend.Holds in
     let writes = g.Backend.WriteWords in
     let held = released_of number c.args.held in

@@ -9,7 +9,7 @@ use Rattle.constriction_queue.proofs.writing.write_run.Goals as goal
 
 pub returns-in_err-write : goal.returns-in_err-write
 returns-in_err-write g c =
-    let number = g.Word.BitArray.number in
+    let number = g.Word.Natural.number in
     let holds = g.Backend.Holds in
     let writes = g.Backend.WriteWords in
     let held = c.args.held in
@@ -22,11 +22,11 @@ returns-in_err-write g c =
 pub loop-i-init : goal.loop-i-init
 loop-i-init g c =
     let wrote = c.in_ok-write.ensures in
-    record { written = one_written g.Word.BitArray.number g.Backend.Holds g.Backend.WriteWords c.args.held.first _ _ wrote.writes wrote.ok wrote.room }
+    record { written = one_written g.Word.Natural.number g.Backend.Holds g.Backend.WriteWords c.args.held.first _ _ wrote.writes wrote.ok wrote.room }
 
 pub returns-in_err-write-2 : goal.returns-in_err-write-2
 returns-in_err-write-2 g c =
-    let number = g.Word.BitArray.number in
+    let number = g.Word.Natural.number in
     let holds = g.Backend.Holds in
     let writes = g.Backend.WriteWords in
     let held = c.args.held in
@@ -38,7 +38,7 @@ returns-in_err-write-2 g c =
 
 pub loop-i-preserved : goal.loop-i-preserved
 loop-i-preserved g c =
-    let number = g.Word.BitArray.number in
+    let number = g.Word.Natural.number in
     let holds = g.Backend.Holds in
     let writes = g.Backend.WriteWords in
     let held = c.args.held in
@@ -50,7 +50,7 @@ loop-i-preserved g c =
 
 pub returns : goal.returns
 returns g c =
-    let number = g.Word.BitArray.number in
+    let number = g.Word.Natural.number in
     let held = c.args.held in
     let all : c.loop-i.i ≡ non_zero_usize_get held.count = omega (arith, c.get-i-end.ensures.value, c.get-i-end.ensures.nonzero, c.loop-i.auto.i-end, c.loop-i-test.false) in
     subst (λ (n : ℕ). WritesAll number g.Backend.Holds g.Backend.WriteWords (repeated_words (number held.others) n (number held.first)) c.args.bulk.now (Ok tt) c.loop-i.bulk) all c.loop-i.invariant.written

@@ -4,7 +4,7 @@ use Rattle.constriction_base.proofs.Written.{appends_none}
 use Rattle.constriction_queue.proofs.writing.write_step.Goals as goal
 
 pub returns-in_default-top-clause-written : goal.returns-in_default-top-clause-written
-returns-in_default-top-clause-written g c = rw (c.in_default.is, c.in_default-top.is) (appends_none g.Word.BitArray.number g.Backend.Holds g.Backend.WriteWords c.args.bulk.now)
+returns-in_default-top-clause-written g c = rw (c.in_default.is, c.in_default-top.is) (appends_none g.Word.Natural.number g.Backend.Holds g.Backend.WriteWords c.args.bulk.now)
 
 pub returns-in_default-clause-written : goal.returns-in_default-clause-written
 returns-in_default-clause-written g c = rw (c.in_default.is, c.in-Some-top.is) c.write_two.ensures.written

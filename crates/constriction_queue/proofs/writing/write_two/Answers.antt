@@ -5,7 +5,7 @@ use Rattle.constriction_queue.proofs.writing.write_two.Goals as goal
 
 pub returns-clause-written : goal.returns-clause-written
 returns-clause-written g c =
-    let number = g.Word.BitArray.number in
+    let number = g.Word.Natural.number in
     let holds = g.Backend.Holds in
     let writes = g.Backend.WriteWords in
     let first = number c.args.first ∷ [] in

@@ -7,15 +7,15 @@ shift_right-requires g c = c.requires.within
 
 pub times-requires : goal.times-requires
 times-requires g c =
-    let n = g.State.BitArray.number in
+    let n = g.State.Natural.number in
     let le = popped_le (n c.args.head) (2 ^ c.args.precision) 0 (n c.args.p) (omega arith) (omega (arith, c.requires.total)) in
-    rw c.shift_right.ensures (omega (arith, le, g.met.State.BitArray.number_law c.args.head))
+    rw c.shift_right.ensures (omega (arith, le, g.met.State.Natural.number_law c.args.head))
 
 pub plus-requires : goal.plus-requires
 plus-requires g c =
-    let n = g.State.BitArray.number in
+    let n = g.State.Natural.number in
     let le = popped_le (n c.args.head) (2 ^ c.args.precision) 0 (n c.args.p) (omega arith) (omega (arith, c.requires.total)) in
-    rw (c.times.ensures, c.shift_right.ensures, c.requires.quantile) (omega (arith, le, g.met.State.BitArray.number_law c.args.head))
+    rw (c.times.ensures, c.shift_right.ensures, c.requires.quantile) (omega (arith, le, g.met.State.Natural.number_law c.args.head))
 
 pub minus-requires : goal.minus-requires
 minus-requires g c = rw c.plus.ensures (omega (arith, c.requires.above))

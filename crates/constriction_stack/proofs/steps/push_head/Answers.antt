@@ -6,12 +6,12 @@ use Rattle.constriction_stack.proofs.steps.push_head.Goals as goal
 
 -- ---- by a reciprocal
 pub shift_left-requires-clause-fits : goal.shift_left-requires-clause-fits
-shift_left-requires-clause-fits g c = rw c.unit.ensures (omega (arith, pow_below c.args.precision g.State.BitArray.BITS c.requires.within))
+shift_left-requires-clause-fits g c = rw c.unit.ensures (omega (arith, pow_below c.args.precision g.State.Natural.BITS c.requires.within))
 
 pub times-requires : goal.times-requires
 times-requires g c =
-    let n = g.State.BitArray.number in
-    let fits = room_for_interval g.State.BitArray.BITS c.args.precision (n c.args.head) (n c.args.p) (n c.args.left) (omega arith) c.requires.some c.requires.total c.requires.room in
+    let n = g.State.Natural.number in
+    let fits = room_for_interval g.State.Natural.BITS c.args.precision (n c.args.head) (n c.args.p) (n c.args.left) (omega arith) c.requires.some c.requires.total c.requires.room in
     let same = by_product (n c.args.head) (n c.args.p) (2 ^ c.args.precision) (n c.args.left) (omega (arith, c.requires.total)) in
     let table = rw c.unit.ensures at c.shift_left.ensures in
     let beside : n c.minus-beside.result ≡ 2 ^ c.args.precision - n c.args.p = omega (arith, c.minus-beside.ensures, table) in
@@ -19,15 +19,15 @@ times-requires g c =
 
 pub plus-requires : goal.plus-requires
 plus-requires g c =
-    let n = g.State.BitArray.number in
-    let fits = room_for_interval g.State.BitArray.BITS c.args.precision (n c.args.head) (n c.args.p) (n c.args.left) (omega arith) c.requires.some c.requires.total c.requires.room in
+    let n = g.State.Natural.number in
+    let fits = room_for_interval g.State.Natural.BITS c.args.precision (n c.args.head) (n c.args.p) (n c.args.left) (omega arith) c.requires.some c.requires.total c.requires.room in
     let same = by_product (n c.args.head) (n c.args.p) (2 ^ c.args.precision) (n c.args.left) (omega (arith, c.requires.total)) in
     omega (arith, fits, same)
 
 pub plus-requires-in-Some : goal.plus-requires-in-Some
 plus-requires-in-Some g c =
-    let n = g.State.BitArray.number in
-    let fits = room_for_interval g.State.BitArray.BITS c.args.precision (n c.args.head) (n c.args.p) (n c.args.left) (omega arith) c.requires.some c.requires.total c.requires.room in
+    let n = g.State.Natural.number in
+    let fits = room_for_interval g.State.Natural.BITS c.args.precision (n c.args.head) (n c.args.p) (n c.args.left) (omega arith) c.requires.some c.requires.total c.requires.room in
     let same = by_product (n c.args.head) (n c.args.p) (2 ^ c.args.precision) (n c.args.left) (omega (arith, c.requires.total)) in
     let table = rw c.unit.ensures at c.shift_left.ensures in
     let beside : n c.minus-beside.result ≡ 2 ^ c.args.precision - n c.args.p = omega (arith, c.minus-beside.ensures, table) in
@@ -35,7 +35,7 @@ plus-requires-in-Some g c =
 
 pub returns-in-Some : goal.returns-in-Some
 returns-in-Some g c =
-    let n = g.State.BitArray.number in
+    let n = g.State.Natural.number in
     let same = by_product (n c.args.head) (n c.args.p) (2 ^ c.args.precision) (n c.args.left) (omega (arith, c.requires.total)) in
     let table = rw c.unit.ensures at c.shift_left.ensures in
     let beside : n c.minus-beside.result ≡ 2 ^ c.args.precision - n c.args.p = omega (arith, c.minus-beside.ensures, table) in
@@ -44,15 +44,15 @@ returns-in-Some g c =
 -- ---- by a division
 pub shift_left-prefix-requires-clause-fits : goal.shift_left-prefix-requires-clause-fits
 shift_left-prefix-requires-clause-fits g c =
-    let fits = room_for_interval g.State.BitArray.BITS c.args.precision (g.State.BitArray.number c.args.head) (g.State.BitArray.number c.args.p) (g.State.BitArray.number c.args.left) (omega arith) c.requires.some c.requires.total c.requires.room in
+    let fits = room_for_interval g.State.Natural.BITS c.args.precision (g.State.Natural.number c.args.head) (g.State.Natural.number c.args.p) (g.State.Natural.number c.args.left) (omega arith) c.requires.some c.requires.total c.requires.room in
     rw c.div_rem-quotient.ensures.quotient (omega arith)
 
 pub plus-requires-in-None : goal.plus-requires-in-None
 plus-requires-in-None g c =
-    let fits = room_for_interval g.State.BitArray.BITS c.args.precision (g.State.BitArray.number c.args.head) (g.State.BitArray.number c.args.p) (g.State.BitArray.number c.args.left) (omega arith) c.requires.some c.requires.total c.requires.room in
+    let fits = room_for_interval g.State.Natural.BITS c.args.precision (g.State.Natural.number c.args.head) (g.State.Natural.number c.args.p) (g.State.Natural.number c.args.left) (omega arith) c.requires.some c.requires.total c.requires.room in
     rw c.div_rem-quotient.ensures.rest (omega arith)
 
 pub plus-requires-in-None-2 : goal.plus-requires-in-None-2
 plus-requires-in-None-2 g c =
-    let fits = room_for_interval g.State.BitArray.BITS c.args.precision (g.State.BitArray.number c.args.head) (g.State.BitArray.number c.args.p) (g.State.BitArray.number c.args.left) (omega arith) c.requires.some c.requires.total c.requires.room in
+    let fits = room_for_interval g.State.Natural.BITS c.args.precision (g.State.Natural.number c.args.head) (g.State.Natural.number c.args.p) (g.State.Natural.number c.args.left) (omega arith) c.requires.some c.requires.total c.requires.room in
     rw (c.shift_left-prefix.ensures, c.div_rem-quotient.ensures.quotient, c.plus-in-None.ensures, c.div_rem-quotient.ensures.rest) (omega arith)

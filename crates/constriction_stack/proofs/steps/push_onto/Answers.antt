@@ -17,20 +17,20 @@ push_head-requires-clause-room g c =
 pub push_head-requires-2-clause-room : goal.push_head-requires-2-clause-room
 push_head-requires-2-clause-room g c =
     let is = rw c.BITS-2.ensures at c.shift_right-2.ensures in
-    rw is (room_after_word _ _ _ _ _ (omega (arith, c.requires.sizes.two_words)) c.requires.step.within_word c.requires.step.not_empty (g.met.State.BitArray.number_law _))
+    rw is (room_after_word _ _ _ _ _ (omega (arith, c.requires.sizes.two_words)) c.requires.step.within_word c.requires.step.not_empty (g.met.State.Natural.number_law _))
 
 pub returns-then-is_below : goal.returns-then-is_below
 returns-then-is_below g c =
-    let w = g.Word.BitArray.BITS in
-    let s = g.State.BitArray.BITS in
-    let e : Step = record { precision = c.args.precision; left = g.State.BitArray.number c.args.left; p = g.State.BitArray.number c.args.p } in
-    let old : AnsState = record { head = g.State.BitArray.number c.args.head; words = map g.Word.BitArray.number (g.Backend.Holds.words c.args.bulk.now) } in
+    let w = g.Word.Natural.BITS in
+    let s = g.State.Natural.BITS in
+    let e : Step = record { precision = c.args.precision; left = g.State.Natural.number c.args.left; p = g.State.Natural.number c.args.p } in
+    let old : AnsState = record { head = g.State.Natural.number c.args.head; words = map g.Word.Natural.number (g.Backend.Holds.words c.args.bulk.now) } in
     let is = rw c.BITS.ensures at c.shift_right.ensures in
     let less = rw is at (c.if-is_below.ensures.0 refl) in
     let low = room_of_low _ _ _ less in
     record {
-      before = is_coder _ _ w s _ c.args.bulk.now c.requires.sizes (g.met.State.BitArray.number_law _);
-      after = is_coder _ _ w s _ c.args.bulk.now c.requires.sizes (g.met.State.BitArray.number_law _);
+      before = is_coder _ _ w s _ c.args.bulk.now c.requires.sizes (g.met.State.Natural.number_law _);
+      after = is_coder _ _ w s _ c.args.bulk.now c.requires.sizes (g.met.State.Natural.number_law _);
       pushed = λ valid. rw c.push_head.ensures (push_kept w s e c.requires.sizes c.requires.step old valid (rw (← above_table w s e c.requires.sizes c.requires.step) low));
       words = rw (lt-ltb _ _ less) refl;
       room_used = omega arith;
@@ -41,13 +41,13 @@ returns-then-is_below g c =
 
 pub returns-in-Err : goal.returns-in-Err
 returns-in-Err g c =
-    let w = g.Word.BitArray.BITS in
-    let s = g.State.BitArray.BITS in
+    let w = g.Word.Natural.BITS in
+    let s = g.State.Natural.BITS in
     let is = rw c.BITS.ensures at c.shift_right.ensures in
     let owed = not_less _ _ (λ less. let no = c.if-is_below.ensures.1 (rw is less) in cc) in
     record {
-      before = is_coder _ _ w s _ c.args.bulk.now c.requires.sizes (g.met.State.BitArray.number_law _);
-      after = is_coder _ _ w s _ c.prepare.new.self c.requires.sizes (g.met.State.BitArray.number_law _);
+      before = is_coder _ _ w s _ c.args.bulk.now c.requires.sizes (g.met.State.Natural.number_law _);
+      after = is_coder _ _ w s _ c.prepare.new.self c.requires.sizes (g.met.State.Natural.number_law _);
       pushed = tt;
       words = tt;
       room_used = tt;
@@ -58,13 +58,13 @@ returns-in-Err g c =
 
 pub returns-in-Err-write : goal.returns-in-Err-write
 returns-in-Err-write g c =
-    let w = g.Word.BitArray.BITS in
-    let s = g.State.BitArray.BITS in
+    let w = g.Word.Natural.BITS in
+    let s = g.State.Natural.BITS in
     let is = rw c.BITS.ensures at c.shift_right.ensures in
     let owed = not_less _ _ (λ less. let no = c.if-is_below.ensures.1 (rw is less) in cc) in
     record {
-      before = is_coder _ _ w s _ c.args.bulk.now c.requires.sizes (g.met.State.BitArray.number_law _);
-      after = is_coder _ _ w s _ c.write.new.self c.requires.sizes (g.met.State.BitArray.number_law _);
+      before = is_coder _ _ w s _ c.args.bulk.now c.requires.sizes (g.met.State.Natural.number_law _);
+      after = is_coder _ _ w s _ c.write.new.self c.requires.sizes (g.met.State.Natural.number_law _);
       pushed = tt;
       words = tt;
       room_used = tt;
@@ -75,10 +75,10 @@ returns-in-Err-write g c =
 
 pub returns : goal.returns
 returns g c =
-    let w = g.Word.BitArray.BITS in
-    let s = g.State.BitArray.BITS in
-    let e : Step = record { precision = c.args.precision; left = g.State.BitArray.number c.args.left; p = g.State.BitArray.number c.args.p } in
-    let old : AnsState = record { head = g.State.BitArray.number c.args.head; words = map g.Word.BitArray.number (g.Backend.Holds.words c.args.bulk.now) } in
+    let w = g.Word.Natural.BITS in
+    let s = g.State.Natural.BITS in
+    let e : Step = record { precision = c.args.precision; left = g.State.Natural.number c.args.left; p = g.State.Natural.number c.args.p } in
+    let old : AnsState = record { head = g.State.Natural.number c.args.head; words = map g.Word.Natural.number (g.Backend.Holds.words c.args.bulk.now) } in
     let is = rw c.BITS.ensures at c.shift_right.ensures in
     let owed = not_less _ _ (λ less. let no = c.if-is_below.ensures.1 (rw is less) in cc) in
     let high = no_room_of_high _ _ _ (λ less. let no = c.if-is_below.ensures.1 (rw is less) in cc) in
@@ -86,8 +86,8 @@ returns g c =
     let one : length (g.Backend.Holds.words c.write.new.self) ≡ length (g.Backend.Holds.words c.args.bulk.now) + 1 =
     ap length c.in-Ok-write.ensures.ok ∙ omega (arith, ap length c.in-Ok.ensures.words) in
     record {
-      before = is_coder _ _ w s _ c.args.bulk.now c.requires.sizes (g.met.State.BitArray.number_law _);
-      after = is_coder _ _ w s _ c.write.new.self c.requires.sizes (g.met.State.BitArray.number_law _);
+      before = is_coder _ _ w s _ c.args.bulk.now c.requires.sizes (g.met.State.Natural.number_law _);
+      after = is_coder _ _ w s _ c.write.new.self c.requires.sizes (g.met.State.Natural.number_law _);
       pushed = λ valid. rw (c.push_head-2.ensures, shift, c.in-Ok-write.ensures.ok, c.in-Ok.ensures.words, c.narrow.ensures)
           (push_written w s e c.requires.sizes c.requires.step old valid (rw (← above_table w s e c.requires.sizes c.requires.step) high));
       words = rw (le-ltb _ _ owed, c.in-Ok-write.ensures.ok, c.in-Ok.ensures.words, c.narrow.ensures) refl;

@@ -10,14 +10,14 @@ pub shift_left-requires-clause-fits : goal.shift_left-requires-clause-fits
 shift_left-requires-clause-fits g c =
     let is = rw (c.BITS.ensures, c.BITS-2.ensures) at c.shift_right.ensures in
     let none = c.if-not-is_nothing.ensures.0 refl in
-    let room = room_for_word g.State.BitArray.BITS g.Word.BitArray.BITS (g.State.BitArray.number c.args.head) (g.Word.BitArray.number c.in-Ok-Some.word) (omega (arith, c.requires.two_words)) (omega arith) (g.met.Word.BitArray.number_law _) in
+    let room = room_for_word g.State.Natural.BITS g.Word.Natural.BITS (g.State.Natural.number c.args.head) (g.Word.Natural.number c.in-Ok-Some.word) (omega (arith, c.requires.two_words)) (omega arith) (g.met.Word.Natural.number_law _) in
     rw c.BITS-3.ensures (omega arith)
 
 pub plus-requires : goal.plus-requires
 plus-requires g c =
     let is = rw (c.BITS.ensures, c.BITS-2.ensures) at c.shift_right.ensures in
     let none = c.if-not-is_nothing.ensures.0 refl in
-    let room = room_for_word g.State.BitArray.BITS g.Word.BitArray.BITS (g.State.BitArray.number c.args.head) (g.Word.BitArray.number c.in-Ok-Some.word) (omega (arith, c.requires.two_words)) (omega arith) (g.met.Word.BitArray.number_law _) in
+    let room = room_for_word g.State.Natural.BITS g.Word.Natural.BITS (g.State.Natural.number c.args.head) (g.Word.Natural.number c.in-Ok-Some.word) (omega (arith, c.requires.two_words)) (omega arith) (g.met.Word.Natural.number_law _) in
     rw (c.shift_left.ensures, c.BITS-3.ensures, c.widen.ensures) room
 
 pub returns-then-not-is_nothing-clause-list : goal.returns-then-not-is_nothing-clause-list
@@ -55,7 +55,7 @@ returns-clause-list g c = λ list.
     let low = small_of_shr _ _ (sym is ∙ c.if-not-is_nothing.ensures.0 refl) in
     let read = rw c.in-Ok-Some.field-0-is at c.in-Ok-Some.ensures.words in
     let new = rw (c.shift_left.ensures, c.BITS-3.ensures, c.widen.ensures) at c.plus.ensures in
-    rw (read list, new) (refilled_low g.Word.BitArray.BITS g.State.BitArray.BITS (g.State.BitArray.number c.args.head) (g.Word.BitArray.number c.in-Ok-Some.word) (map g.Word.BitArray.number (g.Backend.Holds.words c.read.new.self)) low)
+    rw (read list, new) (refilled_low g.Word.Natural.BITS g.State.Natural.BITS (g.State.Natural.number c.args.head) (g.Word.Natural.number c.in-Ok-Some.word) (map g.Word.Natural.number (g.Backend.Holds.words c.read.new.self)) low)
 
 pub returns-clause-reads : goal.returns-clause-reads
 returns-clause-reads g c =
@@ -68,4 +68,4 @@ returns-clause-reads g c =
 pub returns-clause-low : goal.returns-clause-low
 returns-clause-low g c =
     let new = rw (c.shift_left.ensures, c.BITS-3.ensures, c.widen.ensures) at c.plus.ensures in
-    rw new (sym (mod-mul-add (g.State.BitArray.number c.args.head) (2 ^ g.Word.BitArray.BITS) (g.Word.BitArray.number c.in-Ok-Some.word) (g.met.Word.BitArray.number_law _)))
+    rw new (sym (mod-mul-add (g.State.Natural.number c.args.head) (2 ^ g.Word.Natural.BITS) (g.Word.Natural.number c.in-Ok-Some.word) (g.met.Word.Natural.number_law _)))

@@ -14,9 +14,9 @@ use Rattle.constriction_store.proofs.Store.build.Goals as goal
 
 pub invariant_of-result : goal.invariant_of-result
 invariant_of-result g c =
-    let w = g.Word.BitArray.BITS in
-    let s = g.State.BitArray.BITS in
-    let number = g.Word.BitArray.number in
+    let w = g.Word.Natural.BITS in
+    let s = g.State.Natural.BITS in
+    let number = g.Word.Natural.number in
     let model : Model ℕ = record { precision = g.row.PRECISION; table = g.M.EntropyModel.table c.args.model } in
     let items = c.in-Ok-into_self_delimited.words.items in
     let last : Run = run_by w s c.encode_chunks.new.encoder in
@@ -26,9 +26,9 @@ invariant_of-result g c =
 
 pub returns-in-Ok-into_self_delimited-clause-built : goal.returns-in-Ok-into_self_delimited-clause-built
 returns-in-Ok-into_self_delimited-clause-built g c =
-    let w = g.Word.BitArray.BITS in
-    let s = g.State.BitArray.BITS in
-    let number = g.Word.BitArray.number in
+    let w = g.Word.Natural.BITS in
+    let s = g.State.Natural.BITS in
+    let number = g.Word.Natural.number in
     let model : Model ℕ = record { precision = g.row.PRECISION; table = g.M.EntropyModel.table c.args.model } in
     let items = c.in-Ok-into_self_delimited.words.items in
     let last : Run = run_by w s c.encode_chunks.new.encoder in
@@ -38,9 +38,9 @@ returns-in-Ok-into_self_delimited-clause-built g c =
 
 pub returns-in-Ok-into_self_delimited-clause-chunks : goal.returns-in-Ok-into_self_delimited-clause-chunks
 returns-in-Ok-into_self_delimited-clause-chunks g c =
-    let w = g.Word.BitArray.BITS in
-    let s = g.State.BitArray.BITS in
-    let number = g.Word.BitArray.number in
+    let w = g.Word.Natural.BITS in
+    let s = g.State.Natural.BITS in
+    let number = g.Word.Natural.number in
     let sized = g.met.M.EntropyModel.sized c.args.model in
     let model : Model ℕ = record { precision = g.row.PRECISION; table = g.M.EntropyModel.table c.args.model } in
     let lawful : IsModel w model = record { some_bits = sized.0; within_word = omega (arith, sized.1, g.met.M.Probability.WordOf.width_law); lawful = g.M.EntropyModel.lawful c.args.model } in
@@ -57,8 +57,8 @@ returns-in-Ok-into_self_delimited-clause-chunks g c =
 
 pub returns-in-Err-into_self_delimited-clause-err : goal.returns-in-Err-into_self_delimited-clause-err
 returns-in-Err-into_self_delimited-clause-err g c =
-    let w = g.Word.BitArray.BITS in
-    let s = g.State.BitArray.BITS in
+    let w = g.Word.Natural.BITS in
+    let s = g.State.Natural.BITS in
     let model : Model ℕ = record { precision = g.row.PRECISION; table = g.M.EntropyModel.table c.args.model } in
     let last : Run = run_by w s c.encode_chunks.new.encoder in
     let chunks : List (List ℕ) = lists_of c.args.chunks.now in

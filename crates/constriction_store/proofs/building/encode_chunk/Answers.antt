@@ -7,8 +7,8 @@ use Rattle.constriction_store.proofs.building.encode_chunk.Goals as goal
 
 pub loop-place-preserved : goal.loop-place-preserved
 loop-place-preserved g c =
-    let w = g.Word.BitArray.BITS in
-    let s = g.State.BitArray.BITS in
+    let w = g.Word.Natural.BITS in
+    let s = g.State.Natural.BITS in
     let model : Model ℕ = record { precision = g.row.PRECISION; table = g.M.EntropyModel.table c.args.model.now } in
     let inv = c.loop-place.invariant in
     let symbols = c.args.symbols.now in

@@ -11,8 +11,8 @@ use Rattle.constriction_store.proofs.building.encode_chunks.Goals as goal
 
 pub pos-words-requires : goal.pos-words-requires
 pos-words-requires g c =
-    let w = g.Word.BitArray.BITS in
-    let s = g.State.BitArray.BITS in
+    let w = g.Word.Natural.BITS in
+    let s = g.State.Natural.BITS in
     let model : Model ℕ = record { precision = g.row.PRECISION; table = g.M.EntropyModel.table c.args.model.now } in
     let chunks = c.args.chunks.now in
     let k = c.loop-place.place in
@@ -32,8 +32,8 @@ encode_chunk-requires g c =
 
 pub returns-in-Err-Impossible-clause-err : goal.returns-in-Err-Impossible-clause-err
 returns-in-Err-Impossible-clause-err g c =
-    let w = g.Word.BitArray.BITS in
-    let s = g.State.BitArray.BITS in
+    let w = g.Word.Natural.BITS in
+    let s = g.State.Natural.BITS in
     let model : Model ℕ = record { precision = g.row.PRECISION; table = g.M.EntropyModel.table c.args.model.now } in
     let chunks = c.args.chunks.now in
     let k = c.loop-place.place in
@@ -48,8 +48,8 @@ returns-in-Err-Impossible-clause-err g c =
 
 pub loop-place-preserved : goal.loop-place-preserved
 loop-place-preserved g c =
-    let w = g.Word.BitArray.BITS in
-    let s = g.State.BitArray.BITS in
+    let w = g.Word.Natural.BITS in
+    let s = g.State.Natural.BITS in
     let model : Model ℕ = record { precision = g.row.PRECISION; table = g.M.EntropyModel.table c.args.model.now } in
     let chunks = c.args.chunks.now in
     let k = c.loop-place.place in

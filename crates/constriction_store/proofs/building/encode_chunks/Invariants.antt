@@ -8,8 +8,8 @@ use Rattle.constriction_store.proofs.building.encode_chunks.Given as goal
 -- the chunks so far are encoded, and an entry of each is kept
 abbrev pub invariant-loop-place : goal.invariant-loop-place
 invariant-loop-place g l =
-    let w = g.Word.BitArray.BITS in
-    let s = g.State.BitArray.BITS in
+    let w = g.Word.Natural.BITS in
+    let s = g.State.Natural.BITS in
     let model : Model ℕ = record { precision = g.row.PRECISION; table = g.M.EntropyModel.table l.model } in
     record {
       indexed : Indexes w s model (lists_of (take l.place l.chunks)) (map entry_at l.index.items) (run_by w s l.fn.encoder) (run_by w s l.encoder);

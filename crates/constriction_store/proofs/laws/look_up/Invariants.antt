@@ -9,6 +9,6 @@ use Rattle.constriction_store.proofs.laws.look_up.Given as goal
 abbrev pub invariant-loop-place : goal.invariant-loop-place
 invariant-loop-place g l =
     let model : Model ℕ = record { precision = g.row.PRECISION; table = g.M.EntropyModel.table l.store.model } in
-    HoldsEach g.Word.BitArray.BITS g.State.BitArray.BITS model l.store.words l.store.index (take l.place-index l.places) (lists_of l.found.items)
-    × ((chunks : List (List ℕ)) → HoldsChunks g.Word.BitArray.BITS g.State.BitArray.BITS model l.store.words l.store.index chunks
+    HoldsEach g.Word.Natural.BITS g.State.Natural.BITS model l.store.words l.store.index (take l.place-index l.places) (lists_of l.found.items)
+    × ((chunks : List (List ℕ)) → HoldsChunks g.Word.Natural.BITS g.State.Natural.BITS model l.store.words l.store.index chunks
     → lists_of l.found.items ≡ map (chunk_in chunks) (take l.place-index l.places))

@@ -19,8 +19,8 @@ symbols-init g c = record {
 
 pub returns-in-Err-clause-err : goal.returns-in-Err-clause-err
 returns-in-Err-clause-err g c = λ words there at.
-    let w = g.Word.BitArray.BITS in
-    let s = g.State.BitArray.BITS in
+    let w = g.Word.Natural.BITS in
+    let s = g.State.Natural.BITS in
     let model : Model ℕ = record { precision = g.row.PRECISION; table = g.M.EntropyModel.table c.args.model.now } in
     let here = c.symbols.invariant.read words there at in
     let d = c.symbols.decoder in
@@ -33,8 +33,8 @@ returns-in-Err-clause-err g c = λ words there at.
 
 pub returns-in-Err-Frontend-clause-err : goal.returns-in-Err-Frontend-clause-err
 returns-in-Err-Frontend-clause-err g c = λ words there at.
-    let w = g.Word.BitArray.BITS in
-    let s = g.State.BitArray.BITS in
+    let w = g.Word.Natural.BITS in
+    let s = g.State.Natural.BITS in
     let here = c.symbols.invariant.read words there at in
     let refusal = c.in-Err-Frontend.is ∙ ap Err c.in-Err-Frontend.field-0-is in
     let halted = c.decode_symbol.ensures.variant.0 (rw (only_invalid c.in-Err-Frontend.field-0-0) at refusal) in
@@ -42,8 +42,8 @@ returns-in-Err-Frontend-clause-err g c = λ words there at.
 
 pub symbols-preserved : goal.symbols-preserved
 symbols-preserved g c =
-    let w = g.Word.BitArray.BITS in
-    let s = g.State.BitArray.BITS in
+    let w = g.Word.Natural.BITS in
+    let s = g.State.Natural.BITS in
     let model : Model ℕ = record { precision = g.row.PRECISION; table = g.M.EntropyModel.table c.args.model.now } in
     let d = c.symbols.decoder in
     let one = decoded_by (DecodeCall _ _ _ w s) (λ _ _ _. ⊥) _ _ _ _ _ c.in-Ok.ensures.step in

@@ -8,8 +8,8 @@ use Rattle.constriction_store.proofs.looking_up.decode_chunk.Given as goal
 -- the symbols so far are read, and the decoder is at the moment behind them
 abbrev pub invariant-symbols : goal.invariant-symbols
 invariant-symbols g l =
-    let w = g.Word.BitArray.BITS in
-    let s = g.State.BitArray.BITS in
+    let w = g.Word.Natural.BITS in
+    let s = g.State.Natural.BITS in
     let model : Model ℕ = record { precision = g.row.PRECISION; table = g.M.EntropyModel.table l.model } in
     record {
       count : length l.symbols.items ≡ l.counter;

@@ -7,9 +7,9 @@ use Rattle.constriction_symbol.proofs.emitting.emit_down.Given as goal
 abbrev pub invariant-bits : goal.invariant-bits
 invariant-bits g l = record {
   callable : goal.F-IsAlwaysCallable g l.emit;
-  within : l.left ≤ g.Word.BitArray.BITS;
-  all : (r : _) (last : _) → Emits g.F.FnMut l.emit (reverse (bits_of l.left (g.Word.BitArray.number l.word))) r last
-      → Emits g.F.FnMut l.fn.emit (reverse (bits_of l.count (g.Word.BitArray.number l.word))) r last;
+  within : l.left ≤ g.Word.Natural.BITS;
+  all : (r : _) (last : _) → Emits g.F.FnMut l.emit (reverse (bits_of l.left (g.Word.Natural.number l.word))) r last
+      → Emits g.F.FnMut l.fn.emit (reverse (bits_of l.count (g.Word.Natural.number l.word))) r last;
 }
 
 abbrev pub decreases-bits : goal.decreases-bits

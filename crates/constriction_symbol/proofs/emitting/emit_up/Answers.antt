@@ -6,7 +6,7 @@ use Rattle.constriction_symbol.proofs.emitting.emit_up.Goals as goal
 pub returns-in-Err-clause-emits : goal.returns-in-Err-clause-emits
 returns-in-Err-clause-emits g c =
     let some = count_down _ _ c.loop-index-test.true in
-    c.loop-index.invariant.1 _ _ (emitted_failed g.F.FnMut (low_off _ _ (g.Word.BitArray.number c.loop-index.rest / 2 ^ 1) _ _ some.0 refl c.low_bits.ensures c.is_nothing.ensures) c.in-Err.is c.emit.ensures)
+    c.loop-index.invariant.1 _ _ (emitted_failed g.F.FnMut (low_off _ _ (g.Word.Natural.number c.loop-index.rest / 2 ^ 1) _ _ some.0 refl c.low_bits.ensures c.is_nothing.ensures) c.in-Err.is c.emit.ensures)
 
 pub loop-index-preserved : goal.loop-index-preserved
 loop-index-preserved g c =

@@ -11,7 +11,7 @@ returns-then-length-BITS g c =
 pub returns-in-Err : goal.returns-in-Err
 returns-in-Err g c =
     let is = golomb_before _ _ c.requires.some c.bit_length-length.ensures.below c.bit_length-length.ensures.least in
-    rw is (emits_stopped g.F.FnMut c.args.emit.now _ _ (reverse (bits_of c.bit_length-length.result (g.N.BitArray.number c.args.after))) _ c.in-Err.ensures.emits)
+    rw is (emits_stopped g.F.FnMut c.args.emit.now _ _ (reverse (bits_of c.bit_length-length.result (g.N.Natural.number c.args.after))) _ c.in-Err.ensures.emits)
 
 pub returns : goal.returns
 returns g c =

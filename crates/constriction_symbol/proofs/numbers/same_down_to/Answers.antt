@@ -5,7 +5,7 @@ use Rattle.constriction_symbol.proofs.numbers.same_down_to.Goals as goal
 pub doubled-same-requires : goal.doubled-same-requires
 doubled-same-requires g c =
     let some : 0 < c.bits.left = omega (arith, c.bits-test.true) in
-    down_room g.To.BitArray.BITS c.bits.left (g.From.BitArray.number c.args.number) _ (omega (arith, g.met.To.BitArray.bits_law.0)) some c.requires.fits c.bits.invariant.done
+    down_room g.To.Natural.BITS c.bits.left (g.From.Natural.number c.args.number) _ (omega (arith, g.met.To.Natural.bits_law.0)) some c.requires.fits c.bits.invariant.done
 
 pub bits-preserved : goal.bits-preserved
 bits-preserved g c =
@@ -13,7 +13,7 @@ bits-preserved g c =
     record {
       above = omega (arith, c.bits-test.true);
       within = omega (arith, c.bits.invariant.within);
-      done = down_step c.bits.left (g.From.BitArray.number c.args.number) _ _ _ _ _ some c.bits.invariant.done c.shift_right.ensures c.low_bits.ensures c.is_nothing.ensures c.doubled-same.ensures;
+      done = down_step c.bits.left (g.From.Natural.number c.args.number) _ _ _ _ _ some c.bits.invariant.done c.shift_right.ensures c.low_bits.ensures c.is_nothing.ensures c.doubled-same.ensures;
     }
 
 pub returns : goal.returns

@@ -5,7 +5,7 @@ abbrev pub invariant-bits : goal.invariant-bits
 invariant-bits g l = record {
   above : l.to ≤ l.left;
   within : l.left ≤ l.from;
-  done : g.To.BitArray.number l.same ≡ g.From.BitArray.number l.number / 2 ^ l.left;
+  done : g.To.Natural.number l.same ≡ g.From.Natural.number l.number / 2 ^ l.left;
 }
 
 abbrev pub decreases-bits : goal.decreases-bits

@@ -8,13 +8,13 @@ use Rattle.constriction_symbol.proofs.steps.put_across.Goals as goal
 
 pub returns-in-Err : goal.returns-in-Err
 returns-in-Err g c =
-    let n = g.Word.BitArray.number c.args.bits in
-    let room : g.Word.BitArray.BITS - length c.args.last.now ≡ c.room-room.result = omega (arith, c.room-room.ensures) in
+    let n = g.Word.Natural.number c.args.bits in
+    let room : g.Word.Natural.BITS - length c.args.last.now ≡ c.room-room.result = omega (arith, c.room-room.ensures) in
     let whole : c.room-room.result + (c.args.count - c.room-room.result) ≡ c.args.count = omega (arith, c.room-room.ensures, c.requires.across) in
-    let full = filled_length g.Word.BitArray.BITS c.args.last.now c.fill.new.self n c.room-room.result c.room-room.ensures c.fill.ensures in
+    let full = filled_length g.Word.Natural.BITS c.args.last.now c.fill.new.self n c.room-room.result c.room-room.ensures c.fill.ensures in
     let rest = first_bit (c.args.count - c.room-room.result) (n / 2 ^ c.room-room.result) (omega (arith, c.room-room.ensures, c.requires.across)) in
     let filled : c.fill.new.self ≡ c.args.last.now ++ bits_of c.room-room.result n = rw room at c.fill.ensures in
-    let has : bits_of g.Word.BitArray.BITS (g.Word.BitArray.number c.word.result) ≡ c.fill.new.self = ap (λ k. bits_of k (g.Word.BitArray.number c.word.result)) (sym full) ∙ c.word.ensures.bits in (
+    let has : bits_of g.Word.Natural.BITS (g.Word.Natural.number c.word.result) ≡ c.fill.new.self = ap (λ k. bits_of k (g.Word.Natural.number c.word.result)) (sym full) ∙ c.word.ensures.bits in (
       bits_of c.room-room.result n,
       rest.0,
       rest.1,
@@ -27,18 +27,18 @@ returns-in-Err g c =
 pub push_all-requires-clause-small : goal.push_all-requires-clause-small
 push_all-requires-clause-small g c =
     let within : c.room-room.result ≤ c.args.count = omega (arith, c.room-room.ensures, c.requires.across) in
-    rw c.shift_right.ensures (shr_below_top c.args.count c.room-room.result (g.Word.BitArray.number c.args.bits) within c.requires.small)
+    rw c.shift_right.ensures (shr_below_top c.args.count c.room-room.result (g.Word.Natural.number c.args.bits) within c.requires.small)
 
 pub returns : goal.returns
 returns g c =
-    let n = g.Word.BitArray.number c.args.bits in
-    let room : g.Word.BitArray.BITS - length c.args.last.now ≡ c.room-room.result = omega (arith, c.room-room.ensures) in
+    let n = g.Word.Natural.number c.args.bits in
+    let room : g.Word.Natural.BITS - length c.args.last.now ≡ c.room-room.result = omega (arith, c.room-room.ensures) in
     let whole : c.room-room.result + (c.args.count - c.room-room.result) ≡ c.args.count = omega (arith, c.room-room.ensures, c.requires.across) in
-    let full = filled_length g.Word.BitArray.BITS c.args.last.now c.fill.new.self n c.room-room.result c.room-room.ensures c.fill.ensures in
+    let full = filled_length g.Word.Natural.BITS c.args.last.now c.fill.new.self n c.room-room.result c.room-room.ensures c.fill.ensures in
     let rest = first_bit (c.args.count - c.room-room.result) (n / 2 ^ c.room-room.result) (omega (arith, c.room-room.ensures, c.requires.across)) in
     let filled : c.fill.new.self ≡ c.args.last.now ++ bits_of c.room-room.result n = rw room at c.fill.ensures in
     let begun : c.push_all.new.self ≡ bits_of (c.args.count - c.room-room.result) (n / 2 ^ c.room-room.result) = rw (c.none.ensures, c.shift_right.ensures) at c.push_all.ensures in
-    let has : bits_of g.Word.BitArray.BITS (g.Word.BitArray.number c.word.result) ≡ c.fill.new.self = ap (λ k. bits_of k (g.Word.BitArray.number c.word.result)) (sym full) ∙ c.word.ensures.bits in
+    let has : bits_of g.Word.Natural.BITS (g.Word.Natural.number c.word.result) ≡ c.fill.new.self = ap (λ k. bits_of k (g.Word.Natural.number c.word.result)) (sym full) ∙ c.word.ensures.bits in
     inr (
       bits_of c.room-room.result n,
       rest.0,

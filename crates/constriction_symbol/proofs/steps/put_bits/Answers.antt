@@ -5,6 +5,6 @@ use Rattle.constriction_symbol.proofs.steps.put_bits.Goals as goal
 
 pub returns-then-count-room : goal.returns-then-count-room
 returns-then-count-room g c =
-    let n = g.Word.BitArray.number c.args.bits in
-    let fits : length c.args.last.now + length (bits_of c.args.count n) ≤ g.Word.BitArray.BITS = omega (arith, c.if-count-room.true, c.room.ensures, length_bits c.args.count n) in
+    let n = g.Word.Natural.number c.args.bits in
+    let fits : length c.args.last.now + length (bits_of c.args.count n) ≤ g.Word.Natural.BITS = omega (arith, c.if-count-room.true, c.room.ensures, length_bits c.args.count n) in
     inl (fits, c.push_all.ensures, refl)

@@ -35,6 +35,6 @@ bits-preserved g c =
       fits = rw c.doubled-number.ensures (room_after_bit _ _ _ _ c.bits-test.true h.fits);
       taken = h.taken ++ c.in-Ok.bit ∷ [];
       len = omega (arith, h.len, length-append h.taken (c.in-Ok.bit ∷ []), c.bits-test.true);
-      value = rw (c.doubled-number.ensures, h.value) (sym (number_push (g.N.BitArray.number c.args.start) h.taken c.in-Ok.bit));
+      value = rw (c.doubled-number.ensures, h.value) (sym (number_push (g.N.Natural.number c.args.start) h.taken c.in-Ok.bit));
       gives = gives_then g.I.Iterator.next_gives c.args.source.now c.bits.source c.next_bit.new.source h.taken (c.in-Ok.bit ∷ []) h.gives ok.bit;
     }

@@ -9,10 +9,10 @@ abbrev pub invariant-bits : goal.invariant-bits
 invariant-bits g l = record {
   can : g.I.Iterator.can_next l.source;
   finite : IsFinite (g.I.Iterator.remaining l.fn.source) → IsFinite (g.I.Iterator.remaining l.source);
-  fits : (g.N.BitArray.number l.number + 1) * 2 ^ l.left ≤ 2 ^ g.N.BitArray.BITS;
+  fits : (g.N.Natural.number l.number + 1) * 2 ^ l.left ≤ 2 ^ g.N.Natural.BITS;
   taken : List Bool;
   len : length taken + l.left ≡ l.count;
-  value : g.N.BitArray.number l.number ≡ number_after (g.N.BitArray.number l.fn.start) taken;
+  value : g.N.Natural.number l.number ≡ number_after (g.N.Natural.number l.fn.start) taken;
   gives : YieldsBits g.I.Iterator.next_gives l.fn.source taken l.source;
 }
 

@@ -14,11 +14,11 @@ below_buckets q precision shift within below =
 pub to_index-requires : goal.to_index-requires
 to_index-requires g c =
     let cut = c.args.self.now.cut in
-    omega (arith, c.shift_right.ensures, below_buckets (g.Probability.BitArray.number c.args.quantile) g.row.PRECISION c.args.self.now.shift (omega (arith, cut.0)) c.requires, pow_mono cut.1)
+    omega (arith, c.shift_right.ensures, below_buckets (g.Probability.Natural.number c.args.quantile) g.row.PRECISION c.args.self.now.shift (omega (arith, cut.0)) c.requires, pow_mono cut.1)
 
 pub returns-clause-within : goal.returns-clause-within
 returns-clause-within g c =
-    omega (arith, c.to_index.ensures, c.shift_right.ensures, c.args.self.now.buckets, below_buckets (g.Probability.BitArray.number c.args.quantile) g.row.PRECISION c.args.self.now.shift (omega (arith, c.args.self.now.cut.0)) c.requires)
+    omega (arith, c.to_index.ensures, c.shift_right.ensures, c.args.self.now.buckets, below_buckets (g.Probability.Natural.number c.args.quantile) g.row.PRECISION c.args.self.now.shift (omega (arith, c.args.self.now.cut.0)) c.requires)
 
 -- a quantile is below the end of its bucket
 below_next : (q width k : ℕ) → 0 < width → k ≡ q / width → q < (k + 1) * width

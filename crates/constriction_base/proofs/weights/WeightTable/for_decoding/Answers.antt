@@ -20,7 +20,7 @@ all_sums number ws sums n total limit l s =
     }
 
 pub invariant_of-result-clause-has_symbols : goal.invariant_of-result-clause-has_symbols
-invariant_of-result-clause-has_symbols g c = omega (arith, c.in_ok-starts.ensures.len, length-map c.in_ok-starts.starts.items g.Probability.BitArray.number)
+invariant_of-result-clause-has_symbols g c = omega (arith, c.in_ok-starts.ensures.len, length-map c.in_ok-starts.starts.items g.Probability.Natural.number)
 
 -- the same of the weights as numbers
 number_sums : {W : Type 0} (number : W → ℕ) (ws : List W) (sums : List ℕ) (n total limit : ℕ) → IsLastSymbol number ws n total limit → Sums number (take (n - 1) ws) sums (length (take (n - 1) ws) + 1) → Sums (λ (y : ℕ). y) (map number ws) sums n
@@ -28,13 +28,13 @@ number_sums number ws sums n total limit l s = sums_of_numbers number ws sums n 
 
 pub invariant_of-result-clause-rising : goal.invariant_of-result-clause-rising
 invariant_of-result-clause-rising g c =
-    let number = g.Probability.BitArray.number in
+    let number = g.Probability.Natural.number in
     let l = c.in-Some.ensures.ok in
     sums_rise _ _ _ _ _ (number_sums number _ _ _ _ _ l c.in_ok-starts.ensures) (last_of_numbers number _ _ _ _ l)
 
 pub invariant_of-result-clause-last : goal.invariant_of-result-clause-last
 invariant_of-result-clause-last g c =
-    let number = g.Probability.BitArray.number in
+    let number = g.Probability.Natural.number in
     let l = c.in-Some.ensures.ok in
     let sums = all_sums number _ _ _ _ _ l c.in_ok-starts.ensures in
     let place : length c.in_ok-starts.starts.items - 1 ≡ c.in-Some.known - 1 = omega (arith, sums.len, length-map c.in_ok-starts.starts.items number) in
@@ -42,19 +42,19 @@ invariant_of-result-clause-last g c =
 
 pub returns-clause-ok : goal.returns-clause-ok
 returns-clause-ok g c =
-    let number = g.Probability.BitArray.number in
+    let number = g.Probability.Natural.number in
     let l = c.in-Some.ensures.ok in
     same_table _ _ _ _ _ (number_sums number _ _ _ _ _ l c.in_ok-starts.ensures) (last_of_numbers number _ _ _ _ l)
 
 pub make_rows-requires-clause-rising : goal.make_rows-requires-clause-rising
 make_rows-requires-clause-rising g c =
-    let number = g.Probability.BitArray.number in
+    let number = g.Probability.Natural.number in
     let l = c.in-Some.ensures.ok in
     rw c.deref.ensures.value (sums_rise _ _ _ _ _ (number_sums number _ _ _ _ _ l c.in_ok-starts.ensures) (last_of_numbers number _ _ _ _ l))
 
 pub make_rows-requires-clause-last : goal.make_rows-requires-clause-last
 make_rows-requires-clause-last g c =
-    let number = g.Probability.BitArray.number in
+    let number = g.Probability.Natural.number in
     let l = c.in-Some.ensures.ok in
     let sums = all_sums number _ _ _ _ _ l c.in_ok-starts.ensures in
     let place : length c.in_ok-starts.starts.items - 1 ≡ c.in-Some.known - 1 = omega (arith, sums.len, length-map c.in_ok-starts.starts.items number) in
@@ -99,14 +99,14 @@ pub shift_for-shift-requires-clause-some : goal.shift_for-shift-requires-clause-
 shift_for-shift-requires-clause-some g c = c.in-Some.ensures.ok.some
 
 pub shift_for-shift-requires-clause-within : goal.shift_for-shift-requires-clause-within
-shift_for-shift-requires-clause-within g c = (c.requires.0, omega (arith, c.requires.1, g.met.Probability.BitArray.bits_law.1))
+shift_for-shift-requires-clause-within g c = (c.requires.0, omega (arith, c.requires.1, g.met.Probability.Natural.bits_law.1))
 
 pub make_rows-requires-clause-sized : goal.make_rows-requires-clause-sized
 make_rows-requires-clause-sized g c = c.requires
 
 pub make_rows-requires-clause-few : goal.make_rows-requires-clause-few
 make_rows-requires-clause-few g c =
-    let number = g.Probability.BitArray.number in
+    let number = g.Probability.Natural.number in
     let sums = all_sums number _ _ _ _ _ c.in-Some.ensures.ok c.in_ok-starts.ensures in
     rw c.deref.ensures.value (omega (arith, sums.len, length-map c.in_ok-starts.starts.items number, c.if-known-gt4294967296.false))
 

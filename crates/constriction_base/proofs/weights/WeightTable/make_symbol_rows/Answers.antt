@@ -8,14 +8,14 @@ use Rattle.constriction_base.proofs.weights.WeightTable.make_symbol_rows.Goals a
 pub to_index-requires : goal.to_index-requires
 to_index-requires g c =
     let t = c.args.self.now in
-    let number = g.Probability.BitArray.number in
+    let number = g.Probability.Natural.number in
     let most : 2 ^ g.row.PRECISION ≤ 9223372036854775808 = pow_mono c.requires in
     let inside : c.loop-symbol.symbol < length (map number t.starts.items) = omega (arith, length-map t.starts.items number, c.loop-symbol-test.true, c.len-symbol-end.ensures, t.starts.ok.0) in
     omega (arith, most, c.weight-weight.ensures, weight_within (map number t.starts.items) (2 ^ g.row.PRECISION) c.loop-symbol.symbol t.rising inside)
 
 pub loop-symbol-preserved : goal.loop-symbol-preserved
 loop-symbol-preserved g c =
-    let number = g.Probability.BitArray.number in
+    let number = g.Probability.Natural.number in
     let starts = map number c.args.self.now.starts.items in
     let i = c.loop-symbol.invariant in
     record {

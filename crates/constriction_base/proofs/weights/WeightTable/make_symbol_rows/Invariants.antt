@@ -4,7 +4,7 @@ use Rattle.constriction_base.proofs.weights.WeightTable.make_symbol_rows.Given a
 
 abbrev pub invariant-loop-symbol : goal.invariant-loop-symbol
 invariant-loop-symbol g l =
-    let number = g.Probability.BitArray.number in
+    let number = g.Probability.Natural.number in
     record {
       capacity : vec_capacity l.made ≡ length l.self.starts.items;
       counted : vec_len l.made ≡ l.symbol;

@@ -8,7 +8,7 @@ use Rattle.constriction_base.proofs.weights.WeightTable.search.Goals as goal
 pub loop-high-init : goal.loop-high-init
 loop-high-init g c = record {
   order = c.requires.order;
-  within = omega (arith, c.requires.within, length-map c.args.self.now.starts.items g.Probability.BitArray.number);
+  within = omega (arith, c.requires.within, length-map c.args.self.now.starts.items g.Probability.Natural.number);
   above = c.requires.above;
   below = c.requires.below;
 }
@@ -25,7 +25,7 @@ overflow_add-middle g c = omega (arith, c.loop-high.invariant.order, c.loop-high
 pub start-requires : goal.start-requires
 start-requires g c =
     let i = c.loop-high.invariant in
-    (lit< tt, omega (arith, i.order, i.within, c.loop-high-test.true, length-map c.args.self.now.starts.items g.Probability.BitArray.number))
+    (lit< tt, omega (arith, i.order, i.within, c.loop-high-test.true, length-map c.args.self.now.starts.items g.Probability.Natural.number))
 
 pub loop-high-smaller-then-is_below : goal.loop-high-smaller-then-is_below
 loop-high-smaller-then-is_below g c = omega (arith, c.loop-high.invariant.order, c.loop-high-test.true)
@@ -40,13 +40,13 @@ before_middle starts high q middle start inside is less = omega (arith, is, less
 pub loop-high-preserved-then-is_below : goal.loop-high-preserved-then-is_below
 loop-high-preserved-then-is_below g c =
     let i = c.loop-high.invariant in
-    let starts = map g.Probability.BitArray.number c.args.self.now.starts.items in
+    let starts = map g.Probability.Natural.number c.args.self.now.starts.items in
     let middle : ℕ = c.loop-high.low + (c.loop-high.high - c.loop-high.low) / 2 in
     record {
       order = omega (arith, i.order, c.loop-high-test.true);
       within = omega (arith, i.order, i.within);
       above = i.above;
-      below = before_middle starts (2 ^ g.row.PRECISION) (g.Probability.BitArray.number c.args.quantile) middle _ (omega (arith, i.order, i.within, c.loop-high-test.true)) c.start.ensures (c.is_below.ensures.0 c.if-is_below.true);
+      below = before_middle starts (2 ^ g.row.PRECISION) (g.Probability.Natural.number c.args.quantile) middle _ (omega (arith, i.order, i.within, c.loop-high-test.true)) c.start.ensures (c.is_below.ensures.0 c.if-is_below.true);
     }
 
 pub loop-high-preserved : goal.loop-high-preserved
@@ -62,7 +62,7 @@ loop-high-preserved g c =
 pub returns-clause-within : goal.returns-clause-within
 returns-clause-within g c =
     let i = c.loop-high.invariant in
-    omega (arith, i.order, i.within, length-map c.args.self.now.starts.items g.Probability.BitArray.number)
+    omega (arith, i.order, i.within, length-map c.args.self.now.starts.items g.Probability.Natural.number)
 
 pub returns-clause-above : goal.returns-clause-above
 returns-clause-above g c = c.loop-high.invariant.above
@@ -76,4 +76,4 @@ at_end starts high low top q order done below =
 pub returns-clause-below : goal.returns-clause-below
 returns-clause-below g c =
     let i = c.loop-high.invariant in
-    at_end (map g.Probability.BitArray.number c.args.self.now.starts.items) (2 ^ g.row.PRECISION) c.loop-high.low c.loop-high.high (g.Probability.BitArray.number c.args.quantile) i.order c.loop-high-test.false i.below
+    at_end (map g.Probability.Natural.number c.args.self.now.starts.items) (2 ^ g.row.PRECISION) c.loop-high.low c.loop-high.high (g.Probability.Natural.number c.args.quantile) i.order c.loop-high-test.false i.below

@@ -45,7 +45,7 @@ symbol_from-symbol-requires-clause-above g c =
 
 pub loop-bucket-preserved : goal.loop-bucket-preserved
 loop-bucket-preserved g c =
-    let number = g.Probability.BitArray.number in
+    let number = g.Probability.Natural.number in
     let starts = map number c.args.starts.now in
     let len = length-map c.args.starts.now number in
     let i = c.loop-bucket.invariant in
@@ -60,7 +60,7 @@ loop-bucket-preserved g c =
     let hint : IsHint starts (2 ^ g.row.PRECISION) (c.loop-bucket.bucket * 2 ^ c.args.shift) symbol =
     hint_of starts (2 ^ g.row.PRECISION) (c.loop-bucket.bucket * 2 ^ c.args.shift) symbol (omega (arith, s.within, len)) (omega (arith, s.above, first)) (omega (arith, place)) (λ more. omega (arith, first, s.below (omega (arith, more, len)))) in
     record {
-      first = next_place (number c.loop-bucket.first) (number c.shift_left-width.result) (number c.unit.result) c.args.shift c.loop-bucket.bucket (2 ^ g.Probability.BitArray.BITS) _ first c.unit.ensures c.shift_left-width.ensures c.wrapping_plus-first.ensures;
+      first = next_place (number c.loop-bucket.first) (number c.shift_left-width.result) (number c.unit.result) c.args.shift c.loop-bucket.bucket (2 ^ g.Probability.Natural.BITS) _ first c.unit.ensures c.shift_left-width.ensures c.wrapping_plus-first.ensures;
       known = omega (arith, s.within, len);
       from = omega (arith, s.above, first);
       len = rw c.push_reserved.ensures.items (omega (arith, i.len, length-append rows (row ∷ [])));
@@ -73,7 +73,7 @@ loop-bucket-preserved g c =
 
 pub returns-clause-hints : goal.returns-clause-hints
 returns-clause-hints g c =
-    let number = g.Probability.BitArray.number in
+    let number = g.Probability.Natural.number in
     let starts = map number c.args.starts.now in
     let high = 2 ^ g.row.PRECISION in
     let len = length-map c.args.starts.now number in
@@ -94,13 +94,13 @@ returns-clause-hints g c =
 
 pub returns-clause-rows : goal.returns-clause-rows
 returns-clause-rows g c =
-    let number = g.Probability.BitArray.number in
+    let number = g.Probability.Natural.number in
     rw c.push_reserved-2.ensures.items (rows_push number (map number c.args.starts.now) (2 ^ g.row.PRECISION) c.loop-bucket.rows.items c.make_row-2.result c.loop-bucket.invariant.listed c.make_row-2.ensures.row)
 
 -- ---- sizes
 
 pub overflow_cast-count : goal.overflow_cast-count
-overflow_cast-count g c = omega (arith, c.requires.sized.1, g.met.Probability.BitArray.bits_law.1)
+overflow_cast-count g c = omega (arith, c.requires.sized.1, g.met.Probability.Natural.bits_law.1)
 
 pub overflow_sub-count : goal.overflow_sub-count
 overflow_sub-count g c = omega (arith, c.requires.within.0)
@@ -127,7 +127,7 @@ pub returns-in_err-rows-clause-rows : goal.returns-in_err-rows-clause-rows
 returns-in_err-rows-clause-rows g c = none_made _ _ c.from_residual.ensures.0
 
 pub symbol_from-symbol-requires-clause-within : goal.symbol_from-symbol-requires-clause-within
-symbol_from-symbol-requires-clause-within g c = omega (arith, c.loop-bucket.invariant.known, length-map c.args.starts.now g.Probability.BitArray.number)
+symbol_from-symbol-requires-clause-within g c = omega (arith, c.loop-bucket.invariant.known, length-map c.args.starts.now g.Probability.Natural.number)
 
 pub push_reserved-requires : goal.push_reserved-requires
 push_reserved-requires g c = omega (arith, c.loop-bucket.invariant.counted, c.loop-bucket.invariant.capacity, c.loop-bucket-test.true)
@@ -149,10 +149,10 @@ zero_place width all some =
 
 pub loop-bucket-init : goal.loop-bucket-init
 loop-bucket-init g c =
-    let number = g.Probability.BitArray.number in
+    let number = g.Probability.Natural.number in
     let items = c.in_ok-rows.ensures.items in
     record {
-      first = c.nothing-first.ensures ∙ sym (zero_place (2 ^ c.args.shift) (2 ^ g.Probability.BitArray.BITS) (pow_pos g.Probability.BitArray.BITS));
+      first = c.nothing-first.ensures ∙ sym (zero_place (2 ^ c.args.shift) (2 ^ g.Probability.Natural.BITS) (pow_pos g.Probability.Natural.BITS));
       known = omega (arith, length-map c.args.starts.now number, c.requires.some);
       from = omega (arith, c.requires.rising.first);
       len = ap length items;

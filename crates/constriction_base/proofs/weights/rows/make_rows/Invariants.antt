@@ -6,10 +6,10 @@ use Rattle.constriction_base.proofs.weights.rows.make_rows.Given as goal
 -- the buckets so far have their rows, none with a symbol above the symbol, which begins at or below the next bucket
 abbrev pub invariant-loop-bucket : goal.invariant-loop-bucket
 invariant-loop-bucket g l =
-    let number = g.Probability.BitArray.number in
+    let number = g.Probability.Natural.number in
     let starts = map number l.starts in
     record {
-      first : number l.first ≡ l.bucket * 2 ^ l.shift % 2 ^ g.Probability.BitArray.BITS;
+      first : number l.first ≡ l.bucket * 2 ^ l.shift % 2 ^ g.Probability.Natural.BITS;
       known : l.symbol < length starts;
       from : slice_index starts l.symbol ≤ l.bucket * 2 ^ l.shift;
       len : length l.rows.items ≡ l.bucket;

@@ -7,7 +7,7 @@ abbrev pub invariant-loop-symbol : goal.invariant-loop-symbol
 invariant-loop-symbol g l = record {
   order : l.from ≤ l.symbol;
   within : l.symbol < length l.starts;
-  above : slice_index (map g.Probability.BitArray.number l.starts) l.symbol ≤ g.Probability.BitArray.number l.quantile;
+  above : slice_index (map g.Probability.Natural.number l.starts) l.symbol ≤ g.Probability.Natural.number l.quantile;
 }
 
 abbrev pub decreases-loop-symbol : goal.decreases-loop-symbol

@@ -16,7 +16,7 @@ plus-left-requires g c = grind (arith, nat_tests, pow_mono c.requires.1)
 
 pub loop-i-preserved : goal.loop-i-preserved
 loop-i-preserved g c =
-    let number = g.Probability.BitArray.number in
+    let number = g.Probability.Natural.number in
     let i = c.loop-i.invariant in
     let more = sum_by_more number c.args.weights.now c.loop-i.i c.index-weights-i.result (omega arith) in
     let item = ap number c.index-weights-i.is in
@@ -99,7 +99,7 @@ minus-less-requires g c =
 -- what has the total before it has no weight more
 pub returns-then-known-gt0-clause-none : goal.returns-then-known-gt0-clause-none
 returns-then-known-gt0-clause-none g c = λ all.
-    let number = g.Probability.BitArray.number in
+    let number = g.Probability.Natural.number in
     let weights = c.args.weights.now in
     let some = some_of_test c.is_nothing.result _ c.is_nothing.ensures (search rules) in
     let more = sum_by_more number weights c.loop-i.i c.index-weights-i.result c.loop-i-test.true in
@@ -107,7 +107,7 @@ returns-then-known-gt0-clause-none g c = λ all.
 
 pub returns-then-is_below-clause-none : goal.returns-then-is_below-clause-none
 returns-then-is_below-clause-none g c = λ all.
-    let number = g.Probability.BitArray.number in
+    let number = g.Probability.Natural.number in
     let weights = c.args.weights.now in
     let some = some_of_test c.is_nothing.result _ c.is_nothing.ensures (search rules) in
     let more = sum_by_more number weights c.loop-i.i c.index-weights-i.result c.loop-i-test.true in
@@ -116,7 +116,7 @@ returns-then-is_below-clause-none g c = λ all.
 
 pub returns-then-known-gt0-2-clause-ok : goal.returns-then-known-gt0-2-clause-ok
 returns-then-known-gt0-2-clause-ok g c =
-    let number = g.Probability.BitArray.number in
+    let number = g.Probability.Natural.number in
     let i = c.loop-i.invariant in
     let some = c.if-known-gt0-2.true in
     let all = ap (sum_by number) (take_all c.loop-i.i c.args.weights.now (omega (arith, c.loop-i-test.false))) in
@@ -132,5 +132,5 @@ returns-then-known-gt0-2-clause-ok g c =
 pub returns-else-known-gt0-2-clause-none : goal.returns-else-known-gt0-2-clause-none
 returns-else-known-gt0-2-clause-none g c = λ total.
     let i = c.loop-i.invariant in
-    let all = ap (sum_by g.Probability.BitArray.number) (take_all c.loop-i.i c.args.weights.now (omega (arith, c.loop-i-test.false))) in
+    let all = ap (sum_by g.Probability.Natural.number) (take_all c.loop-i.i c.args.weights.now (omega (arith, c.loop-i-test.false))) in
     omega (arith, total, all, i.small, i.before (omega (arith, c.if-known-gt0-2.false)))

@@ -11,7 +11,7 @@ use Rattle.constriction_base.proofs.weights.starts.starts_of.Goals as goal
 
 pub loop-weight-preserved : goal.loop-weight-preserved
 loop-weight-preserved g c =
-    let number = g.Probability.BitArray.number in
+    let number = g.Probability.Natural.number in
     let i = c.loop-weight.invariant in
     let left : number c.plus-left.result ≡ sum_by number (take (c.loop-weight.weight-index + 1) c.args.weights.now) =
     omega (arith, i.left, c.plus-left.ensures, ap number c.weight-item.is, sum_by_more number c.args.weights.now c.loop-weight.weight-index c.weight-item.result (omega arith)) in
@@ -41,7 +41,7 @@ one_sum number weights first none = record { len = refl; each = each }
 
 pub loop-weight-init : goal.loop-weight-init
 loop-weight-init g c =
-    let number = g.Probability.BitArray.number in
+    let number = g.Probability.Natural.number in
     record {
       left = c.nothing-left.ensures;
       capacity = omega (arith, c.push_reserved.ensures.capacity, c.in_ok-starts.ensures.exact);
@@ -54,7 +54,7 @@ offset_bounds-weights-weight-index g c = omega (arith, c.loop-weight-test.true)
 
 pub plus-left-requires : goal.plus-left-requires
 plus-left-requires g c =
-    let number = g.Probability.BitArray.number in
+    let number = g.Probability.Natural.number in
     let i = c.loop-weight.invariant in
     omega (arith, i.left, ap number c.weight-item.is, sum_by_more number c.args.weights.now c.loop-weight.weight-index c.weight-item.result (omega (arith, c.loop-weight-test.true)), sum_by-take-le number c.args.weights.now (c.loop-weight.weight-index + 1), c.requires.total)
 
@@ -63,6 +63,6 @@ push_reserved-requires-in-loop-weight g c = omega (arith, c.loop-weight.invarian
 
 pub returns : goal.returns
 returns g c =
-    let number = g.Probability.BitArray.number in
+    let number = g.Probability.Natural.number in
     let all : c.loop-weight.weight-index ≡ length c.args.weights.now = omega (arith, c.loop-weight-test.false, c.loop-weight.auto.weight-index-end) in
     subst (λ (n : ℕ). Sums number c.args.weights.now (map number c.loop-weight.starts.items) (n + 1)) all c.loop-weight.invariant.sums

@@ -5,7 +5,7 @@ use Rattle.constriction_base.proofs.weights.starts.starts_of.Given as goal
 
 abbrev pub invariant-loop-weight : goal.invariant-loop-weight
 invariant-loop-weight g l =
-    let number = g.Probability.BitArray.number in
+    let number = g.Probability.Natural.number in
     record {
       left : number l.left ≡ sum_by number (take l.weight-index l.weights);
       capacity : vec_capacity l.starts ≡ length l.weights + 1;

@@ -9,7 +9,7 @@ read number items k word within is = ap number is ∙ sym (get_or-map number ite
 
 pub minus-requires : goal.minus-requires
 minus-requires g c =
-    let number = g.Probability.BitArray.number in
+    let number = g.Probability.Natural.number in
     let items = c.args.starts.now in
     let starts = map number items in
     let len = length-map items number in
@@ -20,7 +20,7 @@ minus-requires g c =
 
 pub returns-then-symbol-starts : goal.returns-then-symbol-starts
 returns-then-symbol-starts g c =
-    let number = g.Probability.BitArray.number in
+    let number = g.Probability.Natural.number in
     let items = c.args.starts.now in
     let starts = map number items in
     let high = 2 ^ g.row.PRECISION in
@@ -32,7 +32,7 @@ returns-then-symbol-starts g c =
 
 pub minus-requires-else-symbol-starts : goal.minus-requires-else-symbol-starts
 minus-requires-else-symbol-starts g c =
-    let number = g.Probability.BitArray.number in
+    let number = g.Probability.Natural.number in
     let items = c.args.starts.now in
     let start = read number items c.args.symbol _ c.requires.within c.index-starts-symbol.is in
     omega (arith, start, c.ones.ensures, c.requires.rising.below c.args.symbol (omega (arith, length-map items number, c.requires.within)))
@@ -40,7 +40,7 @@ minus-requires-else-symbol-starts g c =
 -- the last interval's length fits
 pub plus-requires : goal.plus-requires
 plus-requires g c =
-    let number = g.Probability.BitArray.number in
+    let number = g.Probability.Natural.number in
     let items = c.args.starts.now in
     let starts = map number items in
     let start = read number items c.args.symbol _ c.requires.within c.index-starts-symbol.is in
@@ -51,7 +51,7 @@ plus-requires g c =
 
 pub returns-else-symbol-starts : goal.returns-else-symbol-starts
 returns-else-symbol-starts g c =
-    let number = g.Probability.BitArray.number in
+    let number = g.Probability.Natural.number in
     let items = c.args.starts.now in
     let starts = map number items in
     let high = 2 ^ g.row.PRECISION in

@@ -9,8 +9,8 @@ use Rattle.constriction_calls.proofs.ans.decoding.decode.Goals as goal
 
 pub returns : goal.returns
 returns g c =
-    let w = g.Word.BitArray.BITS in
-    let s = g.State.BitArray.BITS in
+    let w = g.Word.Natural.BITS in
+    let s = g.State.Natural.BITS in
     let P = g.row.PRECISION in
     let coded = g.G.Models.coded c.args.models.now in
     let numbers = g.G.Symbol.Symbol.numbers in
@@ -18,8 +18,8 @@ returns g c =
     let counts = g.G.Symbol.Symbol.count_law in
     let made = c.decode_by.ensures.decoded in
     let within : c.args.len.now ≤ length c.args.words.now = omega (arith, c.if-len-words.false) in
-    let a = ans_state_of g.Word.BitArray.number g.State.BitArray.number (coder_of c.args.head.now c.args.words.now c.args.len.now) in
-    let b = ans_state_of g.Word.BitArray.number g.State.BitArray.number (coder_of c.decode_by.new.head c.args.words.now c.decode_by.new.len) in
+    let a = ans_state_of g.Word.Natural.number g.State.Natural.number (coder_of c.args.head.now c.args.words.now c.args.len.now) in
+    let b = ans_state_of g.Word.Natural.number g.State.Natural.number (coder_of c.decode_by.new.head c.args.words.now c.decode_by.new.len) in
     let all : DecodesAll w s (items P (coded made.0)) a b = rw (c.in-Some.ensures.items made.0 made.1) made.3 in
     let same : (numbers c.decode_by.new.symbols) ≡ made.0 = made.2 ∙ g.met.G.DecoderModels.kept_law c.args.models.now made.0 (c.in_ok-check_for.ensures.fit made.0 made.1) (known_by (IsPop w s) (items P (coded made.0)) a b all) in
     record {

@@ -14,10 +14,10 @@ invariant-items g l =
       same : g.L.ItemList.list_items l.list ≡ items;
       some : 0 < l.rest;
       within : l.rest ≤ length items;
-      valid : IsNormalized g.Word.BitArray.BITS g.State.BitArray.BITS l.coder.state;
-      models : AreModels g.Word.BitArray.BITS (drop l.rest items);
-      coded : EncodesAll g.Word.BitArray.BITS g.State.BitArray.BITS (reverse (drop l.rest items)) l.initial.coder.state l.coder.state;
-      at : HasAt items (l.rest - 1) (HasInterval g.row.PRECISION g.P.BitArray.BITS (g.P.BitArray.number l.found.0) (g.P.BitArray.nonzero_number l.found.1));
+      valid : IsNormalized g.Word.Natural.BITS g.State.Natural.BITS l.coder.state;
+      models : AreModels g.Word.Natural.BITS (drop l.rest items);
+      coded : EncodesAll g.Word.Natural.BITS g.State.Natural.BITS (reverse (drop l.rest items)) l.initial.coder.state l.coder.state;
+      at : HasAt items (l.rest - 1) (HasInterval g.row.PRECISION g.P.Natural.BITS (g.P.Natural.number l.found.0) (g.P.BitArray.nonzero_number l.found.1));
       reciprocal : IfSome l.found.2 (λ r. IsReciprocalOf r (g.P.BitArray.nonzero_number l.found.1));
     }
 

@@ -14,7 +14,7 @@ items-init g c =
       within = omega arith;
       free = omega arith;
       long = refl;
-      valid = record { state = record { fits = g.met.State.BitArray.number_law c.args.head; are_words = tt }; full = inr refl };
+      valid = record { state = record { fits = g.met.State.Natural.number_law c.args.head; are_words = tt }; full = inr refl };
       models = rw end tt;
       coded = rw end refl;
     }
@@ -22,18 +22,18 @@ items-init g c =
 pub overflow_cast-bits : goal.overflow_cast-bits
 overflow_cast-bits g c =
     let items = g.L.ItemList.list_items c.args.list.now in
-    let step = is_step g.Word.BitArray.BITS g.row.PRECISION g.P.BitArray.BITS g.met.P.WordOf.width_law items c.items.rest c.items-test.true _ _ (rw c.items.invariant.same at c.in_ok-found.ensures.found) in
-    omega (arith, step.within_word, g.met.Word.BitArray.bits_law.1)
+    let step = is_step g.Word.Natural.BITS g.row.PRECISION g.P.Natural.BITS g.met.P.WordOf.width_law items c.items.rest c.items-test.true _ _ (rw c.items.invariant.same at c.in_ok-found.ensures.found) in
+    omega (arith, step.within_word, g.met.Word.Natural.bits_law.1)
 
 pub encode_onto-next-requires-clause-step : goal.encode_onto-next-requires-clause-step
 encode_onto-next-requires-clause-step g c =
     let items = g.L.ItemList.list_items c.args.list.now in
-    let step = is_step g.Word.BitArray.BITS g.row.PRECISION g.P.BitArray.BITS g.met.P.WordOf.width_law items c.items.rest c.items-test.true _ _ (rw c.items.invariant.same at c.in_ok-found.ensures.found) in
+    let step = is_step g.Word.Natural.BITS g.row.PRECISION g.P.Natural.BITS g.met.P.WordOf.width_law items c.items.rest c.items-test.true _ _ (rw c.items.invariant.same at c.in_ok-found.ensures.found) in
     rw (c.widen-begin.ensures, c.widen.ensures, c.widen-length.ensures, c.widen-in-items.ensures, c.from_nonzero.ensures) step
 
 pub items-preserved : goal.items-preserved
 items-preserved g c =
-    let w = g.Word.BitArray.BITS in
+    let w = g.Word.Natural.BITS in
     let items = g.L.ItemList.list_items c.args.list.now in
     let kept = c.items.invariant in
     let call = c.encode_onto-next in
@@ -45,6 +45,6 @@ items-preserved g c =
       free = omega (arith, kept.free, call.ensures.more.1, c.items-test.true);
       long = call.auto.words ∙ kept.long;
       valid = pushed.valid;
-      models = models_more w g.row.PRECISION g.P.BitArray.BITS g.met.P.WordOf.width_law items c.items.rest c.items-test.true _ _ at kept.models;
-      coded = codes_more w g.State.BitArray.BITS g.row.PRECISION g.P.BitArray.BITS items c.items.rest c.items-test.true _ _ at _ _ _ kept.coded pushed;
+      models = models_more w g.row.PRECISION g.P.Natural.BITS g.met.P.WordOf.width_law items c.items.rest c.items-test.true _ _ at kept.models;
+      coded = codes_more w g.State.Natural.BITS g.row.PRECISION g.P.Natural.BITS items c.items.rest c.items-test.true _ _ at _ _ _ kept.coded pushed;
     }

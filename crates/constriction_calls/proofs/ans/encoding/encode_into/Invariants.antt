@@ -8,17 +8,17 @@ use Rattle.constriction_calls.proofs.ans.encoding.encode_into.Given as goal
 
 abbrev pub invariant-items : goal.invariant-items
 invariant-items g l =
-    let w = g.Word.BitArray.BITS in
-    let s = g.State.BitArray.BITS in
+    let w = g.Word.Natural.BITS in
+    let s = g.State.Natural.BITS in
     let items = g.L.ItemList.list_items l.fn.list in
     record {
       same : g.L.ItemList.list_items l.list ≡ items;
       within : l.rest ≤ length l.fn.room;
       free : l.len + l.rest ≤ length l.fn.room;
       long : length l.room ≡ length l.fn.room;
-      valid : IsNormalized w s (lane g.Word.BitArray.number g.State.BitArray.number l.top l.room l.len);
+      valid : IsNormalized w s (lane g.Word.Natural.number g.State.Natural.number l.top l.room l.len);
       models : AreModels w (drop l.rest items);
-      coded : EncodesAll w s (reverse (drop l.rest items)) (record { head = g.State.BitArray.number l.fn.head; words = [] }) (lane g.Word.BitArray.number g.State.BitArray.number l.top l.room l.len);
+      coded : EncodesAll w s (reverse (drop l.rest items)) (record { head = g.State.Natural.number l.fn.head; words = [] }) (lane g.Word.Natural.number g.State.Natural.number l.top l.room l.len);
     }
 
 abbrev pub decreases-items : goal.decreases-items

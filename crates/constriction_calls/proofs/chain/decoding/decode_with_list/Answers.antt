@@ -20,17 +20,17 @@ loop-place-preserved g c =
       count = omega (arith, c.push_reserved.ensures.len, kept.count);
       capacity = omega (arith, c.push_reserved.ensures.capacity, kept.capacity);
       taken = rw (c.push_reserved.ensures.items, next)
-          (Trace-more (λ item. ChainDecodesOne g.Word.BitArray.BITS g.State.BitArray.BITS item.model item.symbol) (pairs_of g.row.PRECISION own xs ms) _ c.args.coder.now.state c.loop-place.coder.state
+          (Trace-more (λ item. ChainDecodesOne g.Word.Natural.BITS g.State.Natural.BITS item.model item.symbol) (pairs_of g.row.PRECISION own xs ms) _ c.args.coder.now.state c.loop-place.coder.state
           c.decode_symbol.new.self.state kept.taken (step.0, step.1, step.2, step.3.outcome.decoded tt));
       tables = c.select.ensures.tables ∙ kept.tables;
     }
 
 pub returns-in-Err-Frontend-clause-err : goal.returns-in-Err-Frontend-clause-err
 returns-in-Err-Frontend-clause-err g c =
-    let w = g.Word.BitArray.BITS in
-    let s = g.State.BitArray.BITS in
+    let w = g.Word.Natural.BITS in
+    let s = g.State.Natural.BITS in
     let kept = c.loop-place.invariant in
-    let stop = ends_at g.Word.BitArray.number _ _ _ _ w s g.row.PRECISION _ c.loop-place.coder c.decode_symbol.new.self c.in-Err-Frontend.field-0-0 tt
+    let stop = ends_at g.Word.Natural.number _ _ _ _ w s g.row.PRECISION _ c.loop-place.coder c.decode_symbol.new.self c.in-Err-Frontend.field-0-0 tt
     (rw (c.in-Err-Frontend.is ∙ ap Err c.in-Err-Frontend.field-0-is) at c.decode_symbol.ensures.step) in
     inr (
       refl,

@@ -8,7 +8,7 @@ invariant-loop-place g l =
     record {
       count : length l.symbols.items ≡ l.place;
       capacity : vec_capacity l.symbols ≡ l.fn.count;
-      taken : ChainDecodesAll g.Word.BitArray.BITS g.State.BitArray.BITS (pairs_of g.row.PRECISION (λ (table : List (ℕ × ℕ × ℕ)). table) l.symbols.items (g.L.DecoderModelList.tables l.fn.models))
+      taken : ChainDecodesAll g.Word.Natural.BITS g.State.Natural.BITS (pairs_of g.row.PRECISION (λ (table : List (ℕ × ℕ × ℕ)). table) l.symbols.items (g.L.DecoderModelList.tables l.fn.models))
           l.fn.coder.state l.coder.state;
       tables : g.L.DecoderModelList.tables l.models ≡ g.L.DecoderModelList.tables l.fn.models;
     }

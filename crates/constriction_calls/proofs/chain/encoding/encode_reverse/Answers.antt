@@ -12,6 +12,6 @@ returns-in-Ok g c =
     let right = c.in-Some.ensures.variant.0 refl in
     let now = c.encode_list.new in
     record {
-      call = puts_ended g.Word.BitArray.number g.State.BitArray.number g.Word.BitArray.BITS g.State.BitArray.BITS g.row.PRECISION old within coded (fit_ok g.row.PRECISION coded c.in_ok-check.ensures)
+      call = puts_ended g.Word.Natural.number g.State.Natural.number g.Word.Natural.BITS g.State.Natural.BITS g.row.PRECISION old within coded (fit_ok g.row.PRECISION coded c.in_ok-check.ensures)
           (record { some = right.0; window = right.1 }) _ c.in-Some-list.ensures.items (chain_buffers now.heads now.compressed now.len c.args.remainders.now now.rest) c.in-Ok.ensures;
     }

@@ -7,8 +7,8 @@ use Rattle.constriction_calls.proofs.range.decoding.decode_count.Given as goal
 
 abbrev pub invariant-loop-i : goal.invariant-loop-i
 invariant-loop-i g l =
-    let w = g.Word.BitArray.BITS in
-    let s = g.State.BitArray.BITS in
+    let w = g.Word.Natural.BITS in
+    let s = g.State.Natural.BITS in
     let tables = g.G.DecoderList.DecoderModelList.tables l.initial.list in
     let items = pairs_of g.row.PRECISION (λ (table : List (ℕ × ℕ × ℕ)). table) in
     record {

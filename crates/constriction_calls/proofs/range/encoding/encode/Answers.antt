@@ -6,10 +6,10 @@ use Rattle.constriction_calls.proofs.range.encoding.encode.Goals as goal
 
 pub returns-in-Some : goal.returns-in-Some
 returns-in-Some g c =
-    let number = g.Word.BitArray.number in
-    let state = g.State.BitArray.number in
-    let w = g.Word.BitArray.BITS in
-    let s = g.State.BitArray.BITS in
+    let number = g.Word.Natural.number in
+    let state = g.State.Natural.number in
+    let w = g.Word.Natural.BITS in
+    let s = g.State.Natural.BITS in
     let coded = g.I.Items.coded c.args.items.now in
     let count = g.I.Items.item_count c.args.items.now in
     let old : RangeBuffers g.row.Word.Denot g.row.State.Denot = record { encoder = c.args.encoder.now; words = c.args.buffer.now; len = c.args.len.now } in

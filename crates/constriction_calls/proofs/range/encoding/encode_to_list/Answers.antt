@@ -7,7 +7,7 @@ use Rattle.constriction_calls.proofs.range.encoding.encode_to_list.Goals as goal
 
 pub encode_interval-requires-clause-step : goal.encode_interval-requires-clause-step
 encode_interval-requires-clause-step g c =
-    is_step_at g.Word.BitArray.BITS g.row.PRECISION g.P.BitArray.BITS (g.L.ItemList.list_items c.args.list.now) c.loop-i.i _ _ (rw c.loop-i.invariant.items at c.in_ok-found.ensures.found) g.met.P.WordOf.width_law
+    is_step_at g.Word.Natural.BITS g.row.PRECISION g.P.Natural.BITS (g.L.ItemList.list_items c.args.list.now) c.loop-i.i _ _ (rw c.loop-i.invariant.items at c.in_ok-found.ensures.found) g.met.P.WordOf.width_law
 
 pub encode_interval-requires-clause-symbols_left : goal.encode_interval-requires-clause-symbols_left
 encode_interval-requires-clause-symbols_left g c =
@@ -15,15 +15,15 @@ encode_interval-requires-clause-symbols_left g c =
 
 pub loop-i-preserved : goal.loop-i-preserved
 loop-i-preserved g c =
-    let w = g.Word.BitArray.BITS in
-    let s = g.State.BitArray.BITS in
+    let w = g.Word.Natural.BITS in
+    let s = g.State.Natural.BITS in
     let items = g.L.ItemList.list_items c.args.list.now in
     let kept = c.loop-i.invariant in
     let call = c.in-Ok.ensures in
     record {
       items = c.in_ok-found.ensures.items ∙ kept.items;
       left = omega (arith, kept.left, call.held);
-      narrowed = narrows_more w s g.row.PRECISION g.P.BitArray.BITS items c.loop-i.i _ _ (rw kept.items at c.in_ok-found.ensures.found) (run_by w s c.args.encoder) (run_by w s c.loop-i.encoder) (run_by w s c.encode_interval.new.self) kept.narrowed call.narrowed;
+      narrowed = narrows_more w s g.row.PRECISION g.P.Natural.BITS items c.loop-i.i _ _ (rw kept.items at c.in_ok-found.ensures.found) (run_by w s c.args.encoder) (run_by w s c.loop-i.encoder) (run_by w s c.encode_interval.new.self) kept.narrowed call.narrowed;
     }
 
 pub returns : goal.returns

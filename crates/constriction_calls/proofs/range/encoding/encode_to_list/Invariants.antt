@@ -5,8 +5,8 @@ use Rattle.constriction_calls.proofs.range.encoding.encode_to_list.Given as goal
 
 abbrev pub invariant-loop-i : goal.invariant-loop-i
 invariant-loop-i g l =
-    let w = g.Word.BitArray.BITS in
-    let s = g.State.BitArray.BITS in
+    let w = g.Word.Natural.BITS in
+    let s = g.State.Natural.BITS in
     let all = g.L.ItemList.list_items l.fn.list in
     record {
       items : g.L.ItemList.list_items l.list ≡ all;

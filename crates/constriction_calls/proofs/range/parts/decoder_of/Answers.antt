@@ -5,8 +5,8 @@ use Rattle.constriction_base.proofs.Guards.{map-drop}
 pub returns-in-Ok-from_raw_parts-clause-read : goal.returns-in-Ok-from_raw_parts-clause-read
 returns-in-Ok-from_raw_parts-clause-read g c =
     let d = c.in-Ok-from_raw_parts.decoder in
-    let number = g.Word.BitArray.number in
-    let state = g.State.BitArray.number in
+    let number = g.Word.Natural.number in
+    let state = g.State.Natural.number in
     let lower : d.lower ≡ state c.args.parts.lower = search rules in
     let range : d.range ≡ state c.args.parts.range = search rules in
     let point : d.point ≡ state c.args.parts.point = search rules in

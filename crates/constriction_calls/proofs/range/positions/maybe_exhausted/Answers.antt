@@ -6,10 +6,10 @@ use Rattle.constriction_calls.proofs.range.positions.maybe_exhausted.Goals as go
 
 pub returns-in-Some : goal.returns-in-Some
 returns-in-Some g c =
-    let number = g.Word.BitArray.number in
-    let state = g.State.BitArray.number in
-    let w = g.Word.BitArray.BITS in
-    let s = g.State.BitArray.BITS in
+    let number = g.Word.Natural.number in
+    let state = g.State.Natural.number in
+    let w = g.Word.Natural.BITS in
+    let s = g.State.Natural.BITS in
     let buffer = map number c.args.words.now in
     let d = c.in-Some.reading in
     let within : c.args.decoder.now.pos ≤ length c.args.words.now = omega (arith, c.if-decoder-words.false) in

@@ -8,10 +8,10 @@ use Rattle.constriction_base.proofs.Guards.{map-drop}
 
 pub returns : goal.returns
 returns g c =
-    let number = g.Word.BitArray.number in
-    let state = g.State.BitArray.number in
-    let w = g.Word.BitArray.BITS in
-    let s = g.State.BitArray.BITS in
+    let number = g.Word.Natural.number in
+    let state = g.State.Natural.number in
+    let w = g.Word.Natural.BITS in
+    let s = g.State.Natural.BITS in
     let pos = c.args.pos in
     let words = map number c.args.words.now in
     let part = map number (drop pos c.args.words.now) in
@@ -19,7 +19,7 @@ returns g c =
     let took : take (length c.args.words.now - pos) (drop pos c.args.words.now) ≡ drop pos c.args.words.now =
     take_all (length c.args.words.now - pos) (drop pos c.args.words.now) (omega (arith, length-drop pos c.args.words.now)) in
     let began = subst (λ (ws : List g.row.Word.Denot). RangeBegins number state w s ws begun) took c.from_compressed-begun.ensures.call in
-    let law = g.met.Word.BitArray.number_law in
+    let law = g.met.Word.Natural.number_law in
     let rest : drop (pos + begun.pos) words ≡ drop begun.pos part =
     sym (ap (λ ws. drop begun.pos ws) (map-drop number pos c.args.words.now) ∙ drop-drop begun.pos pos words) in
     let within : pos ≤ length c.args.words.now = omega (arith, c.if-pos-words.false) in

@@ -6,10 +6,10 @@ use Rattle.constriction_calls.proofs.range.words.sealed_count.Goals as goal
 
 pub returns : goal.returns
 returns g c =
-    let number = g.Word.BitArray.number in
-    let state = g.State.BitArray.number in
-    let w = g.Word.BitArray.BITS in
-    let s = g.State.BitArray.BITS in
+    let number = g.Word.Natural.number in
+    let state = g.State.Natural.number in
+    let w = g.Word.Natural.BITS in
+    let s = g.State.Natural.BITS in
     let parts = c.args.parts in
     let least : c.min-held.result ≡ min parts.held 1 = c.min-held.ensures in
     let counted : c.num_words.result ≡ length (sealed w s (run_of_parts number state w s (record { lower = parts.lower; range = parts.range; held = c.min-held.result; first = parts.first }) [])) =

@@ -18,13 +18,13 @@ put_index-requires g c =
 
 pub returns-in-Ok : goal.returns-in-Ok
 returns-in-Ok g c =
-    let number = g.Word.BitArray.number in
+    let number = g.Word.Natural.number in
     let made = c.in-Some in
-    let weights = map g.P.BitArray.number c.args.weights.now in
+    let weights = map g.P.Natural.number c.args.weights.now in
     let fit = c.if-not-fit.ensures.0 refl in
     let same = c.deref-in-Ok.ensures.value in
     record {
-      call = kept_store number g.State.BitArray.number g.Word.BitArray.BITS g.State.BitArray.BITS g.row.PRECISION weights c.args.symbols.now c.args.lengths.now _ fit (search rules)
+      call = kept_store number g.State.Natural.number g.Word.Natural.BITS g.State.Natural.BITS g.row.PRECISION weights c.args.symbols.now c.args.lengths.now _ fit (search rules)
           (map entry_at made.index.items) (map number made.made.items) made.ensures.built _ made.ensures.chunks
           (c.put_index.ensures.positions ∙ ap (λ is. map (λ e. e.place) (map entry_at is)) same)
           (c.put_index.ensures.lowers ∙ ap (λ is. map (λ e. e.lower) (map entry_at is)) same)
@@ -35,13 +35,13 @@ returns-in-Ok g c =
 
 pub returns : goal.returns
 returns g c =
-    let number = g.Word.BitArray.number in
+    let number = g.Word.Natural.number in
     let made = c.in-Some in
-    let weights = map g.P.BitArray.number c.args.weights.now in
+    let weights = map g.P.Natural.number c.args.weights.now in
     let fit = c.if-not-fit.ensures.0 refl in
     let total : IsTotal g.row.PRECISION weights = search rules in
     record {
-      call = space_refused number g.State.BitArray.number g.Word.BitArray.BITS g.State.BitArray.BITS g.row.PRECISION weights c.args.symbols.now c.args.lengths.now _ fit total
+      call = space_refused number g.State.Natural.number g.Word.Natural.BITS g.State.Natural.BITS g.row.PRECISION weights c.args.symbols.now c.args.lengths.now _ fit total
           (map entry_at made.index.items) (map number made.made.items) made.ensures.built _
           (ap (λ ws. record { positions = c.args.positions.now; lowers = c.args.lowers.now; ranges = c.args.ranges.now; words = ws; len = c.args.len.now }) c.in-Err.ensures.kept.0)
           c.in-Err.refusal _ (omega (arith, length-map made.made.items number, ap length c.deref.ensures.value)) c.in-Err.ensures.full c.in-Err.ensures.err;

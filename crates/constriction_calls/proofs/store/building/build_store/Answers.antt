@@ -8,9 +8,9 @@ use Rattle.constriction_calls.proofs.store.building.build_store.Goals as goal
 
 pub returns-in-Ok-build-clause-built : goal.returns-in-Ok-build-clause-built
 returns-in-Ok-build-clause-built g c =
-    let w = g.Word.BitArray.BITS in
-    let s = g.State.BitArray.BITS in
-    let model : Model ℕ = weights_model g.row.PRECISION (map g.P.BitArray.number c.args.weights.now) in
+    let w = g.Word.Natural.BITS in
+    let s = g.State.Natural.BITS in
+    let model : Model ℕ = weights_model g.row.PRECISION (map g.P.Natural.number c.args.weights.now) in
     let store = c.in-Ok-build.store in
     let parts = c.into_parts-words.ensures.parts in
     let by_weights = subst (λ (table : List (ℕ × ℕ × ℕ)). IsBuilt w s (record { precision = g.row.PRECISION; table = table }) (lists_of c.deref.result.now) store.index store.words)

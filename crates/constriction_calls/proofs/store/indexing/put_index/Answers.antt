@@ -11,7 +11,7 @@ loop-i-preserved g c =
     let i = lists.i in
     let kept = lists.invariant in
     let inside : i < length index = omega (arith, c.loop-i-test.true) in
-    let state = g.State.BitArray.number in
+    let state = g.State.Natural.number in
     record {
       places = listed_more (λ (e : Entry). e.place) entry_at index i c.index-index-i.result inside lists.positions _ kept.places refl kept.count;
       lowers_are = numbered_more (λ (e : Entry). e.lower) entry_at index i c.index-index-i-in-loop-i.result inside state lists.lowers _ kept.lowers_are c.lower.ensures kept.count_lowers;

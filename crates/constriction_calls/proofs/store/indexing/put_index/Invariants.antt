@@ -5,7 +5,7 @@ use Rattle.constriction_calls.proofs.store.indexing.put_index.Given as goal
 -- the lists so far are those of the entries so far
 abbrev pub invariant-loop-i : goal.invariant-loop-i
 invariant-loop-i g l =
-    let state = g.State.BitArray.number in
+    let state = g.State.Natural.number in
     record {
       places : take l.i l.positions ≡ map (λ e. e.place) (map entry_at (take l.i l.index));
       lowers_are : map state (take l.i l.lowers) ≡ map (λ e. e.lower) (map entry_at (take l.i l.index));

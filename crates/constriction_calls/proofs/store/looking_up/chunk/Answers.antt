@@ -12,11 +12,11 @@ use Rattle.constriction_calls.proofs.store.looking_up.chunk.Goals as goal
 
 pub returns-in-Ok-decode_count : goal.returns-in-Ok-decode_count
 returns-in-Ok-decode_count g c =
-    let number = g.Word.BitArray.number in
-    let state = g.State.BitArray.number in
-    let w = g.Word.BitArray.BITS in
-    let s = g.State.BitArray.BITS in
-    let weights = map g.P.BitArray.number c.args.weights.now in
+    let number = g.Word.Natural.number in
+    let state = g.State.Natural.number in
+    let w = g.Word.Natural.BITS in
+    let s = g.State.Natural.BITS in
+    let weights = map g.P.Natural.number c.args.weights.now in
     let words = map number c.args.words.now in
     let least : 2 ^ (s - w) ≤ state c.args.range = search rules in
     let there : Run = run_from c.args.pos (lower_of c.in-Ok.state) (range_of c.in-Ok.state) in
@@ -34,11 +34,11 @@ returns-in-Ok-decode_count g c =
 
 pub returns-in-Err : goal.returns-in-Err
 returns-in-Err g c =
-    let number = g.Word.BitArray.number in
-    let state = g.State.BitArray.number in
-    let w = g.Word.BitArray.BITS in
-    let s = g.State.BitArray.BITS in
-    let weights = map g.P.BitArray.number c.args.weights.now in
+    let number = g.Word.Natural.number in
+    let state = g.State.Natural.number in
+    let w = g.Word.Natural.BITS in
+    let s = g.State.Natural.BITS in
+    let weights = map g.P.Natural.number c.args.weights.now in
     let words = map number c.args.words.now in
     let least : 2 ^ (s - w) ≤ state c.args.range = search rules in
     let there : Run = run_from c.args.pos (lower_of c.in-Ok.state) (range_of c.in-Ok.state) in

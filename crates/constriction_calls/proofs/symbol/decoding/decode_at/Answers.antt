@@ -11,10 +11,10 @@ use Rattle.constriction_calls.proofs.symbol.decoding.decode_at.Goals as goal
 
 pub returns-in_err-read_symbols : goal.returns-in_err-read_symbols
 returns-in_err-read_symbols g c =
-    let words = map g.Word.BitArray.number c.args.words.now in
+    let words = map g.Word.Natural.number c.args.words.now in
     let bit = c.args.bit.now in
     let book = g.C.Codes.book c.args.codes.now in
-    let is = subst (λ n. IsBit g.Word.BitArray.BITS n bit) (sym (length-map c.args.words.now g.Word.BitArray.number)) (c.is_bit.ensures.0 c.if-not-is_bit.false) in
+    let is = subst (λ n. IsBit g.Word.Natural.BITS n bit) (sym (length-map c.args.words.now g.Word.Natural.number)) (c.is_bit.ensures.0 c.if-not-is_bit.false) in
     let made = c.in_ok-codebook in
     let code = g.C.Decoder.Codebook.codeword made.codebook in
     let cut = g.C.Decoder.DecoderCodebook.reads_on made.codebook in
@@ -35,16 +35,16 @@ returns-in_err-read_symbols g c =
 
 pub overflow_add-bit : goal.overflow_add-bit
 overflow_add-bit g c =
-    let w = g.Word.BitArray.BITS in
-    let words = map g.Word.BitArray.number c.args.words.now in
+    let w = g.Word.Natural.BITS in
+    let words = map g.Word.Natural.number c.args.words.now in
     let is = c.is_bit.ensures.0 c.if-not-is_bit.false in
-    let all = length_words w words ∙ ap (λ n. n * w) (length-map c.args.words.now g.Word.BitArray.number) in
+    let all = length_words w words ∙ ap (λ n. n * w) (length-map c.args.words.now g.Word.Natural.number) in
     omega (arith, is.0, is.1, all, (c.left-before.ensures ∙ (ap length c.from-bits.ensures ∙ length-drop c.args.bit.now (bits_of_words w words))))
 
 pub returns : goal.returns
 returns g c =
-    let words = map g.Word.BitArray.number c.args.words.now in
-    let is = subst (λ n. IsBit g.Word.BitArray.BITS n c.args.bit.now) (sym (length-map c.args.words.now g.Word.BitArray.number)) (c.is_bit.ensures.0 c.if-not-is_bit.false) in
+    let words = map g.Word.Natural.number c.args.words.now in
+    let is = subst (λ n. IsBit g.Word.Natural.BITS n c.args.bit.now) (sym (length-map c.args.words.now g.Word.Natural.number)) (c.is_bit.ensures.0 c.if-not-is_bit.false) in
     let made = c.in_ok-codebook in
     let e = c.in_ok-read_symbols in
     let rest = c.read_symbols.new.stream in

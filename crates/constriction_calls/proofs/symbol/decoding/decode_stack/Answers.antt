@@ -17,15 +17,15 @@ returns-in-Err-Frontend g c =
       call = record {
         count = refl;
         taken = tt;
-        asked = inr ((asked_ok c.in_ok-codebook.ensures.asks).0, inr (inl (refl, end_in_zero g.Word.BitArray.number words refused.0 _ all refused.1)));
+        asked = inr ((asked_ok c.in_ok-codebook.ensures.asks).0, inr (inl (refl, end_in_zero g.Word.Natural.number words refused.0 _ all refused.1)));
         kept = refl;
       };
     }
 
 pub returns : goal.returns
 returns g c =
-    let w = g.Word.BitArray.BITS in
-    let number = g.Word.BitArray.number in
+    let w = g.Word.Natural.BITS in
+    let number = g.Word.Natural.number in
     let words = c.args.words.now in
     let bits = c.in-Ok.decoder.bits in
     let place = ap (λ q. map number (reverse (reverse (take q.pos q.buf.now)))) c.new_at_write_end.ensures in

@@ -8,8 +8,8 @@ use Rattle.constriction_calls.proofs.symbol.encoding.encode_at.Goals as goal
 
 pub returns-in_err-append : goal.returns-in_err-append
 returns-in_err-append g c =
-    let w = g.Word.BitArray.BITS in
-    let number = g.Word.BitArray.number in
+    let w = g.Word.Natural.BITS in
+    let number = g.Word.Natural.number in
     let words = c.args.words.now in
     let bit = c.args.bit.now in
     let code = codeword_in g.C.Codes.number (g.C.Codes.book c.args.codes.now) in

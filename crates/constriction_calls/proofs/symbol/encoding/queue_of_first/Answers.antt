@@ -5,7 +5,7 @@ use Rattle.constriction_calls.proofs.symbol.encoding.queue_of_first.Goals as goa
 
 pub loop-done-preserved : goal.loop-done-preserved
 loop-done-preserved g c =
-    let all = bits_of_words g.Word.BitArray.BITS (map g.Word.BitArray.number c.args.words.now) in
+    let all = bits_of_words g.Word.Natural.BITS (map g.Word.Natural.number c.args.words.now) in
     let l = c.loop-done in
     let bit = c.in-Ok-Some.bit in
     let rest = c.read_bit.new.self.bits in

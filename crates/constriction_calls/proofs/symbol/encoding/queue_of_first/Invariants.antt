@@ -5,7 +5,7 @@ use Rattle.constriction_calls.proofs.symbol.encoding.queue_of_first.Given as goa
 -- so many bits were copied
 abbrev pub invariant-loop-done : goal.invariant-loop-done
 invariant-loop-done g l =
-    let all = bits_of_words g.Word.BitArray.BITS (map g.Word.BitArray.number l.fn.words) in
+    let all = bits_of_words g.Word.Natural.BITS (map g.Word.Natural.number l.fn.words) in
     record {
       copied : l.queue.bits ≡ take l._done all;
       left : l.bits.bits ≡ drop l._done all;

@@ -11,8 +11,8 @@ use Rattle.constriction_calls.proofs.symbol.encoding.queue_words.Goals as goal
 
 pub returns-in-Ok-into_compressed-clause-words : goal.returns-in-Ok-into_compressed-clause-words
 returns-in-Ok-into_compressed-clause-words g c =
-    let w = g.Word.BitArray.BITS in
-    let number = g.Word.BitArray.number in
+    let w = g.Word.Natural.BITS in
+    let number = g.Word.Natural.number in
     let code = g.C.Encoder.Codebook.codeword c.in_ok-codebook.codebook in
     let symbols = c.args.symbols.now in
     let e = c.in-Ok.ensures in

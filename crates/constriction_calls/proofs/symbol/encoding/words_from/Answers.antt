@@ -6,8 +6,8 @@ use Rattle.constriction_calls.proofs.symbol.encoding.words_from.Goals as goal
 
 pub returns-clause-words : goal.returns-clause-words
 returns-clause-words g c =
-    let w = g.Word.BitArray.BITS in
-    let number = g.Word.BitArray.number in
+    let w = g.Word.Natural.BITS in
+    let number = g.Word.Natural.number in
     let words = c.args.words.now in
     let bit = c.args.bit in
     let first = bit / c.BITS-width.result in

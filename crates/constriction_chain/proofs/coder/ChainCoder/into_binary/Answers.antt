@@ -6,32 +6,32 @@ use Rattle.constriction_chain.proofs.coder.ChainCoder.into_binary.Goals as goal
 
 pub returns-then-not-is_whole-clause-coder : goal.returns-then-not-is_whole-clause-coder
 returns-then-not-is_whole-clause-coder g c =
-    let law = g.met.Word.BitArray.number_law in
+    let law = g.met.Word.Natural.number_law in
     let parts = c.parts.ensures in
-    rw (← c.self.view_is) (coder_of _ _ _ g.Word.BitArray.number law _ _ _ _ _ _ parts.sized parts.some (law _) parts.window)
+    rw (← c.self.view_is) (coder_of _ _ _ g.Word.Natural.number law _ _ _ _ _ _ parts.sized parts.some (law _) parts.window)
 
 pub returns-in_default-clause-coder : goal.returns-in_default-clause-coder
 returns-in_default-clause-coder g c =
-    let law = g.met.Word.BitArray.number_law in
+    let law = g.met.Word.Natural.number_law in
     let parts = c.parts.ensures in
-    rw (← c.self.view_is) (coder_of _ _ _ g.Word.BitArray.number law _ _ _ _ _ _ parts.sized parts.some (law _) parts.window)
+    rw (← c.self.view_is) (coder_of _ _ _ g.Word.Natural.number law _ _ _ _ _ _ parts.sized parts.some (law _) parts.window)
 
 pub returns-in-Ok-clause-coder : goal.returns-in-Ok-clause-coder
 returns-in-Ok-clause-coder g c =
-    let law = g.met.Word.BitArray.number_law in
+    let law = g.met.Word.Natural.number_law in
     let parts = c.parts.ensures in
-    rw (← c.self.view_is) (coder_of _ _ _ g.Word.BitArray.number law _ _ _ _ _ _ parts.sized parts.some (law _) parts.window)
+    rw (← c.self.view_is) (coder_of _ _ _ g.Word.Natural.number law _ _ _ _ _ _ parts.sized parts.some (law _) parts.window)
 
 pub returns-in-Err-clause-coder : goal.returns-in-Err-clause-coder
 returns-in-Err-clause-coder g c =
-    let law = g.met.Word.BitArray.number_law in
+    let law = g.met.Word.Natural.number_law in
     let parts = c.parts.ensures in
-    rw (← c.self.view_is) (coder_of _ _ _ g.Word.BitArray.number law _ _ _ _ _ _ parts.sized parts.some (law _) parts.window)
+    rw (← c.self.view_is) (coder_of _ _ _ g.Word.Natural.number law _ _ _ _ _ _ parts.sized parts.some (law _) parts.window)
 
 pub returns-in-Err-clause-err : goal.returns-in-Err-clause-err
 returns-in-Err-clause-err g c =
     let ones = rw c.parts.ensures.parts at c.in-Some.ensures.value in
-    let refused = not_written g.Word.BitArray.number g.C.Holds g.C.WriteWords _ _ _ _ c.in-Err.ensures.written in
+    let refused = not_written g.Word.Natural.number g.C.Holds g.C.WriteWords _ _ _ _ c.in-Err.ensures.written in
     let refused' = rw c.parts.ensures.parts at refused in
     rw (← c.self.view_is) ((c.if-not-is_whole.ensures.0 refl, (_, ones)), (_, ones, refused'))
 

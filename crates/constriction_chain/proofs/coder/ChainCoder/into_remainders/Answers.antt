@@ -9,9 +9,9 @@ returns-in-Ok-clause-ok g c =
 
 pub returns-in-Ok-clause-coder : goal.returns-in-Ok-clause-coder
 returns-in-Ok-clause-coder g c =
-    let law = g.met.Word.BitArray.number_law in
+    let law = g.met.Word.Natural.number_law in
     let parts = c.parts-h.ensures in
-    rw (← c.self.view_is) (coder_of _ _ _ g.Word.BitArray.number law _ _ _ _ _ _ parts.sized parts.some (law _) parts.window)
+    rw (← c.self.view_is) (coder_of _ _ _ g.Word.Natural.number law _ _ _ _ _ _ parts.sized parts.some (law _) parts.window)
 
 pub returns-in-Err-clause-err : goal.returns-in-Err-clause-err
 returns-in-Err-clause-err g c =
@@ -20,6 +20,6 @@ returns-in-Err-clause-err g c =
 
 pub returns-in-Err-clause-coder : goal.returns-in-Err-clause-coder
 returns-in-Err-clause-coder g c =
-    let law = g.met.Word.BitArray.number_law in
+    let law = g.met.Word.Natural.number_law in
     let parts = c.parts-h.ensures in
-    rw (← c.self.view_is) (coder_of _ _ _ g.Word.BitArray.number law _ _ _ _ _ _ parts.sized parts.some (law _) parts.window)
+    rw (← c.self.view_is) (coder_of _ _ _ g.Word.Natural.number law _ _ _ _ _ _ parts.sized parts.some (law _) parts.window)

@@ -4,7 +4,7 @@ use Rattle.constriction_chain.proofs.coder.ChainCoderClone.clone.Goals as goal
 
 pub returns : goal.returns
 returns g c =
-    let law = g.met.Word.BitArray.number_law in
+    let law = g.met.Word.Natural.number_law in
     let parts = c.parts-rest.ensures in
     rw (← c.self.view_is, c.of.ensures, parts.parts)
-    (record { cases = (c.in_ok-compressed.ensures.cases, c.in_ok-remainders.ensures.cases, refl, refl, coder_of _ _ _ g.Word.BitArray.number law _ _ _ _ _ _ parts.sized parts.some (law _) parts.window) })
+    (record { cases = (c.in_ok-compressed.ensures.cases, c.in_ok-remainders.ensures.cases, refl, refl, coder_of _ _ _ g.Word.Natural.number law _ _ _ _ _ _ parts.sized parts.some (law _) parts.window) })

@@ -4,6 +4,6 @@ use Rattle.constriction_chain.proofs.coder.ChainCoderCode.state.Goals as goal
 
 pub returns : goal.returns
 returns g c =
-    let law = g.met.Word.BitArray.number_law in
+    let law = g.met.Word.Natural.number_law in
     let parts = c.parts-compressed.ensures in
-    rw (← c.self.view_is, c.of.ensures, parts.parts) (refl, refl, coder_of _ _ _ g.Word.BitArray.number law _ _ _ _ _ _ parts.sized parts.some (law _) parts.window)
+    rw (← c.self.view_is, c.of.ensures, parts.parts) (refl, refl, coder_of _ _ _ g.Word.Natural.number law _ _ _ _ _ _ parts.sized parts.some (law _) parts.window)

@@ -6,6 +6,6 @@ use Rattle.constriction_inputs.proofs.intervals.CheckedIntervalsItemList.count.G
 pub returns : goal.returns
 returns g c =
     let list = c.args.self.now in
-    let number = g.P.BitArray.number in
+    let number = g.P.Natural.number in
     let same = length-map list.lefts.now number ∙ (list.same ∙ sym (length-map list.ps.now number)) in
     omega (arith, items_counted g.row.PRECISION (map number list.lefts.now) (map number list.ps.now) same, length-map list.lefts.now number)

@@ -6,7 +6,7 @@ use Rattle.constriction_inputs.proofs.intervals.IntervalsItems.list.Goals as goa
 pub invariant_of-result : goal.invariant_of-result
 invariant_of-result g c =
     let list = c.args.self.now in
-    let number = g.P.BitArray.number in
+    let number = g.P.Natural.number in
     let fit = c.requires.fit in
     let long = length-map list.lefts.now number in
     let each : (k : ℕ) → k < length list.lefts.now → (0 < get_or (map number list.ps.now) k 0) × (get_or (map number list.lefts.now) k 0 + get_or (map number list.ps.now) k 0 ≤ 2 ^ g.row.PRECISION) =
@@ -22,6 +22,6 @@ invariant_of-result g c =
 pub returns-clause-count : goal.returns-clause-count
 returns-clause-count g c =
     let list = c.args.self.now in
-    let number = g.P.BitArray.number in
+    let number = g.P.Natural.number in
     let same = c.requires.fit.0 in
     omega (arith, items_counted g.row.PRECISION (map number list.lefts.now) (map number list.ps.now) same, same, length-map list.ps.now number)

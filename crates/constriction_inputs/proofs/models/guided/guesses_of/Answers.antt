@@ -19,7 +19,7 @@ loop-bucket-init g c =
       as_many = omega (arith, c.in_ok-symbols.ensures.len);
       within = omega arith;
       left = c.nothing-start.ensures;
-      are = no_guesses g.P.BitArray.number c.args.weights.now intervals symbols c.in_ok-intervals.ensures.items c.in_ok-symbols.ensures.items;
+      are = no_guesses g.P.Natural.number c.args.weights.now intervals symbols c.in_ok-intervals.ensures.items c.in_ok-symbols.ensures.items;
     }
 
 pub loop-bucket-preserved : goal.loop-bucket-preserved
@@ -34,5 +34,5 @@ loop-bucket-preserved g c =
       as_many = omega (arith, c.push_reserved-in-loop-bucket.ensures.len, i.as_many);
       within = omega (arith, is.within);
       left = is.left;
-      are = rw (c.push_reserved.ensures.items, c.push_reserved-in-loop-bucket.ensures.items) (guesses_push g.P.BitArray.number c.args.weights.now l.intervals.items l.symbols.items _ _ i.are (record { within = is.within; left = is.left; weight = is.value }));
+      are = rw (c.push_reserved.ensures.items, c.push_reserved-in-loop-bucket.ensures.items) (guesses_push g.P.Natural.number c.args.weights.now l.intervals.items l.symbols.items _ _ i.are (record { within = is.within; left = is.left; weight = is.value }));
     }

@@ -5,7 +5,7 @@ use Rattle.constriction_inputs.proofs.models.guided.guesses_of.Given as goal
 
 abbrev pub invariant-loop-bucket : goal.invariant-loop-bucket
 invariant-loop-bucket g l =
-    let number = g.P.BitArray.number in
+    let number = g.P.Natural.number in
     record {
       room : vec_capacity l.intervals ≡ l.count;
       counted : vec_len l.intervals ≡ l._bucket;

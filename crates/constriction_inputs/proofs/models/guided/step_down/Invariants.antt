@@ -5,7 +5,7 @@ use Rattle.constriction_inputs.proofs.models.guided.step_down.Given as goal
 abbrev pub invariant-loop-quantile : goal.invariant-loop-quantile
 invariant-loop-quantile g l = record {
   order : l.symbol ≤ l.fn.from;
-  left : g.P.BitArray.number l.start ≡ sum_by g.P.BitArray.number (take l.symbol l.weights);
+  left : g.P.Natural.number l.start ≡ sum_by g.P.Natural.number (take l.symbol l.weights);
 }
 
 abbrev pub decreases-loop-quantile : goal.decreases-loop-quantile

@@ -5,7 +5,7 @@ use Rattle.constriction_inputs.proofs.models.guided.symbol_rows_of.Given as goal
 
 abbrev pub invariant-loop-symbol : goal.invariant-loop-symbol
 invariant-loop-symbol g l =
-    let number = g.P.BitArray.number in
+    let number = g.P.Natural.number in
     record {
       capacity : vec_capacity l.rows ≡ length l.weights;
       counted : vec_len l.rows ≡ l.symbol;

@@ -17,7 +17,7 @@ weights_at-row-requires g c =
 pub model_by-requires : goal.model_by-requires
 model_by-requires g c =
     let given = c.args in
-    let number = g.P.BitArray.number in
+    let number = g.P.Natural.number in
     let total : IsTotal g.row.PRECISION (map number c.weights_at-row.result.now) =
     rw c.weights_at-row.ensures (each_total g.row.PRECISION given.width (map number given.weights.now) given.tables c.requires.totals c.loop-index.index c.loop-index-test.true) in
     search rules
@@ -26,7 +26,7 @@ pub loop-index-preserved : goal.loop-index-preserved
 loop-index-preserved g c =
     let given = c.args in
     let l = c.loop-index in
-    let number = g.P.BitArray.number in
+    let number = g.P.Natural.number in
     let more = map-range_with_len_more (λ index. table_of (row_at_index given.width index (map number given.weights.now))) 0 l.index l.index (omega arith) in
     record {
       tables = rw c.push_reserved.ensures.items

@@ -7,8 +7,8 @@ use Rattle.constriction_inputs.proofs.models.indexed.models_by.Given as goal
 
 abbrev pub invariant-loop-index : goal.invariant-loop-index
 invariant-loop-index g l = record {
-  tables : map (λ m. of_either (λ guided. table_of (map g.P.BitArray.number guided.row.weights.now)) (λ row. table_of (map g.P.BitArray.number row.weights.now)) m.model) l.models.items
-      ≡ map (λ index. table_of (row_at_index l.width index (map g.P.BitArray.number l.weights))) (range_with_len 0 l.index);
+  tables : map (λ m. of_either (λ guided. table_of (map g.P.Natural.number guided.row.weights.now)) (λ row. table_of (map g.P.Natural.number row.weights.now)) m.model) l.models.items
+      ≡ map (λ index. table_of (row_at_index l.width index (map g.P.Natural.number l.weights))) (range_with_len 0 l.index);
   counted : vec_len l.models ≡ l.index;
   capacity : vec_capacity l.models ≡ l.tables;
 }

@@ -3,4 +3,4 @@ use Rattle.constriction_inputs.proofs.RowTables.{row_numbers}
 use Rattle.constriction_inputs.proofs.models.indexed.weights_at.Goals as goal
 
 pub returns : goal.returns
-returns g c = row_numbers g.P.BitArray.number c.args.weights.now (c.args.width * c.args.index) c.args.width
+returns g c = row_numbers g.P.Natural.number c.args.weights.now (c.args.width * c.args.index) c.args.width

@@ -11,9 +11,9 @@ more number ws ns i w within within' is before =
 pub loop-i-preserved : goal.loop-i-preserved
 loop-i-preserved g c =
     let within : c.loop-i.i < length c.args.made.now = omega arith in
-    let fits : get_or c.args.made.now c.loop-i.i 0 < 2 ^ g.P.BitArray.BITS = c.requires.fit c.loop-i.i within in
+    let fits : get_or c.args.made.now c.loop-i.i 0 < 2 ^ g.P.Natural.BITS = c.requires.fit c.loop-i.i within in
     let low : get_or c.args.made.now c.loop-i.i 0 < 4294967296 = omega (arith, c.type_inv.made c.loop-i.i) in
     record {
-      done = more g.P.BitArray.number c.loop-i.weights c.args.made.now c.loop-i.i c.narrow.result (omega arith) within (c.narrow.ensures ∙ ap (λ (n : ℕ). n % 2 ^ g.P.BitArray.BITS) (mod-eq_of_lt low) ∙ mod-eq_of_lt fits) c.loop-i.invariant.done;
+      done = more g.P.Natural.number c.loop-i.weights c.args.made.now c.loop-i.i c.narrow.result (omega arith) within (c.narrow.ensures ∙ ap (λ (n : ℕ). n % 2 ^ g.P.Natural.BITS) (mod-eq_of_lt low) ∙ mod-eq_of_lt fits) c.loop-i.invariant.done;
       counted = search rules;
     }

@@ -11,9 +11,9 @@ at_most precision n few h =
 
 pub returns-in-Ok : goal.returns-in-Ok
 returns-in-Ok g c =
-    let old = map g.P.BitArray.number c.args.weights.now in
-    let new = map g.P.BitArray.number c.put_weights_of_counts.new.weights in
-    let same : length old ≡ length c.args.floats.now = length-map c.args.weights.now g.P.BitArray.number ∙ omega (arith, c.if-weights-floats.false) in
+    let old = map g.P.Natural.number c.args.weights.now in
+    let new = map g.P.Natural.number c.put_weights_of_counts.new.weights in
+    let same : length old ≡ length c.args.floats.now = length-map c.args.weights.now g.P.Natural.number ∙ omega (arith, c.if-weights-floats.false) in
     let few : length c.args.floats.now ≤ 2 ^ g.row.PRECISION = at_most g.row.PRECISION (length c.args.floats.now) (omega arith) c.if-floats.false in
     record {
       call = weights_by_counts c.in-Ok.counts g.row.PRECISION c.args.floats.now c.deref.result.now old new c.put_weights_of_counts.result (c.deref.ensures.value ∙ c.in-Ok.ensures.counts) same few c.in-Ok.ensures.invalid c.in-Ok.ensures.empty c.put_weights_of_counts.ensures.call;

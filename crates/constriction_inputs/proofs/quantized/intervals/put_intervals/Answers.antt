@@ -24,7 +24,7 @@ unwrap-left-requires g c =
 pub loop-i-preserved : goal.loop-i-preserved
 loop-i-preserved g c =
     let i : ℕ = c.loop-i.i in
-    let number = g.P.BitArray.number in
+    let number = g.P.Natural.number in
     let low = first_symbol c.args.quantizer.now in
     let count = symbol_count c.args.quantizer.now in
     let symbol : ℕ = get_or c.args.symbols.now i 0 in
@@ -46,5 +46,5 @@ pub returns : goal.returns
 returns g c =
     let low = first_symbol c.args.quantizer.now in
     let count = symbol_count c.args.quantizer.now in
-    intervals_all g.P.BitArray.number g.row.PRECISION (Some c.args.family) low count c.args.locations.now c.args.scales.now c.args.symbols.now c.requires.counted.0 c.requires.counted.1 c.loop-i.lefts c.loop-i.ps c.loop-i.i
+    intervals_all g.P.Natural.number g.row.PRECISION (Some c.args.family) low count c.args.locations.now c.args.scales.now c.args.symbols.now c.requires.counted.0 c.requires.counted.1 c.loop-i.lefts c.loop-i.ps c.loop-i.i
     (omega (arith, c.loop-i-test.false)) c.loop-i.invariant.lefts_counted c.loop-i.invariant.ps_counted c.loop-i.invariant.done

@@ -5,7 +5,7 @@ use Rattle.constriction_inputs.proofs.rows.adding.are_totals.Goals as goal
 
 pub returns-then-not-is_total : goal.returns-then-not-is_total
 returns-then-not-is_total g c =
-    let number = g.P.BitArray.number in
+    let number = g.P.Natural.number in
     let l = c.loop-done in
     let more : c.args.count - l._done ≡ suc (c.args.count - (l._done + 1)) = omega (arith, c.loop-done-test.true) in
     not_all c.is_total.result _ _ c.is_total.ensures (search rules)
@@ -14,7 +14,7 @@ returns-then-not-is_total g c =
 
 pub loop-done-preserved : goal.loop-done-preserved
 loop-done-preserved g c =
-    let number = g.P.BitArray.number in
+    let number = g.P.Natural.number in
     let l = c.loop-done in
     let all = map number c.args.weights.now in
     let next = c.args.count - (l._done + 1) in

@@ -3,4 +3,4 @@ use Rattle.std.specs.Prelude.{sum_by}
 use Rattle.constriction_inputs.proofs.rows.adding.sum_before.Given as goal
 
 abbrev pub invariant-loop-i : goal.invariant-loop-i
-invariant-loop-i g l = record { sum : g.P.BitArray.number l.sum ≡ sum_by g.P.BitArray.number (take l.i l.weights) }
+invariant-loop-i g l = record { sum : g.P.Natural.number l.sum ≡ sum_by g.P.Natural.number (take l.i l.weights) }

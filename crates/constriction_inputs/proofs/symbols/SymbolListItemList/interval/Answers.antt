@@ -25,7 +25,7 @@ returns-in-Some-clause-found g c =
     let xs = g.S.Symbol.numbers list.symbols.now in
     let tables = g.L.ModelList.tables list.models in
     let count = pairs_counted g.row.PRECISION (λ (t : List (ℕ × ℕ × ℕ)). t) xs tables in
-    pair_has g.row.PRECISION xs tables c.args.place (HasInterval g.row.PRECISION g.P.BitArray.BITS _ _) (omega (arith, c.requires, count)) (omega (arith, c.requires, count))
+    pair_has g.row.PRECISION xs tables c.args.place (HasInterval g.row.PRECISION g.P.Natural.BITS _ _) (omega (arith, c.requires, count)) (omega (arith, c.requires, count))
     (refl, rw c.number_at-symbol.ensures at c.in-Some.ensures.found)
 
 pub returns-in-None-clause-impossible : goal.returns-in-None-clause-impossible

@@ -14,9 +14,9 @@ use Rattle.constriction_laws.proofs.bounds.words.exchange.Goals as goal
 
 pub returns-clause-net : goal.returns-clause-net
 returns-clause-net g c =
-    let w = g.Word.BitArray.BITS in
-    let s = g.State.BitArray.BITS in
-    let number = g.Word.BitArray.number in
+    let w = g.Word.Natural.BITS in
+    let s = g.State.Natural.BITS in
+    let number = g.Word.Natural.number in
     let off : Model g.row.D-Symbol.Denot = record { precision = g.row.PRECISION; table = g.D.EntropyModel.table c.args.off.now } in
     let on : Model g.row.E-Symbol.Denot = record { precision = g.row.PRECISION; table = g.E.EntropyModel.table c.args.on.now } in
     let off_sized = g.met.D.EntropyModel.sized c.args.off.now in
@@ -32,7 +32,7 @@ returns-clause-net g c =
     let valid : IsNormalized w s old = record {
       state = record {
         fits = coder.head_fits;
-        are_words = subst (λ (ws : List ℕ). AreWords w ws) (sym coder.words_are) (words_of_numbers number w g.met.Word.BitArray.number_law (g.Backend.Holds.words c.args.coder.now.backend));
+        are_words = subst (λ (ws : List ℕ). AreWords w ws) (sym coder.words_are) (words_of_numbers number w g.met.Word.Natural.number_law (g.Backend.Holds.words c.args.coder.now.backend));
       };
       full = inl full;
     } in
@@ -55,9 +55,9 @@ returns-clause-net g c =
 
 pub returns-clause-done : goal.returns-clause-done
 returns-clause-done g c =
-    let w = g.Word.BitArray.BITS in
-    let s = g.State.BitArray.BITS in
-    let number = g.Word.BitArray.number in
+    let w = g.Word.Natural.BITS in
+    let s = g.State.Natural.BITS in
+    let number = g.Word.Natural.number in
     let off : Model g.row.D-Symbol.Denot = record { precision = g.row.PRECISION; table = g.D.EntropyModel.table c.args.off.now } in
     let on : Model g.row.E-Symbol.Denot = record { precision = g.row.PRECISION; table = g.E.EntropyModel.table c.args.on.now } in
     let off_sized = g.met.D.EntropyModel.sized c.args.off.now in
@@ -71,7 +71,7 @@ returns-clause-done g c =
     let valid : IsNormalized w s old = record {
       state = record {
         fits = coder.head_fits;
-        are_words = subst (λ (ws : List ℕ). AreWords w ws) (sym coder.words_are) (words_of_numbers number w g.met.Word.BitArray.number_law (g.Backend.Holds.words c.args.coder.now.backend));
+        are_words = subst (λ (ws : List ℕ). AreWords w ws) (sym coder.words_are) (words_of_numbers number w g.met.Word.Natural.number_law (g.Backend.Holds.words c.args.coder.now.backend));
       };
       full = inl full;
     } in
@@ -87,15 +87,15 @@ returns-clause-done g c =
 pub returns-in_default-clause-err : goal.returns-in_default-clause-err
 returns-in_default-clause-err g c =
     let full = rw c.state.ensures.0 at c.if-is_low.ensures in
-    let kept = refused_decode g.Word.BitArray.number g.Backend.Holds g.Backend.ReadWords g.Word.BitArray.BITS g.State.BitArray.BITS g.row.PRECISION (g.D.EntropyModel.table c.args.off.now)
+    let kept = refused_decode g.Word.Natural.number g.Backend.Holds g.Backend.ReadWords g.Word.Natural.BITS g.State.Natural.BITS g.row.PRECISION (g.D.EntropyModel.table c.args.off.now)
     c.args.coder.now c.decode_symbol.new.self c.in_default.field-0 g.met.Backend.WriteWords.knows_words c.in_default.ensures.step in
     inl (full, kept, c.in_default.field-0, c.in_default.ensures.step)
 
 pub returns-in-Err-Backend-clause-err : goal.returns-in-Err-Backend-clause-err
 returns-in-Err-Backend-clause-err g c =
-    let w = g.Word.BitArray.BITS in
-    let s = g.State.BitArray.BITS in
-    let number = g.Word.BitArray.number in
+    let w = g.Word.Natural.BITS in
+    let s = g.State.Natural.BITS in
+    let number = g.Word.Natural.number in
     let off : Model g.row.D-Symbol.Denot = record { precision = g.row.PRECISION; table = g.D.EntropyModel.table c.args.off.now } in
     let old : AnsState = c.args.coder.now.state in
     let full : 2 ^ (s - w) ≤ old.head = rw c.state.ensures.0 at c.if-is_low.ensures in

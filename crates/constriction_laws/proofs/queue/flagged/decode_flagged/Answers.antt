@@ -15,14 +15,14 @@ decode-init g c =
       count = rw c.new-symbols.ensures.items refl;
       flag = refl;
       switched = rw c.new-symbols.ensures.items (sym (or_none c.args.switch.now.switched));
-      taken = rw c.new-symbols.ensures.items (taken_none g.Word.BitArray.number g.Backend.Holds g.Backend.ReadWords g.Word.BitArray.BITS g.State.BitArray.BITS c.args.switch.now.flag first second c.args.switch.now.switched c.args.switch.now.decoder);
-      read = λ known words old at. (old, rw c.new-symbols.ensures.items (none_behind g.Word.BitArray.BITS g.State.BitArray.BITS words c.args.switch.now.flag first second c.args.switch.now.switched old), at);
+      taken = rw c.new-symbols.ensures.items (taken_none g.Word.Natural.number g.Backend.Holds g.Backend.ReadWords g.Word.Natural.BITS g.State.Natural.BITS c.args.switch.now.flag first second c.args.switch.now.switched c.args.switch.now.decoder);
+      read = λ known words old at. (old, rw c.new-symbols.ensures.items (none_behind g.Word.Natural.BITS g.State.Natural.BITS words c.args.switch.now.flag first second c.args.switch.now.switched old), at);
     }
 
 pub decode-preserved : goal.decode-preserved
 decode-preserved g c =
-    let w = g.Word.BitArray.BITS in
-    let s = g.State.BitArray.BITS in
+    let w = g.Word.Natural.BITS in
+    let s = g.State.Natural.BITS in
     let first : Model ℕ = record { precision = g.row.P1; table = g.M1.EntropyModel.table c.args.first.now } in
     let second : Model ℕ = record { precision = g.row.P2; table = g.M2.EntropyModel.table c.args.second.now } in
     let inv = c.decode.invariant in
@@ -35,19 +35,19 @@ decode-preserved g c =
       count = omega (arith, ap length items, length-append so_far (symbol ∷ []), inv.count);
       flag = c.in-Ok.ensures.flag ∙ inv.flag;
       switched = rw items (c.in-Ok.ensures.switched ∙ ap₂ (λ (b : Bool) (f : ℕ). b || symbol == f) inv.switched inv.flag ∙ switched_more before flag so_far symbol);
-      taken = rw items (decodes_behind g.Word.BitArray.number g.Backend.Holds g.Backend.ReadWords w s flag first second before so_far symbol c.args.switch.now.decoder c.decode.switch.decoder c.next_symbol.new.self.decoder inv.taken
-          (subst (λ (b : Bool). DecodesUnder g.Word.BitArray.number g.Backend.Holds g.Backend.ReadWords w s (next_model b first second) c.decode.switch.decoder (Ok symbol) c.next_symbol.new.self.decoder) inv.switched c.in-Ok.ensures.step));
+      taken = rw items (decodes_behind g.Word.Natural.number g.Backend.Holds g.Backend.ReadWords w s flag first second before so_far symbol c.args.switch.now.decoder c.decode.switch.decoder c.next_symbol.new.self.decoder inv.taken
+          (subst (λ (b : Bool). DecodesUnder g.Word.Natural.number g.Backend.Holds g.Backend.ReadWords w s (next_model b first second) c.decode.switch.decoder (Ok symbol) c.next_symbol.new.self.decoder) inv.switched c.in-Ok.ensures.step));
       read = λ known words old at.
           let here = inv.read known words old at in
-          let next = decode_of DecoderFrontendError g.Word.BitArray.number g.Backend.Holds g.Backend.ReadWords w s words known (next_model c.decode.switch.switched first second) symbol here.0 c.decode.switch.decoder c.next_symbol.new.self.decoder here.2 c.in-Ok.ensures.step in
+          let next = decode_of DecoderFrontendError g.Word.Natural.number g.Backend.Holds g.Backend.ReadWords w s words known (next_model c.decode.switch.switched first second) symbol here.0 c.decode.switch.decoder c.next_symbol.new.self.decoder here.2 c.in-Ok.ensures.step in
           let found = subst (λ (b : Bool). Finds w s words (next_model b first second) symbol here.0 next.0) inv.switched next.1 in
           (next.0, rw items (finds_behind w s flag first second words before so_far symbol old here.0 next.0 here.1 found), next.2);
     }
 
 pub returns-in-Err-clause-err : goal.returns-in-Err-clause-err
 returns-in-Err-clause-err g c = λ known words old at.
-    let w = g.Word.BitArray.BITS in
-    let s = g.State.BitArray.BITS in
+    let w = g.Word.Natural.BITS in
+    let s = g.State.Natural.BITS in
     let first : Model ℕ = record { precision = g.row.P1; table = g.M1.EntropyModel.table c.args.first.now } in
     let second : Model ℕ = record { precision = g.row.P2; table = g.M2.EntropyModel.table c.args.second.now } in
     let one_sized = g.met.M1.EntropyModel.sized c.args.first.now in
@@ -60,7 +60,7 @@ returns-in-Err-clause-err g c = λ known words old at.
     let so_far = c.decode.symbols.items in
     let decoder = c.decode.switch.decoder in
     let here = inv.read known words old at in
-    only_invalid g.Word.BitArray.number g.Backend.Holds g.Backend.ReadWords w s (next_model c.decode.switch.switched first second) _ decoder
+    only_invalid g.Word.Natural.number g.Backend.Holds g.Backend.ReadWords w s (next_model c.decode.switch.switched first second) _ decoder
     c.next_symbol.new.self.decoder c.in-Err.error c.in-Err.ensures.step (λ halt symbols last count found. (
     let next = behind_next w s words flag first second m n before so_far symbols old here.0 last (omega (arith, count, inv.count)) here.1 found in
     let b : Bool = before || has_flag flag so_far in
@@ -71,8 +71,8 @@ returns-in-Err-clause-err g c = λ known words old at.
 
 pub returns-in-Err-clause-steps : goal.returns-in-Err-clause-steps
 returns-in-Err-clause-steps g c =
-    let w = g.Word.BitArray.BITS in
-    let s = g.State.BitArray.BITS in
+    let w = g.Word.Natural.BITS in
+    let s = g.State.Natural.BITS in
     let first : Model ℕ = record { precision = g.row.P1; table = g.M1.EntropyModel.table c.args.first.now } in
     let second : Model ℕ = record { precision = g.row.P2; table = g.M2.EntropyModel.table c.args.second.now } in
     let inv = c.decode.invariant in
@@ -87,9 +87,9 @@ returns-in-Err-clause-steps g c =
         taken = inv.taken;
         switched = c.in-Err.ensures.kept ∙ inv.switched;
         read = λ known words old at. (let here = inv.read known words old at in
-            (here.0, here.1, stands_still g.Word.BitArray.number g.Backend.Holds g.Backend.ReadWords w s (next_model c.decode.switch.switched first second) words here.0 mid new c.in-Err.error known step here.2));
+            (here.0, here.1, stands_still g.Word.Natural.number g.Backend.Holds g.Backend.ReadWords w s (next_model c.decode.switch.switched first second) words here.0 mid new c.in-Err.error known step here.2));
       },
-      (omega (arith, inv.count), subst (λ (b : Bool). DecodesUnder g.Word.BitArray.number g.Backend.Holds g.Backend.ReadWords w s (next_model b first second) mid (Err c.in-Err.error) new) (sym c.in-Err.ensures.kept) step),
+      (omega (arith, inv.count), subst (λ (b : Bool). DecodesUnder g.Word.Natural.number g.Backend.Holds g.Backend.ReadWords w s (next_model b first second) mid (Err c.in-Err.error) new) (sym c.in-Err.ensures.kept) step),
     )
 
 pub returns-clause-steps : goal.returns-clause-steps
@@ -109,8 +109,8 @@ returns-clause-steps g c =
 
 pub returns-in_default-clause-steps : goal.returns-in_default-clause-steps
 returns-in_default-clause-steps g c =
-    let w = g.Word.BitArray.BITS in
-    let s = g.State.BitArray.BITS in
+    let w = g.Word.Natural.BITS in
+    let s = g.State.Natural.BITS in
     let first : Model ℕ = record { precision = g.row.P1; table = g.M1.EntropyModel.table c.args.first.now } in
     let second : Model ℕ = record { precision = g.row.P2; table = g.M2.EntropyModel.table c.args.second.now } in
     let inv = c.decode.invariant in
@@ -125,12 +125,12 @@ returns-in_default-clause-steps g c =
       tt,
       record {
         most = omega (arith, length-append so_far (symbol ∷ []), inv.count);
-        taken = decodes_behind g.Word.BitArray.number g.Backend.Holds g.Backend.ReadWords w s flag first second before so_far symbol c.args.switch.now.decoder mid new inv.taken
-            (subst (λ (b : Bool). DecodesUnder g.Word.BitArray.number g.Backend.Holds g.Backend.ReadWords w s (next_model b first second) mid (Ok symbol) new) inv.switched c.in-Ok.ensures.step);
+        taken = decodes_behind g.Word.Natural.number g.Backend.Holds g.Backend.ReadWords w s flag first second before so_far symbol c.args.switch.now.decoder mid new inv.taken
+            (subst (λ (b : Bool). DecodesUnder g.Word.Natural.number g.Backend.Holds g.Backend.ReadWords w s (next_model b first second) mid (Ok symbol) new) inv.switched c.in-Ok.ensures.step);
         switched = c.in-Ok.ensures.switched ∙ ap₂ (λ (b : Bool) (f : ℕ). b || symbol == f) inv.switched inv.flag ∙ switched_more before flag so_far symbol;
         read = λ known words old at.
             let here = inv.read known words old at in
-            let next = decode_of DecoderFrontendError g.Word.BitArray.number g.Backend.Holds g.Backend.ReadWords w s words known (next_model c.decode.switch.switched first second) symbol here.0 mid new here.2 c.in-Ok.ensures.step in
+            let next = decode_of DecoderFrontendError g.Word.Natural.number g.Backend.Holds g.Backend.ReadWords w s words known (next_model c.decode.switch.switched first second) symbol here.0 mid new here.2 c.in-Ok.ensures.step in
             let found = subst (λ (b : Bool). Finds w s words (next_model b first second) symbol here.0 next.0) inv.switched next.1 in
             (next.0, finds_behind w s flag first second words before so_far symbol old here.0 next.0 here.1 found, next.2);
       },

@@ -6,7 +6,7 @@ use Rattle.constriction_laws.proofs.stack.readings.symbols_come_back_by_reads.Go
 
 pub returns : goal.returns
 returns g c = λ words w s items others given last z ms (law, (state, h, same)) (start, r, fits, d) e.
-    let number = g.Word.BitArray.number in
+    let number = g.Word.Natural.number in
     let imported : filled w s 0 (exported w state) ≡ state_by_words number words start =
     ap (λ (ws : List ℕ). filled w s 0 ws) (sym same) ∙ c.imports_are_words.ensures words w s start.state.head given start.backend z fits law r in
     let decoded : DecodesAll w s others (state_by_words number words start) (state_by_words number words last) = c.decodes_are_words.ensures.all words w s others start last law d in

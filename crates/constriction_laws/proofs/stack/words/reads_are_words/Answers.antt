@@ -13,4 +13,4 @@ taken number reads words w s head new_head old new h (inr (inl k)) = let r = h o
 taken number reads words w s head new_head old new h (inr (inr k)) = let r = h old new (Ok (Some k.1.0)) k.1.2 in rw (r, k.1.1) (refilled_low w s head (number k.1.0) (map number (words new)) k.0)
 
 pub returns : goal.returns
-returns g c = λ words w s head new_head old new h r. taken g.Word.BitArray.number g.Backend.ReadWords.reads words w s head new_head old new h r
+returns g c = λ words w s head new_head old new h r. taken g.Word.Natural.number g.Backend.ReadWords.reads words w s head new_head old new h r

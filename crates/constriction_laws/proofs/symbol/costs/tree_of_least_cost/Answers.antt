@@ -13,18 +13,18 @@ returns-clause-ok g c =
     (λ tree made.
     let lent = made.1 in
     let is = lent.4 ∙ items_from_drains lent.2 (lent.3.1.0, lent.3.1.1, λ _. (lent.3.0, lent.3.1.2)) (YieldsList-from_slice c.args.weights.now lent.1.0) in
-    subst (λ weights. MakesTree g.P.BitArray.number g.P.BitArray.BITS 4611686018427387903 weights tree) is made.2)
+    subst (λ weights. MakesTree g.P.Natural.number g.P.Natural.BITS 4611686018427387903 weights tree) is made.2)
     c.from_probabilities.ensures.ok
 
 pub returns-clause-known : goal.returns-clause-known
 returns-clause-known g c =
-    let number = g.P.BitArray.number in
+    let number = g.P.Natural.number in
     let weights = c.args.weights.now in
     IfOk-weaker c.from_probabilities.result _ _ (λ tree made. tree_costs (map number weights) (length weights) (sym (length-map weights number)) (path tree) made.1.1) (returns-clause-ok g c)
 
 pub returns-clause-least : goal.returns-clause-least
 returns-clause-least g c =
-    let number = g.P.BitArray.number in
+    let number = g.P.Natural.number in
     let weights = c.args.weights.now in
     IfOk-weaker c.from_probabilities.result _ _
     (λ tree made other.
@@ -41,6 +41,6 @@ returns-clause-err g c =
       | inr given ↦
           let lent = given.1 in
           let is = lent.4 ∙ items_from_drains lent.2 (lent.3.1.0, lent.3.1.1, λ _. (lent.3.0, lent.3.1.2)) (YieldsList-from_slice c.args.weights.now lent.1.0) in
-          inr (subst (λ weights. MakeNoTree g.P.BitArray.number g.P.BitArray.BITS 4611686018427387903 weights e) is given.2)
+          inr (subst (λ weights. MakeNoTree g.P.Natural.number g.P.Natural.BITS 4611686018427387903 weights e) is given.2)
     ])
     c.from_probabilities.ensures.err

@@ -12,7 +12,7 @@ sums_of-requires-clause-few g c =
 
 pub invariant_of-result : goal.invariant_of-result
 invariant_of-result g c =
-    let number = g.C.BitArray.number in
+    let number = g.C.Natural.number in
     let counts = c.args.counts.now in
     let sums = c.in-Some-sums_of.sums.items in
     let made = c.in-Some-sums_of.ensures in
@@ -31,4 +31,4 @@ invariant_of-result g c =
 
 pub returns-clause-ok : goal.returns-clause-ok
 returns-clause-ok g c =
-    ap (categorical g.row.PRECISION) (differences_are g.C.BitArray.number c.args.counts.now c.in-Some-sums_of.sums.items c.in-Some-sums_of.ensures)
+    ap (categorical g.row.PRECISION) (differences_are g.C.Natural.number c.args.counts.now c.in-Some-sums_of.sums.items c.in-Some-sums_of.ensures)

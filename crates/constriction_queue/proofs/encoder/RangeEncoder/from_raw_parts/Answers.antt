@@ -3,4 +3,4 @@ use Rattle.constriction_queue.proofs.encoder.RangeEncoder.from_raw_parts.Goals a
 
 pub returns-clause-coder : goal.returns-clause-coder
 returns-clause-coder g c =
-    is_encoder g.Word.BitArray.number g.Backend.Holds _ _ _ _ _ c.args.situation c.requires.sizes c.requires.fit c.args.state.wide (g.met.State.BitArray.number_law _) (g.met.State.BitArray.number_law _)
+    is_encoder g.Word.Natural.number g.Backend.Holds _ _ _ _ _ c.args.situation c.requires.sizes c.requires.fit c.args.state.wide (g.met.State.Natural.number_law _) (g.met.State.Natural.number_law _)

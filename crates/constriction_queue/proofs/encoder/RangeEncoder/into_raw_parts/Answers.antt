@@ -3,4 +3,4 @@ use Rattle.constriction_queue.proofs.encoder.RangeEncoder.into_raw_parts.Goals a
 
 pub returns-clause-coder : goal.returns-clause-coder
 returns-clause-coder g c =
-    rw (← c.self.view_is) (is_encoder g.Word.BitArray.number g.Backend.Holds _ _ _ _ _ c.self.inside.situation c.self.invariant.0 c.self.invariant.1 c.self.inside.state.wide (g.met.State.BitArray.number_law _) (g.met.State.BitArray.number_law _))
+    rw (← c.self.view_is) (is_encoder g.Word.Natural.number g.Backend.Holds _ _ _ _ _ c.self.inside.situation c.self.invariant.0 c.self.invariant.1 c.self.inside.state.wide (g.met.State.Natural.number_law _) (g.met.State.Natural.number_law _))

@@ -8,12 +8,12 @@ use Rattle.constriction_base.proofs.Sizes.{fit_by_quotient}
 
 pub returns-in_default : goal.returns-in_default
 returns-in_default g c =
-    let w = g.Word.BitArray.BITS in
-    let number = g.Word.BitArray.number in
+    let w = g.Word.Natural.BITS in
+    let number = g.Word.Natural.number in
     let held = g.Backend.Holds.words c.self.inside.bulk in
     let seal = c.make_seal-seal.result in
-    let all = c.make_seal-seal.ensures.words (map number held) (words_of_numbers number _ g.met.Word.BitArray.number_law held) in
-    let n = length (sealed_by w g.State.BitArray.BITS (encoder_of number g.Backend.Holds w (g.State.BitArray.number c.self.inside.state.lower) (g.State.BitArray.number c.self.inside.state.range) c.self.inside.bulk c.self.inside.situation)) in
+    let all = c.make_seal-seal.ensures.words (map number held) (words_of_numbers number _ g.met.Word.Natural.number_law held) in
+    let n = length (sealed_by w g.State.Natural.BITS (encoder_of number g.Backend.Holds w (g.State.Natural.number c.self.inside.state.lower) (g.State.Natural.number c.self.inside.state.range) c.self.inside.bulk c.self.inside.situation)) in
     let sum : c.remaining.result + c.flushed_count-owed.result ≡ n =
     omega (arith, c.remaining.ensures, c.flushed_count-owed.ensures, count_is number (flushed_of number seal.held seal.point seal.zero) held _ all) in
     let top : 2 ^ 64 ≡ 18446744073709551616 = refl in
@@ -24,12 +24,12 @@ returns-in_default g c =
 
 pub returns : goal.returns
 returns g c =
-    let w = g.Word.BitArray.BITS in
-    let number = g.Word.BitArray.number in
+    let w = g.Word.Natural.BITS in
+    let number = g.Word.Natural.number in
     let held = g.Backend.Holds.words c.self.inside.bulk in
     let seal = c.make_seal-seal.result in
-    let all = c.make_seal-seal.ensures.words (map number held) (words_of_numbers number _ g.met.Word.BitArray.number_law held) in
-    let n = length (sealed_by w g.State.BitArray.BITS (encoder_of number g.Backend.Holds w (g.State.BitArray.number c.self.inside.state.lower) (g.State.BitArray.number c.self.inside.state.range) c.self.inside.bulk c.self.inside.situation)) in
+    let all = c.make_seal-seal.ensures.words (map number held) (words_of_numbers number _ g.met.Word.Natural.number_law held) in
+    let n = length (sealed_by w g.State.Natural.BITS (encoder_of number g.Backend.Holds w (g.State.Natural.number c.self.inside.state.lower) (g.State.Natural.number c.self.inside.state.range) c.self.inside.bulk c.self.inside.situation)) in
     let sum : c.remaining.result + c.flushed_count-owed.result ≡ n =
     omega (arith, c.remaining.ensures, c.flushed_count-owed.ensures, count_is number (flushed_of number seal.held seal.point seal.zero) held _ all) in
     let added = c.in-Some.ensures in

@@ -6,8 +6,8 @@ use Rattle.constriction_stack.proofs.coder.AnsCoder.iter_compressed.Goals as goa
 
 pub returns-clause-exported : goal.returns-clause-exported
 returns-clause-exported g c =
-    let w = g.Word.BitArray.BITS in
-    let number = g.Word.BitArray.number in
-    let head = g.State.BitArray.number c.self.inside.state in
+    let w = g.Word.Natural.BITS in
+    let number = g.Word.Natural.number in
+    let head = g.State.Natural.number c.self.inside.state in
     rw (← c.self.view_is) (λ order. ap (λ ws. map number ws ++ reverse (digits_of (2 ^ w) head)) c.words.ensures
     ∙ shown_is number w head (g.Backend.Holds.words c.self.inside.bulk) (g.Backend.Words.lent c.self.inside.bulk) order)

@@ -8,10 +8,10 @@ use Rattle.constriction_stack.proofs.coder.AnsCoder.num_valid_bits.Goals as goal
 
 pub overflow_add-result : goal.overflow_add-result
 overflow_add-result g c =
-    let w = g.Word.BitArray.BITS in
-    let number = g.Word.BitArray.number in
+    let w = g.Word.Natural.BITS in
+    let number = g.Word.Natural.number in
     let held = g.Backend.Holds.words c.self.inside.bulk in
-    let head = g.State.BitArray.number c.self.inside.state in
+    let head = g.State.Natural.number c.self.inside.state in
     let state : AnsState = record { head = head; words = map number held } in
     let bits = bit_count_is c.bit_length.result head c.bit_length.ensures.below c.bit_length.ensures.least in
     let value : c.BITS.result * c.remaining.result + c.saturating_sub-head.result ≡ w * length (map number held) + (bit_count head - 1) =
@@ -23,10 +23,10 @@ overflow_add-result g c =
 
 pub returns : goal.returns
 returns g c =
-    let w = g.Word.BitArray.BITS in
-    let number = g.Word.BitArray.number in
+    let w = g.Word.Natural.BITS in
+    let number = g.Word.Natural.number in
     let held = g.Backend.Holds.words c.self.inside.bulk in
-    let head = g.State.BitArray.number c.self.inside.state in
+    let head = g.State.Natural.number c.self.inside.state in
     let bits = bit_count_is c.bit_length.result head c.bit_length.ensures.below c.bit_length.ensures.least in
     let value : c.BITS.result * c.remaining.result + c.saturating_sub-head.result ≡ w * length (map number held) + (bit_count head - 1) =
     rw (c.BITS.ensures, c.remaining.ensures, c.saturating_sub-head.ensures, bits, length-map held number) refl in

@@ -7,10 +7,10 @@ use Rattle.constriction_stack.proofs.coder.AnsCoder.num_words.Goals as goal
 
 pub overflow_add-result : goal.overflow_add-result
 overflow_add-result g c =
-    let w = g.Word.BitArray.BITS in
-    let number = g.Word.BitArray.number in
+    let w = g.Word.Natural.BITS in
+    let number = g.Word.Natural.number in
     let held = g.Backend.Holds.words c.self.inside.bulk in
-    let state : AnsState = record { head = g.State.BitArray.number c.self.inside.state; words = map number held } in
+    let state : AnsState = record { head = g.State.Natural.number c.self.inside.state; words = map number held } in
     let sum : c.remaining.result + c.count_of_words.result ≡ length (exported w state) =
     omega (arith, c.remaining.ensures, c.count_of_words.ensures, exported_length w state, length-map held number) in
     let fits : w * length (exported w state) < 2 ^ 64 = rw (← c.self.view_is) at c.requires in
@@ -19,10 +19,10 @@ overflow_add-result g c =
 
 pub returns : goal.returns
 returns g c =
-    let w = g.Word.BitArray.BITS in
-    let number = g.Word.BitArray.number in
+    let w = g.Word.Natural.BITS in
+    let number = g.Word.Natural.number in
     let held = g.Backend.Holds.words c.self.inside.bulk in
-    let state : AnsState = record { head = g.State.BitArray.number c.self.inside.state; words = map number held } in
+    let state : AnsState = record { head = g.State.Natural.number c.self.inside.state; words = map number held } in
     let sum : c.remaining.result + c.count_of_words.result ≡ length (exported w state) =
     omega (arith, c.remaining.ensures, c.count_of_words.ensures, exported_length w state, length-map held number) in
     rw (← c.self.view_is) sum

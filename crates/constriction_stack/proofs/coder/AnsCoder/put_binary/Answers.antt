@@ -9,12 +9,12 @@ returns-in_default-clause-frontend g c = rw (← c.self.view_is) (λ is m i. c.i
 
 pub returns-clause-shows : goal.returns-clause-shows
 returns-clause-shows g c =
-    let state : List ℕ → AnsState = λ ws. record { head = g.State.BitArray.number c.self.inside.state; words = ws } in
+    let state : List ℕ → AnsState = λ ws. record { head = g.State.Natural.number c.self.inside.state; words = ws } in
     rw (← c.self.view_is) (c.in-Some.count, c.in-Some.ensures.value, ap state c.in-Ok.ensures.words)
 
 pub returns-clause-back : goal.returns-clause-back
 returns-clause-back g c =
-    rw (← c.self.view_is) (sym (taken_off g.Word.BitArray.number (g.State.BitArray.number c.self.inside.state) c.in-Some.count (g.Backend.Holds.words c.show_words.new.bulk) (g.Backend.Holds.words c.self.inside.bulk) (sym c.in-Ok.ensures.back)))
+    rw (← c.self.view_is) (sym (taken_off g.Word.Natural.number (g.State.Natural.number c.self.inside.state) c.in-Some.count (g.Backend.Holds.words c.show_words.new.bulk) (g.Backend.Holds.words c.self.inside.bulk) (sym c.in-Ok.ensures.back)))
 
 pub returns-clause-frontend : goal.returns-clause-frontend
 returns-clause-frontend g c = rw (← c.self.view_is) (λ is m i. absurd cc, λ none. absurd (none c.in-Some.count c.in-Some.ensures.value))

@@ -9,10 +9,10 @@ use Rattle.constriction_stack.proofs.coder.AnsCoder.sizes_fit.Goals as goal
 
 pub returns-in_default : goal.returns-in_default
 returns-in_default g c =
-    let w = g.Word.BitArray.BITS in
-    let number = g.Word.BitArray.number in
+    let w = g.Word.Natural.BITS in
+    let number = g.Word.Natural.number in
     let held = g.Backend.Holds.words c.self.inside.bulk in
-    let state : AnsState = record { head = g.State.BitArray.number c.self.inside.state; words = map number held } in
+    let state : AnsState = record { head = g.State.Natural.number c.self.inside.state; words = map number held } in
     let sum : c.remaining.result + c.count_of_words-head.result ≡ length (exported w state) =
     omega (arith, c.remaining.ensures, c.count_of_words-head.ensures, exported_length w state, length-map held number) in
     let top : 2 ^ 64 ≡ 18446744073709551616 = refl in
@@ -23,10 +23,10 @@ returns-in_default g c =
 
 pub returns : goal.returns
 returns g c =
-    let w = g.Word.BitArray.BITS in
-    let number = g.Word.BitArray.number in
+    let w = g.Word.Natural.BITS in
+    let number = g.Word.Natural.number in
     let held = g.Backend.Holds.words c.self.inside.bulk in
-    let state : AnsState = record { head = g.State.BitArray.number c.self.inside.state; words = map number held } in
+    let state : AnsState = record { head = g.State.Natural.number c.self.inside.state; words = map number held } in
     let n = length (exported w state) in
     let sum : c.remaining.result + c.count_of_words-head.result ≡ n =
     omega (arith, c.remaining.ensures, c.count_of_words-head.ensures, exported_length w state, length-map held number) in

@@ -16,7 +16,7 @@ quantile_is w v p head q h k e = e ∙ low_in_word head p w v h k
 pub returns-clause-decoded : goal.returns-clause-decoded
 returns-clause-decoded g c =
     let sized = g.met.M.EntropyModel.sized c.args.model.now in
-    let quantile = quantile_is g.Word.BitArray.BITS g.M.Probability.BitArray.BITS g.row.PRECISION (g.State.BitArray.number c.args.head) _
+    let quantile = quantile_is g.Word.Natural.BITS g.M.Probability.Natural.BITS g.row.PRECISION (g.State.Natural.number c.args.head) _
     (omega (arith, sized.1, g.met.M.Probability.WordOf.width_law)) sized.1 (rw (c.narrow.ensures, c.low_bits-quantile.ensures) at c.narrow-2.ensures) in
     let covers = c.quantile_function-symbol.ensures.covers in (
       _,

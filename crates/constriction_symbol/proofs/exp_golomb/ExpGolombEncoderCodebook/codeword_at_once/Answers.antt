@@ -5,16 +5,16 @@ use Rattle.constriction_symbol.proofs.exp_golomb.ExpGolombEncoderCodebook.codewo
 
 pub same_number-requires : goal.same_number-requires
 same_number-requires g c =
-    let some : 0 < g.N.BitArray.number c.plus-after.result = omega (arith, c.plus-after.ensures, c.unit.ensures) in
-    (golomb_fits c.bit_length.result _ g.Word.BitArray.BITS some c.bit_length.ensures.below c.bit_length.ensures.least (rw c.BITS.ensures at c.if-count-BITS.true)).0
+    let some : 0 < g.N.Natural.number c.plus-after.result = omega (arith, c.plus-after.ensures, c.unit.ensures) in
+    (golomb_fits c.bit_length.result _ g.Word.Natural.BITS some c.bit_length.ensures.below c.bit_length.ensures.least (rw c.BITS.ensures at c.if-count-BITS.true)).0
 
 pub returns-then-count-BITS : goal.returns-then-count-BITS
 returns-then-count-BITS g c =
-    let m = g.N.BitArray.number c.plus-after.result in
+    let m = g.N.Natural.number c.plus-after.result in
     let some : 0 < m = omega (arith, c.plus-after.ensures, c.unit.ensures) in
-    let before : m - 1 ≡ g.N.BitArray.number c.args.symbol.now = omega (arith, c.plus-after.ensures, c.unit.ensures) in
+    let before : m - 1 ≡ g.N.Natural.number c.args.symbol.now = omega (arith, c.plus-after.ensures, c.unit.ensures) in
     let part = rw c.BITS.ensures at c.if-count-BITS.true in
-    let fits = golomb_fits c.bit_length.result m g.Word.BitArray.BITS some c.bit_length.ensures.below c.bit_length.ensures.least part in
+    let fits = golomb_fits c.bit_length.result m g.Word.Natural.BITS some c.bit_length.ensures.below c.bit_length.ensures.least part in
     record {
       some = fits.2;
       part = part;

@@ -9,8 +9,8 @@ use Rattle.constriction_symbol.proofs.huffman.decoder.walk_on.Goals as goal
 
 pub walk-init : goal.walk-init
 walk-init g c =
-    let w = g.Word.BitArray.BITS in
-    let n = g.Word.BitArray.number c.args.bits in
+    let w = g.Word.Natural.BITS in
+    let n = g.Word.Natural.number c.args.bits in
     let t = c.args.place.taken in
     let within : t ≤ w = omega (arith, c.requires.part, c.requires.within) in
     record {
@@ -25,7 +25,7 @@ walk-init g c =
 
 pub drop_last-requires-clause-within : goal.drop_last-requires-clause-within
 drop_last-requires-clause-within g c =
-    omega (arith, c.requires.part, c.requires.within, ap length c.all-rest.ensures, length_bits g.Word.BitArray.BITS (g.Word.BitArray.number c.args.bits))
+    omega (arith, c.requires.part, c.requires.within, ap length c.all-rest.ensures, length_bits g.Word.Natural.BITS (g.Word.Natural.number c.args.bits))
 
 pub offset_bounds-nodes-index : goal.offset_bounds-nodes-index
 offset_bounds-nodes-index g c =
@@ -43,7 +43,7 @@ pub walk-preserved : goal.walk-preserved
 walk-preserved g c =
     let h = c.walk.invariant in
     let down = child_at c.args.nodes.now c.walk.index (tree_of_pairs c.args.nodes.now) h.tree h.taken c.pop.result c.walk-test.true h.leads h.at in
-    let count = taken_is g.Word.BitArray.BITS (g.Word.BitArray.number c.args.bits) c.room.result c.walk.rest h.taken h.bits c.room.ensures in
+    let count = taken_is g.Word.Natural.BITS (g.Word.Natural.number c.args.bits) c.room.result c.walk.rest h.taken h.bits c.room.ensures in
     record {
       tree = down.0;
       taken = h.taken ++ c.pop.result ∷ [];
@@ -51,14 +51,14 @@ walk-preserved g c =
       at = down.2;
       some = omega (arith, h.some, length-append h.taken (c.pop.result ∷ []));
       few = omega (arith, length-append h.taken (c.pop.result ∷ []), count, c.if-room-count.false);
-      bits = taken_more (bits_of g.Word.BitArray.BITS (g.Word.BitArray.number c.args.bits)) c.walk.rest c.pop.new.self h.taken c.pop.result h.bits c.pop.ensures;
+      bits = taken_more (bits_of g.Word.Natural.BITS (g.Word.Natural.number c.args.bits)) c.walk.rest c.pop.new.self h.taken c.pop.result h.bits c.pop.ensures;
     }
 
 pub returns : goal.returns
 returns g c =
     let h = c.walk.invariant in
-    let w = g.Word.BitArray.BITS in
-    let n = g.Word.BitArray.number c.args.bits in
+    let w = g.Word.Natural.BITS in
+    let n = g.Word.Natural.number c.args.bits in
     let count = taken_is w n c.room-2.result c.walk.rest h.taken h.bits c.room-2.ensures in
     let long : length (reverse h.taken) ≡ c.room-2.result = length-reverse h.taken ∙ sym count in
     let last : reverse h.taken ≡ bits_of c.room-2.result (n / 2 ^ (w - c.room-2.result)) = rw long at (last_bits c.walk.rest (reverse h.taken) w n h.bits) in

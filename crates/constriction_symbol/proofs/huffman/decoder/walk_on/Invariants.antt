@@ -14,7 +14,7 @@ invariant-walk g l = record {
   at : IsTreeAt (length l.nodes + 1) (map as_pair l.nodes) l.index tree;
   some : 0 < length taken;
   few : length taken < l.count;
-  bits : bits_of g.Word.BitArray.BITS (g.Word.BitArray.number l.fn.bits) ≡ l.rest ++ reverse taken;
+  bits : bits_of g.Word.Natural.BITS (g.Word.Natural.number l.fn.bits) ≡ l.rest ++ reverse taken;
 }
 
 abbrev pub decreases-walk : goal.decreases-walk

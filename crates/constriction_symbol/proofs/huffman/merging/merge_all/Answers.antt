@@ -11,11 +11,11 @@ use Rattle.constriction_symbol.proofs.huffman.merging.merge_all.Goals as goal
 pub plus-requires : goal.plus-requires
 plus-requires g c =
     let fits = merging_fits _ _ _ _ _ _ _ c.loop-lesser.invariant.merging c.in-Some.ensures.rest c.in-Some-take_least.ensures.rest in
-    omega (arith, fits, sum-map g.P.BitArray.number c.args.weights.now, c.requires.total)
+    omega (arith, fits, sum-map g.P.Natural.number c.args.weights.now, c.requires.total)
 
 pub loop-lesser-init : goal.loop-lesser-init
 loop-lesser-init g c =
-    let number = g.P.BitArray.number in
+    let number = g.P.Natural.number in
     let weights = map number c.args.weights.now in
     let n = length-map c.args.weights.now number in
     let leaves = keys_of number c.in_ok-leaves.leaves.items in
@@ -36,13 +36,13 @@ take_least-requires-in-Some g c = (length c.args.weights.now, c.in-Some.ensures.
 pub overflow_add-next : goal.overflow_add-next
 overflow_add-next g c =
     let count = merging_count _ _ _ c.loop-lesser.invariant.merging in
-    let n = length-map c.args.weights.now g.P.BitArray.number in
+    let n = length-map c.args.weights.now g.P.Natural.number in
     let m = length-map c.loop-lesser.pairs.items as_pair in
     record { fits = omega (arith, c.loop-lesser.invariant.count, count, n, m, c.requires.fits) }
 
 pub loop-lesser-preserved : goal.loop-lesser-preserved
 loop-lesser-preserved g c =
-    let number = g.P.BitArray.number in
+    let number = g.P.Natural.number in
     let symbols = length c.args.weights.now in
     let next = c.loop-lesser.next in
     let both : ℕ × ℕ = (c.in-Some.lesser.index, c.in-Some-take_least.other.index) in
@@ -70,7 +70,7 @@ loop-lesser-preserved g c =
 
 pub returns-in_default-take_least : goal.returns-in_default-take_least
 returns-in_default-take_least g c =
-    let number = g.P.BitArray.number in
+    let number = g.P.Natural.number in
     let first = c.in-Some.ensures.count in
     let none = c.in_default-take_least.ensures.none in
     let leaves_ok = c.loop-lesser.leaves.ok in
@@ -83,7 +83,7 @@ returns-in_default-take_least g c =
 
 pub returns : goal.returns
 returns g c =
-    let number = g.P.BitArray.number in
+    let number = g.P.Natural.number in
     let some = merging_some _ _ _ c.loop-lesser.invariant.merging in
     let none = c.in_default.ensures.none in
     let leaves_ok = c.loop-lesser.leaves.ok in

@@ -10,9 +10,9 @@ use Rattle.constriction_symbol.proofs.huffman.merging.merge_all.Given as goal
 abbrev pub invariant-loop-lesser : goal.invariant-loop-lesser
 invariant-loop-lesser g l = record {
   count : l.next ≡ length l.weights + length l.pairs.items;
-  queues : AreQueues (length l.weights) (keys_of g.P.BitArray.number l.leaves.items) (keys_of g.P.BitArray.number l.unions.items);
-  turn : (least : ℕ) × All (IsInTurn (length l.weights) l.next least) (keys_of g.P.BitArray.number l.leaves.items ++ keys_of g.P.BitArray.number l.unions.items);
-  merging : Merging (map g.P.BitArray.number l.weights) (keys_of g.P.BitArray.number l.leaves.items ++ keys_of g.P.BitArray.number l.unions.items) (map as_pair l.pairs.items);
+  queues : AreQueues (length l.weights) (keys_of g.P.Natural.number l.leaves.items) (keys_of g.P.Natural.number l.unions.items);
+  turn : (least : ℕ) × All (IsInTurn (length l.weights) l.next least) (keys_of g.P.Natural.number l.leaves.items ++ keys_of g.P.Natural.number l.unions.items);
+  merging : Merging (map g.P.Natural.number l.weights) (keys_of g.P.Natural.number l.leaves.items ++ keys_of g.P.Natural.number l.unions.items) (map as_pair l.pairs.items);
 }
 
 abbrev pub decreases-loop-lesser : goal.decreases-loop-lesser

@@ -9,7 +9,7 @@ use Rattle.constriction_symbol.proofs.huffman.merging.sorted_leaves.Goals as goa
 
 pub loop-index-preserved : goal.loop-index-preserved
 loop-index-preserved g c =
-    let n = g.P.BitArray.number in
+    let n = g.P.Natural.number in
     let i = c.loop-index.index in
     let front = keys_from 0 (map n (take i c.args.weights.now)) in
     let pushed = ap (keys_of n) c.in_ok-push.ensures.items ∙ map_push (key_of n) c.loop-index.leaves.items _ in
@@ -18,12 +18,12 @@ loop-index-preserved g c =
 
 pub returns-clause-rising : goal.returns-clause-rising
 returns-clause-rising g c =
-    let n = g.P.BitArray.number in
+    let n = g.P.Natural.number in
     subst (λ xs. AreRising (keys_of n xs)) (sym c.from_vec.ensures.items) (rising_from_sorted n _ c.sort_unstable.ensures.sorted)
 
 pub returns-clause-items : goal.returns-clause-items
 returns-clause-items g c =
-    let n = g.P.BitArray.number in
+    let n = g.P.Natural.number in
     let all : take c.loop-index.index c.args.weights.now ≡ c.args.weights.now = take_all c.loop-index.index c.args.weights.now (omega (arith, c.loop-index-test.false)) in
     let before : keys_of n c.loop-index.leaves.items ≡ keys_from 0 (map n c.args.weights.now) = c.loop-index.invariant ∙ ap (λ ws. keys_from 0 (map n ws)) all in
     let sorted = IsPermutation-map (key_of n) _ _ c.sort_unstable.ensures.permutation in

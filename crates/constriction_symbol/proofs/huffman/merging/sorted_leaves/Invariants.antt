@@ -5,4 +5,4 @@ use Rattle.constriction_symbol.proofs.huffman.merging.sorted_leaves.Given as goa
 
 -- the weights so far with their indices
 abbrev pub invariant-loop-index : goal.invariant-loop-index
-invariant-loop-index g l = keys_of g.P.BitArray.number l.leaves.items ≡ keys_from 0 (map g.P.BitArray.number (take l.index l.weights))
+invariant-loop-index g l = keys_of g.P.Natural.number l.leaves.items ≡ keys_from 0 (map g.P.Natural.number (take l.index l.weights))

@@ -6,13 +6,13 @@ use Rattle.constriction_symbol.proofs.reading.QueueDecoderReadBitStreamQueue.dec
 
 pub returns-in-Some : goal.returns-in-Some
 returns-in-Some g c =
-    let n = g.Word.BitArray.number c.reversed_top-bits.result in
+    let n = g.Word.Natural.number c.reversed_top-bits.result in
     let begun = c.in-Some.ensures in
     let last = c.self.inside.last in
-    let code = reverse (bits_of c.in-Some.count (n / 2 ^ (g.Word.BitArray.BITS - c.in-Some.count))) in (
+    let code = reverse (bits_of c.in-Some.count (n / 2 ^ (g.Word.Natural.BITS - c.in-Some.count))) in (
       code,
       begun.is,
       rw (← c.self.view_is)
-          (first_given g.Word.BitArray.BITS g.Word.BitArray.number g.B.Holds.is_list g.B.ReadWords.reads g.B.Holds.words c.self.inside.backend code last (drop c.in-Some.count last) c.drop_first.new.self
-          (queue_begins_top last n g.Word.BitArray.BITS c.count.result c.in-Some.count c.count.ensures.value c.reversed_top-bits.ensures.within begun.part c.reversed_top-bits.ensures.bits) c.drop_first.ensures),
+          (first_given g.Word.Natural.BITS g.Word.Natural.number g.B.Holds.is_list g.B.ReadWords.reads g.B.Holds.words c.self.inside.backend code last (drop c.in-Some.count last) c.drop_first.new.self
+          (queue_begins_top last n g.Word.Natural.BITS c.count.result c.in-Some.count c.count.ensures.value c.reversed_top-bits.ensures.within begun.part c.reversed_top-bits.ensures.bits) c.drop_first.ensures),
     )

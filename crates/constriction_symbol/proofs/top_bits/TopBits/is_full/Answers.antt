@@ -5,9 +5,9 @@ use Rattle.constriction_symbol.proofs.top_bits.TopBits.is_full.Goals as goal
 
 pub returns-clause-full : goal.returns-clause-full
 returns-clause-full g c =
-    rw (← c.self.view_is, length_bits (g.Word.BitArray.BITS - c.self.inside.room) (g.Word.BitArray.number c.self.inside.word / 2 ^ c.self.inside.room))
-    (full_room g.Word.BitArray.BITS c.self.inside.room c.self.invariant g.met.Word.BitArray.bits_law.0)
+    rw (← c.self.view_is, length_bits (g.Word.Natural.BITS - c.self.inside.room) (g.Word.Natural.number c.self.inside.word / 2 ^ c.self.inside.room))
+    (full_room g.Word.Natural.BITS c.self.inside.room c.self.invariant g.met.Word.Natural.bits_law.0)
 
 pub returns-clause-within : goal.returns-clause-within
 returns-clause-within g c =
-    rw (← c.self.view_is, length_bits (g.Word.BitArray.BITS - c.self.inside.room) (g.Word.BitArray.number c.self.inside.word / 2 ^ c.self.inside.room)) (omega arith)
+    rw (← c.self.view_is, length_bits (g.Word.Natural.BITS - c.self.inside.room) (g.Word.Natural.number c.self.inside.word / 2 ^ c.self.inside.room)) (omega arith)

@@ -3,4 +3,4 @@ use Rattle.constriction_symbol.proofs.word_bits.WordBits.reversed_top.Goals as g
 
 pub returns-clause-bits : goal.returns-clause-bits
 returns-clause-bits g c =
-    rw (← c.self.view_is) (top_reversed g.Word.BitArray.BITS (g.Word.BitArray.number c.top_word.result) c.self.inside.reversed c.top_word.ensures.bits)
+    rw (← c.self.view_is) (top_reversed g.Word.Natural.BITS (g.Word.Natural.number c.top_word.result) c.self.inside.reversed c.top_word.ensures.bits)

@@ -8,4 +8,4 @@ abbrev pub invariant-loop-symbol : goal.invariant-loop-symbol
 invariant-loop-symbol g l =
     (goal.iterator-loop-symbol g).can_next l.symbol-iterator
     × (goal.iterator-loop-symbol g).is_finite l.symbol-iterator
-    × StepsAll (StacksSymbol g.Word.BitArray.BITS g.Word.BitArray.number (IsWrite g.B.Holds.words g.B.WriteWords.room g.B.WriteWords.writes g.B.WriteWords.write_fails) (g.C.EncoderCodebook.suffix_wants l.codebook) g.B.WriteError.From.from_gives (g.C.Codebook.codeword l.codebook) g.L.Lent.lent) l.initial.self l.yielded l.self
+    × StepsAll (StacksSymbol g.Word.Natural.BITS g.Word.Natural.number (IsWrite g.B.Holds.words g.B.WriteWords.room g.B.WriteWords.writes g.B.WriteWords.write_fails) (g.C.EncoderCodebook.suffix_wants l.codebook) g.B.WriteError.From.from_gives (g.C.Codebook.codeword l.codebook) g.L.Lent.lent) l.initial.self l.yielded l.self

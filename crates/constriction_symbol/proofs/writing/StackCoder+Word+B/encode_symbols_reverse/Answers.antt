@@ -30,7 +30,7 @@ loop-symbol-preserved g c =
     let on = c.in-Some.ensures.goes.on c.loop-symbol.invariant.1 in (
       on.0,
       on.1,
-      StepsAll-more (StacksPair g.Word.BitArray.BITS g.Word.BitArray.number (IsWrite g.B.Holds.words g.B.WriteWords.room g.B.WriteWords.writes g.B.WriteWords.write_fails) g.C.EncoderCodebook.suffix_wants g.B.WriteError.From.from_gives g.C.Codebook.codeword g.L.Lent.lent) c.args.self.now c.loop-symbol.yielded c.loop-symbol.self (c.in-Some.symbol, c.in-Some.codebook) c.encode_symbol.new.self c.loop-symbol.invariant.2 (rw c.lend.ensures at c.in-Ok.ensures),
+      StepsAll-more (StacksPair g.Word.Natural.BITS g.Word.Natural.number (IsWrite g.B.Holds.words g.B.WriteWords.room g.B.WriteWords.writes g.B.WriteWords.write_fails) g.C.EncoderCodebook.suffix_wants g.B.WriteError.From.from_gives g.C.Codebook.codeword g.L.Lent.lent) c.args.self.now c.loop-symbol.yielded c.loop-symbol.self (c.in-Some.symbol, c.in-Some.codebook) c.encode_symbol.new.self c.loop-symbol.invariant.2 (rw c.lend.ensures at c.in-Ok.ensures),
     )
 
 pub loop-symbol-init : goal.loop-symbol-init

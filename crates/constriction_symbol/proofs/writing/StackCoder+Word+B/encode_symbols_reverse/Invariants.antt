@@ -8,4 +8,4 @@ abbrev pub invariant-loop-symbol : goal.invariant-loop-symbol
 invariant-loop-symbol g l =
     (goal.iterator-loop-symbol g).can_next l.symbol-iterator
     × (goal.iterator-loop-symbol g).is_finite l.symbol-iterator
-    × StepsAll (StacksPair g.Word.BitArray.BITS g.Word.BitArray.number (IsWrite g.B.Holds.words g.B.WriteWords.room g.B.WriteWords.writes g.B.WriteWords.write_fails) g.C.EncoderCodebook.suffix_wants g.B.WriteError.From.from_gives g.C.Codebook.codeword g.L.Lent.lent) l.initial.self l.yielded l.self
+    × StepsAll (StacksPair g.Word.Natural.BITS g.Word.Natural.number (IsWrite g.B.Holds.words g.B.WriteWords.room g.B.WriteWords.writes g.B.WriteWords.write_fails) g.C.EncoderCodebook.suffix_wants g.B.WriteError.From.from_gives g.C.Codebook.codeword g.L.Lent.lent) l.initial.self l.yielded l.self

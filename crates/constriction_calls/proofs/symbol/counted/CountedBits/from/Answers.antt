@@ -7,18 +7,18 @@ use Rattle.constriction_calls.proofs.symbol.counted.CountedBits.from.Goals as go
 
 pub invariant_of-bits : goal.invariant_of-bits
 invariant_of-bits g c =
-    let w = g.Word.BitArray.BITS in
+    let w = g.Word.Natural.BITS in
     let words = c.args.words.now in
     let first = c.args.bit / c.BITS-width.result in
     let rest = take (length words - first) (drop first words) in
-    let given : c.from_compressed.result.bits ≡ bits_of_words w (map g.Word.BitArray.number rest) = search rules in
+    let given : c.from_compressed.result.bits ≡ bits_of_words w (map g.Word.Natural.number rest) = search rules in
     ap (λ n. length rest * n) c.BITS-width.ensures
-    ∙ (ap (λ n. n * w) (sym (length-map rest g.Word.BitArray.number)) ∙ (sym (length_words w (map g.Word.BitArray.number rest)) ∙ sym (ap length given)))
+    ∙ (ap (λ n. n * w) (sym (length-map rest g.Word.Natural.number)) ∙ (sym (length_words w (map g.Word.Natural.number rest)) ∙ sym (ap length given)))
 
 pub returns : goal.returns
 returns g c =
-    let w = g.Word.BitArray.BITS in
-    let number = g.Word.BitArray.number in
+    let w = g.Word.Natural.BITS in
+    let number = g.Word.Natural.number in
     let words = c.args.words.now in
     let first = c.args.bit / c.BITS-width.result in
     let rest = take (length words - first) (drop first words) in

@@ -22,7 +22,7 @@ keep-requires-clause-few g c =
 
 pub returns-in-Ok-keep : goal.returns-in-Ok-keep
 returns-in-Ok-keep g c =
-    let number = g.Word.BitArray.number in
+    let number = g.Word.Natural.number in
     let taken = rw c.numbers-h.ensures.parts at c.in-Ok.ensures.step.ok in
     let covers = covered _ _ _ _ _ _ taken.below (g.met.M.EntropyModel.sized c.args.model).1 c.narrow.ensures c.quantile_function-symbol.ensures.covers in
     let kept = rw (c.widen-left.ensures, c.widen-p.ensures, c.from_nonzero.ensures, c.numbers-h.ensures.parts) at c.in-Ok-keep.ensures.ok in
@@ -31,13 +31,13 @@ returns-in-Ok-keep g c =
         _,
         _,
         c.quantile_function-symbol.ensures.found,
-        decoded number g.C.Holds g.C.ReadWords g.R.Holds g.R.WriteWords _ _ g.met.Word.BitArray.number_law _ _ _ _ _ _ _ _ _ _ _ covers.0 covers.1 (g.met.Word.BitArray.number_law _) taken kept,
+        decoded number g.C.Holds g.C.ReadWords g.R.Holds g.R.WriteWords _ _ g.met.Word.Natural.number_law _ _ _ _ _ _ _ _ _ _ _ covers.0 covers.1 (g.met.Word.Natural.number_law _) taken kept,
       );
     })
 
 pub returns : goal.returns
 returns g c =
-    let number = g.Word.BitArray.number in
+    let number = g.Word.Natural.number in
     let taken = rw c.numbers-h.ensures.parts at c.in-Ok.ensures.step.ok in
     let covers = covered _ _ _ _ _ _ taken.below (g.met.M.EntropyModel.sized c.args.model).1 c.narrow.ensures c.quantile_function-symbol.ensures.covers in
     let lost = rw (c.widen-left.ensures, c.widen-p.ensures, c.from_nonzero.ensures, c.numbers-h.ensures.parts) at c.in-Err-keep.ensures.err in
@@ -48,7 +48,7 @@ returns g c =
           _,
           _,
           c.quantile_function-symbol.ensures.found,
-          undecoded number g.C.Holds g.C.ReadWords g.R.Holds g.R.WriteWords g.met.R.WriteWords.room_law _ _ g.met.Word.BitArray.number_law _ _ _ _ _ _ _ _ _ _ _ covers.0 covers.1 taken lost,
+          undecoded number g.C.Holds g.C.ReadWords g.R.Holds g.R.WriteWords g.met.R.WriteWords.room_law _ _ g.met.Word.Natural.number_law _ _ _ _ _ _ _ _ _ _ _ covers.0 covers.1 taken lost,
         ),
       );
     })

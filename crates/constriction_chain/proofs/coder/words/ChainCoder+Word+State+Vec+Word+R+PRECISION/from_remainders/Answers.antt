@@ -34,15 +34,15 @@ returns-in-Err-begin_window-clause-err g c =
 
 pub returns-in-Ok-Some-begin_window-clause-ok : goal.returns-in-Ok-Some-begin_window-clause-ok
 returns-in-Ok-Some-begin_window-clause-ok g c =
-    let number = g.Word.BitArray.number in
+    let number = g.Word.Natural.number in
     let top = rw c.in-Ok-Some.field-0-is at c.in-Ok-Some.ensures.words in
     let found = rw c.in-Ok-Some-begin_window.field-0-is at c.in-Ok-Some-begin_window.ensures.ok in
     let window = rw c.in-Ok-Some-begin_window.field-0-is at c.in-Ok-Some-begin_window.ensures.window in
-    let some : 0 < g.State.BitArray.number c.in-Ok-Some-begin_window.r = omega (arith, window.from, pow_pos (g.State.BitArray.BITS - g.Word.BitArray.BITS - g.row.PRECISION)) in
+    let some : 0 < g.State.Natural.number c.in-Ok-Some-begin_window.r = omega (arith, window.from, pow_pos (g.State.Natural.BITS - g.Word.Natural.BITS - g.row.PRECISION)) in
     rw c.of.ensures (
       search rules,
       λ list. ap (λ (ws : List _). map number ws) (top list)
-          ∙ ap (λ (ws : List ℕ). number c.in-Ok-Some.word ∷ ws) (digits_begin number g.R.Holds g.R.ReadWords _ _ _ _ c.requires.sizes.some_bits g.met.Word.BitArray.number_law some found list),
+          ∙ ap (λ (ws : List ℕ). number c.in-Ok-Some.word ∷ ws) (digits_begin number g.R.Holds g.R.ReadWords _ _ _ _ c.requires.sizes.some_bits g.met.Word.Natural.number_law some found list),
     )
 
 pub returns-in-Ok-Some-begin_window-clause-reads : goal.returns-in-Ok-Some-begin_window-clause-reads
@@ -54,6 +54,6 @@ returns-in-Ok-Some-begin_window-clause-reads g c =
 
 pub returns-in-Ok-Some-begin_window-clause-coder : goal.returns-in-Ok-Some-begin_window-clause-coder
 returns-in-Ok-Some-begin_window-clause-coder g c =
-    let law = g.met.Word.BitArray.number_law in
+    let law = g.met.Word.Natural.number_law in
     let window = rw c.in-Ok-Some-begin_window.field-0-is at c.in-Ok-Some-begin_window.ensures.window in
-    rw c.of.ensures (coder_of _ _ _ g.Word.BitArray.number law _ _ _ _ _ _ c.requires (some_of _ c.if-is_nothing.ensures.1) (law _) window)
+    rw c.of.ensures (coder_of _ _ _ g.Word.Natural.number law _ _ _ _ _ _ c.requires (some_of _ c.if-is_nothing.ensures.1) (law _) window)

@@ -9,7 +9,7 @@ shift_right-requires g c = omega (arith, c.args.self.now.cut.0, c.args.self.now.
 pub to_index-bucket-requires : goal.to_index-bucket-requires
 to_index-bucket-requires g c =
     let cut = c.args.self.now.cut in
-    omega (arith, c.shift_right.ensures, below_buckets (g.P.BitArray.number c.args.quantile) g.row.PRECISION c.args.self.now.shift (omega (arith, cut.0)) c.requires, pow_mono cut.1)
+    omega (arith, c.shift_right.ensures, below_buckets (g.P.Natural.number c.args.quantile) g.row.PRECISION c.args.self.now.shift (omega (arith, cut.0)) c.requires, pow_mono cut.1)
 
 pub index-interval-requires : goal.index-interval-requires
 index-interval-requires g c =

@@ -7,11 +7,11 @@ returns-then-covers-clause-found g c =
     let guess = c.guess-guess.result in
     let is = c.guess-guess.ensures in
     let weight = rw c.unwrap.ensures at c.to_nonzero.ensures in
-    weight_found g.P.BitArray.number c.args.self.now.row.weights.now guess.0 _ _ guess.2 is.within is.left (weight ∙ is.weight) (g.met.P.BitArray.nonzero_law c.unwrap.result)
+    weight_found g.P.Natural.number c.args.self.now.row.weights.now guess.0 _ _ guess.2 is.within is.left (weight ∙ is.weight) (g.met.P.BitArray.nonzero_law c.unwrap.result)
 
 pub returns-clause-found : goal.returns-clause-found
 returns-clause-found g c =
     let found = c.find_from-found.result in
     let is = c.find_from-found.ensures in
     let weight = rw c.unwrap-2.ensures at c.to_nonzero-2.ensures in
-    weight_found g.P.BitArray.number c.args.self.now.row.weights.now found.0 _ _ found.2 is.within is.left (weight ∙ is.value) (g.met.P.BitArray.nonzero_law c.unwrap-2.result)
+    weight_found g.P.Natural.number c.args.self.now.row.weights.now found.0 _ _ found.2 is.within is.left (weight ∙ is.value) (g.met.P.BitArray.nonzero_law c.unwrap-2.result)

@@ -5,7 +5,7 @@ use Rattle.constriction_inputs.proofs.models.guided.GuidedEncoderModel.left_cumu
 
 pub returns-in-None-to_nonzero-clause-impossible : goal.returns-in-None-to_nonzero-clause-impossible
 returns-in-None-to_nonzero-clause-impossible g c =
-    let number = g.P.BitArray.number in
+    let number = g.P.Natural.number in
     let self = c.args.self.now in
     let ws = self.row.weights.now in
     let row = c.index-row.result.now in
@@ -15,7 +15,7 @@ returns-in-None-to_nonzero-clause-impossible g c =
 
 pub returns-in-Some-to_nonzero-clause-found : goal.returns-in-Some-to_nonzero-clause-found
 returns-in-Some-to_nonzero-clause-found g c =
-    let number = g.P.BitArray.number in
+    let number = g.P.Natural.number in
     let self = c.args.self.now in
     let ws = self.row.weights.now in
     let row = c.index-row.result.now in

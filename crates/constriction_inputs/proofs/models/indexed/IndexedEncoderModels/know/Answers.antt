@@ -16,9 +16,9 @@ weights_at-row-requires g c =
     let fit = c.requires.0 in
     let inside : i < length self.indexes.now = omega (arith, c.loop-i-test.true, g.S.Symbol.count_law c.args.symbols.now, fit.counted) in
     let index = get_or self.indexes.now i 0 in
-    let tables = row_count self.width (map g.P.BitArray.number self.weights.now) in
+    let tables = row_count self.width (map g.P.Natural.number self.weights.now) in
     let at : index < tables = all_at (λ n. n < tables) self.indexes.now i 0 fit.within inside in
-    omega (arith, fit.rows, length-map self.weights.now g.P.BitArray.number, row_ends self.width index tables at)
+    omega (arith, fit.rows, length-map self.weights.now g.P.Natural.number, row_ends self.width index tables at)
 
 pub returns-then-not-is_known : goal.returns-then-not-is_known
 returns-then-not-is_known g c =
@@ -28,13 +28,13 @@ returns-then-not-is_known g c =
     let inside : l.i < length xs = omega (arith, c.loop-i-test.true, g.S.Symbol.count_law c.args.symbols.now) in
     not_all c.is_known.result _ _ c.is_known.ensures c.if-not-is_known.true
     (λ every. rw (c.weights_at-row.ensures, c.number_at.ensures)
-    (known_split self.width (map g.P.BitArray.number self.weights.now) g.row.PRECISION self.indexes.now xs l.i inside (omega (arith, inside, c.requires.0.counted)) (l.invariant.behind every)).0)
+    (known_split self.width (map g.P.Natural.number self.weights.now) g.row.PRECISION self.indexes.now xs l.i inside (omega (arith, inside, c.requires.0.counted)) (l.invariant.behind every)).0)
 
 pub loop-i-preserved : goal.loop-i-preserved
 loop-i-preserved g c =
     let self = c.args.self.now in
     let l = c.loop-i in
-    let ws = map g.P.BitArray.number self.weights.now in
+    let ws = map g.P.Natural.number self.weights.now in
     let xs = g.S.Symbol.numbers c.args.symbols.now in
     let inside : l.i < length xs = omega (arith, c.loop-i-test.true, g.S.Symbol.count_law c.args.symbols.now) in
     let within : l.i < length self.indexes.now = omega (arith, inside, c.requires.0.counted) in

@@ -7,7 +7,7 @@ use Rattle.constriction_inputs.proofs.models.indexed.IndexedEncoderModels.know.G
 abbrev pub invariant-loop-i : goal.invariant-loop-i
 invariant-loop-i g l =
     let self = l.fn.self in
-    let ws = map g.P.BitArray.number self.weights.now in
+    let ws = map g.P.Natural.number self.weights.now in
     let xs = g.S.Symbol.numbers l.symbols in
     let indexes = self.indexes.now in
     record {

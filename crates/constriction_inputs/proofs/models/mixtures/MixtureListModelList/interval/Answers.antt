@@ -7,7 +7,7 @@ use Rattle.constriction_inputs.proofs.models.mixtures.MixtureListModelList.inter
 pub returns-in-Some-clause-found : goal.returns-in-Some-clause-found
 returns-in-Some-clause-found g c =
     let is = table_turned _ _ _ c.args.place _ c.select.ensures.place c.select.ensures.tables c.requires c.model-model.ensures in
-    subst (λ (t : List (ℕ × ℕ × ℕ)). IsEntryOf g.row.PRECISION g.P.BitArray.BITS t c.args.symbol (g.P.BitArray.number c.in-Some.found.0) (g.P.BitArray.nonzero_number c.in-Some.found.1)) is c.in-Some.ensures.found
+    subst (λ (t : List (ℕ × ℕ × ℕ)). IsEntryOf g.row.PRECISION g.P.Natural.BITS t c.args.symbol (g.P.Natural.number c.in-Some.found.0) (g.P.BitArray.nonzero_number c.in-Some.found.1)) is c.in-Some.ensures.found
 
 pub returns-in-None-clause-impossible : goal.returns-in-None-clause-impossible
 returns-in-None-clause-impossible g c =

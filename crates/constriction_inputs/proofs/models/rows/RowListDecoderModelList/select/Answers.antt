@@ -8,7 +8,7 @@ use Rattle.constriction_inputs.proofs.models.rows.RowListDecoderModelList.select
 pub row_at-requires : goal.row_at-requires
 row_at-requires g c =
     let list = c.args.self.now in
-    let at : c.args.place < list.count = row_within (map g.P.BitArray.number list.weights.now) list.width list.count c.args.place c.requires in
+    let at : c.args.place < list.count = row_within (map g.P.Natural.number list.weights.now) list.width list.count c.args.place c.requires in
     let ends : list.width * c.args.place + list.width ≤ length list.weights.now = omega (arith, list.counted, row_ends list.width c.args.place list.count at) in
-    let total : IsTotal g.row.PRECISION (row_at_index list.width c.args.place (map g.P.BitArray.number list.weights.now)) = list.totals c.args.place at in
+    let total : IsTotal g.row.PRECISION (row_at_index list.width c.args.place (map g.P.Natural.number list.weights.now)) = list.totals c.args.place at in
     search rules

@@ -5,4 +5,4 @@ use Rattle.constriction_inputs.proofs.models.rows.RowListModelList.count.Goals a
 pub returns : goal.returns
 returns g c =
     let list = c.args.self.now in
-    sym (tables_counted list.width list.count (map g.P.BitArray.number list.weights.now))
+    sym (tables_counted list.width list.count (map g.P.Natural.number list.weights.now))

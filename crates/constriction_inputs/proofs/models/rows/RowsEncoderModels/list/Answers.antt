@@ -12,14 +12,14 @@ invariant_of-result g c =
     record {
       positive = c.requires.precision.0;
       fits = c.requires.precision.1;
-      counted = sym (length-map self.weights.now g.P.BitArray.number) ∙ rw long at fit.0;
-      totals = λ k within. each_total g.row.PRECISION self.width (map g.P.BitArray.number self.weights.now) c.args.count (rw long at fit.2) k within;
+      counted = sym (length-map self.weights.now g.P.Natural.number) ∙ rw long at fit.0;
+      totals = λ k within. each_total g.row.PRECISION self.width (map g.P.Natural.number self.weights.now) c.args.count (rw long at fit.2) k within;
       selected = λ within. absurd (omega (arith, within));
     }
 
 pub returns-clause-count : goal.returns-clause-count
-returns-clause-count g c = tables_counted c.args.self.now.width c.args.count (map g.P.BitArray.number c.args.self.now.weights.now)
+returns-clause-count g c = tables_counted c.args.self.now.width c.args.count (map g.P.Natural.number c.args.self.now.weights.now)
 
 pub returns-clause-items : goal.returns-clause-items
 returns-clause-items g c =
-    λ others many. rows_listed g.row.PRECISION c.args.self.now.width _ (map g.P.BitArray.number c.args.self.now.weights.now) others _ many refl
+    λ others many. rows_listed g.row.PRECISION c.args.self.now.width _ (map g.P.Natural.number c.args.self.now.weights.now) others _ many refl

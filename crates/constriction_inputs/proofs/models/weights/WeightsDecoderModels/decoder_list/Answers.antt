@@ -5,4 +5,4 @@ use Rattle.constriction_inputs.proofs.models.weights.WeightsDecoderModels.decode
 
 pub returns-in-Some-clause-items : goal.returns-in-Some-clause-items
 returns-in-Some-clause-items g c =
-    λ others many. items_listed g.row.PRECISION _ others (table_of (map g.P.BitArray.number c.args.self.now.weights.now)) _ many c.in-Some.ensures
+    λ others many. items_listed g.row.PRECISION _ others (table_of (map g.P.Natural.number c.args.self.now.weights.now)) _ many c.in-Some.ensures

@@ -5,7 +5,7 @@ use Rattle.constriction_inputs.proofs.models.weights.WeightsEncoderModels.know.G
 
 abbrev pub invariant-loop-i : goal.invariant-loop-i
 invariant-loop-i g l =
-    let model = weights_model g.row.PRECISION (map g.P.BitArray.number l.fn.self.weights.now) in
+    let model = weights_model g.row.PRECISION (map g.P.Natural.number l.fn.self.weights.now) in
     let xs = g.S.Symbol.numbers l.symbols in
     record {
       before : AreKnown (items_of model (drop l.i xs)) → AreKnown (items_of model xs);

@@ -5,8 +5,8 @@ use Rattle.constriction_inputs.proofs.models.weights.WeightsEncoderModels.list.G
 
 pub returns-then-count-le1-clause-items : goal.returns-then-count-le1-clause-items
 returns-then-count-le1-clause-items g c =
-    λ others many. items_listed g.row.PRECISION _ others (table_of (map g.P.BitArray.number c.args.self.now.weights.now)) _ many (ap (λ weights. table_of (map g.P.BitArray.number weights)) c.of_total-row.ensures)
+    λ others many. items_listed g.row.PRECISION _ others (table_of (map g.P.Natural.number c.args.self.now.weights.now)) _ many (ap (λ weights. table_of (map g.P.Natural.number weights)) c.of_total-row.ensures)
 
 pub returns-in-Some-clause-items : goal.returns-in-Some-clause-items
 returns-in-Some-clause-items g c =
-    λ others many. items_listed g.row.PRECISION _ others (table_of (map g.P.BitArray.number c.args.self.now.weights.now)) _ many c.in-Some.ensures.table
+    λ others many. items_listed g.row.PRECISION _ others (table_of (map g.P.Natural.number c.args.self.now.weights.now)) _ many c.in-Some.ensures.table

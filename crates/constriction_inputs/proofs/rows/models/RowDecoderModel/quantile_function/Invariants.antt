@@ -4,7 +4,7 @@ use Rattle.constriction_inputs.proofs.rows.models.RowDecoderModel.quantile_funct
 
 abbrev pub invariant-loop-symbol : goal.invariant-loop-symbol
 invariant-loop-symbol g l =
-    let number = g.P.BitArray.number in
+    let number = g.P.Natural.number in
     record {
       left : number l.left ≡ sum_by number (take l.symbol l.self.weights.now);
       within : number l.left ≤ number l.quantile;

@@ -16,8 +16,8 @@ use Rattle.constriction_base.proofs.Turns.{map-reverse}
 
 pub returns-clause-encoded : goal.returns-clause-encoded
 returns-clause-encoded g c = λ known.
-    let w = g.Word.BitArray.BITS in
-    let s = g.State.BitArray.BITS in
+    let w = g.Word.Natural.BITS in
+    let s = g.State.Natural.BITS in
     let table = g.M.EntropyModel.table in
     let symbols = c.args.symbols.now in
     let models = c.args.models.now in
@@ -32,7 +32,7 @@ returns-clause-encoded g c = λ known.
     (λ _ p.
     (let given = all_pairs_from_back e.0 e.2 same p.1 ∙ ap₂ (λ xs ms. reverse (zip xs ms)) first second in
     let all = ap (λ pairs. map item pairs) given ∙ map-reverse item (zip symbols models) in
-    let coded = encodes_of g.Word.BitArray.number g.C.Holds g.C.WriteWords g.R.Holds g.R.ReadWords
+    let coded = encodes_of g.Word.Natural.number g.C.Holds g.C.WriteWords g.R.Holds g.R.ReadWords
     w s _ (λ p. (p.0.now, p.1.now)) item e.2 old e.3 known e.4 in
     subst (λ items. ChainEncodesAll w s items old.state new.state) all
     (subst (λ x. ChainEncodesAll w s (map item (map (λ p. (p.0.now, p.1.now)) e.2)) old.state x.state) p.0 coded)))
@@ -54,5 +54,5 @@ returns-clause-err g c = λ known.
     let left = reverse (zip (iter_rest (zip_first p.1)) (iter_rest (zip_second p.1))) in
     let stopped = sym (ap₂ (λ xs ms. reverse (zip xs ms)) first second) ∙ stopped_pairs e.0 e.2 p.0 p.1 same p.2 in
     let is = sym (map-reverse item (zip symbols models)) ∙ ap (λ pairs. map item pairs) stopped ∙ map-append item (map (λ p. (p.0.now, p.1.now)) e.2) ((p.0.0.now, p.0.1.now) ∷ left) in
-    not_encoded g.Word.BitArray.number g.C.Holds g.C.WriteWords g.R.Holds g.R.ReadWords
-    g.Word.BitArray.BITS g.State.BitArray.BITS (λ p. (p.0.now, p.1.now)) item e.2 p.0 _ (map item left) c.args.coder.now e.3 c.encode_symbols_reverse.new.self refusal known is e.4 p.3)
+    not_encoded g.Word.Natural.number g.C.Holds g.C.WriteWords g.R.Holds g.R.ReadWords
+    g.Word.Natural.BITS g.State.Natural.BITS (λ p. (p.0.now, p.1.now)) item e.2 p.0 _ (map item left) c.args.coder.now e.3 c.encode_symbols_reverse.new.self refusal known is e.4 p.3)

@@ -9,13 +9,13 @@ use Rattle.constriction_laws.proofs.chain.round_trips.words.put_back_pairs.Goals
 
 pub returns-in-Err-Frontend-clause-err : goal.returns-in-Err-Frontend-clause-err
 returns-in-Err-Frontend-clause-err g c =
-    no_remainders g.Word.BitArray.number _ _ g.Word.BitArray.BITS g.State.BitArray.BITS g.row.PRECISION tt c.requires c.args.remainders c.in-Err-Frontend.field-0-0
+    no_remainders g.Word.Natural.number _ _ g.Word.Natural.BITS g.State.Natural.BITS g.row.PRECISION tt c.requires c.args.remainders c.in-Err-Frontend.field-0-0
     (rw c.in-Err-Frontend.field-0-is at c.in-Err-Frontend.ensures.err)
 
 pub returns-in-Ok-encode_pairs_reverse-clause-back : goal.returns-in-Ok-encode_pairs_reverse-clause-back
 returns-in-Ok-encode_pairs_reverse-clause-back g c = λ x after below whole taken are.
-    let w = g.Word.BitArray.BITS in
-    let s = g.State.BitArray.BITS in
+    let w = g.Word.Natural.BITS in
+    let s = g.State.Natural.BITS in
     let P = g.row.PRECISION in
     let table = g.M.EntropyModel.table in
     let symbols = c.args.symbols.now in

@@ -5,8 +5,8 @@ use Rattle.constriction_laws.proofs.queue.round_trips.coding.has_ended.Goals as 
 
 pub returns-then-maybe_exhausted-clause-ended : goal.returns-then-maybe_exhausted-clause-ended
 returns-then-maybe_exhausted-clause-ended g c = λ words there at may.
-    let ended = ended_of g.Word.BitArray.BITS g.State.BitArray.BITS words there c.args.decoder.now (pow_pos g.State.BitArray.BITS) at may in
-    let none = none_mapped g.Word.BitArray.number _ (sym c.bulk.ensures.coder.words_are ∙ ended.0) in
+    let ended = ended_of g.Word.Natural.BITS g.State.Natural.BITS words there c.args.decoder.now (pow_pos g.State.Natural.BITS) at may in
+    let none = none_mapped g.Word.Natural.number _ (sym c.bulk.ensures.coder.words_are ∙ ended.0) in
     let known = g.met.Backend.BoundedReadWords.knows_words in
     let here : g.Backend.Holds.words c.bulk.result.now ≡ [] = ap g.Backend.Holds.words c.bulk.ensures.backend ∙ none in
     let seems = rw c.maybe_exhausted.ensures.value at (c.maybe_exhausted.ensures.exhausted known here) in
@@ -14,6 +14,6 @@ returns-then-maybe_exhausted-clause-ended g c = λ words there at may.
 
 pub returns-else-maybe_exhausted-clause-ended : goal.returns-else-maybe_exhausted-clause-ended
 returns-else-maybe_exhausted-clause-ended g c = λ words there at may.
-    let ended = ended_of g.Word.BitArray.BITS g.State.BitArray.BITS words there c.args.decoder.now (pow_pos g.State.BitArray.BITS) at may in
-    let none = none_mapped g.Word.BitArray.number _ (sym c.bulk.ensures.coder.words_are ∙ ended.0) in
+    let ended = ended_of g.Word.Natural.BITS g.State.Natural.BITS words there c.args.decoder.now (pow_pos g.State.Natural.BITS) at may in
+    let none = none_mapped g.Word.Natural.number _ (sym c.bulk.ensures.coder.words_are ∙ ended.0) in
     c.maybe_exhausted.ensures.exhausted g.met.Backend.BoundedReadWords.knows_words (ap g.Backend.Holds.words c.bulk.ensures.backend ∙ none)

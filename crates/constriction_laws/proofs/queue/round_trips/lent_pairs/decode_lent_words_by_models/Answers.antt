@@ -9,16 +9,16 @@ use Rattle.constriction_laws.proofs.ListsGiven.{ok_weaker}
 
 pub returns-clause-read : goal.returns-clause-read
 returns-clause-read g c =
-    let w = g.Word.BitArray.BITS in
-    let s = g.State.BitArray.BITS in
+    let w = g.Word.Natural.BITS in
+    let s = g.State.Natural.BITS in
     let words = c.words.ensures.shows ∙ c.in-Ok.ensures.shows in
     let at = rw words at (c.in-Ok-from_compressed.ensures.ok tt) in
     ok_weaker c.decode_pairs.result (c.decode_pairs.ensures.decoded tt (sealed_by w s c.args.encoder.now) (initial s) at) (λ again read. (read.0, read.1))
 
 pub returns-clause-back : goal.returns-clause-back
 returns-clause-back g c = λ symbols coded count.
-    let w = g.Word.BitArray.BITS in
-    let s = g.State.BitArray.BITS in
+    let w = g.Word.Natural.BITS in
+    let s = g.State.Natural.BITS in
     let table = g.M.EntropyModel.table in
     let lawful : (m : g.row.M.Denot) → IsModel w (record { precision = g.row.PRECISION; table = table m }) =
     λ m. (let sized = g.met.M.EntropyModel.sized m in record { some_bits = sized.0; within_word = omega (arith, sized.1, g.met.M.Probability.WordOf.width_law); lawful = g.M.EntropyModel.lawful m }) in
@@ -31,8 +31,8 @@ returns-clause-back g c = λ symbols coded count.
 
 pub returns-clause-err : goal.returns-clause-err
 returns-clause-err g c =
-    let w = g.Word.BitArray.BITS in
-    let s = g.State.BitArray.BITS in
+    let w = g.Word.Natural.BITS in
+    let s = g.State.Natural.BITS in
     let words = c.words.ensures.shows ∙ c.in-Ok.ensures.shows in
     let at = rw words at (c.in-Ok-from_compressed.ensures.ok tt) in
     err_weaker c.decode_pairs.result c.decode_pairs.ensures.err (λ e why. while_reading _ ⊥ ⊥ _ e why (λ none. none tt (sealed_by w s c.args.encoder.now) (initial s) at))

@@ -13,8 +13,8 @@ use Rattle.constriction_laws.proofs.queue.round_trips.pairs.compressed_words_of_
 
 pub returns-in-Ok-clause-few : goal.returns-in-Ok-clause-few
 returns-in-Ok-clause-few g c = λ new.
-    let w = g.Word.BitArray.BITS in
-    let s = g.State.BitArray.BITS in
+    let w = g.Word.Natural.BITS in
+    let s = g.State.Natural.BITS in
     let table = g.M.EntropyModel.table in
     let items = pairs_of g.row.PRECISION table c.args.symbols.now c.args.models.now in
     let models = are_pairs g.row.PRECISION table w c.args.symbols.now c.args.models.now
@@ -25,7 +25,7 @@ returns-in-Ok-clause-few g c = λ new.
     let are : AreSteps w steps = are_steps w s items (initial s) last coded models in
     let words = g.Backend.Holds.words c.in-Ok.words in
     let many : length words ≡ length (sealed w s last) =
-    sym (length-map words g.Word.BitArray.number) ∙ sym (length-reverse (map g.Word.BitArray.number words)) ∙ ap length c.in-Ok.ensures.ok in (
+    sym (length-map words g.Word.Natural.number) ∙ sym (length-reverse (map g.Word.Natural.number words)) ∙ ap length c.in-Ok.ensures.ok in (
       steps,
       narrowed_entries w s items (initial s) last coded,
       λ two. rw many (subst (λ (r : Run). 2 ≤ length (sealed w s r) → 2 ^ (w * (length (sealed w s r) - 2)) * (2 ^ s - 1) * product (share w s) steps < 2 ^ s * product (rounded_whole w s) steps)

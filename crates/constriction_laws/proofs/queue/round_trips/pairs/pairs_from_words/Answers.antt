@@ -15,8 +15,8 @@ use Rattle.constriction_laws.proofs.queue.round_trips.pairs.pairs_from_words.Goa
 
 pub returns-clause-read : goal.returns-clause-read
 returns-clause-read g c =
-    let w = g.Word.BitArray.BITS in
-    let s = g.State.BitArray.BITS in
+    let w = g.Word.Natural.BITS in
+    let s = g.State.Natural.BITS in
     let known = g.met.Words.IntoReadWords.BoundedReadWords.knows_words in
     let decoded = c.in_ok-again.ensures.decoded known _ (initial s) (c.in-Ok.ensures.ok known) in
     let told = c.has_ended-ended.ensures in (
@@ -29,7 +29,7 @@ returns-clause-read g c =
 pub returns-clause-ended : goal.returns-clause-ended
 returns-clause-ended g c =
     let known = g.met.Words.IntoReadWords.BoundedReadWords.knows_words in
-    let decoded = c.in_ok-again.ensures.decoded known _ (initial g.State.BitArray.BITS) (c.in-Ok.ensures.ok known) in (
+    let decoded = c.in_ok-again.ensures.decoded known _ (initial g.State.Natural.BITS) (c.in-Ok.ensures.ok known) in (
       decoded.0,
       c.decode_pairs.new.decoder,
       c.has_ended-ended.ensures.decoder,
@@ -40,15 +40,15 @@ returns-clause-ended g c =
 
 pub returns-clause-back : goal.returns-clause-back
 returns-clause-back g c =
-    let w = g.Word.BitArray.BITS in
-    let s = g.State.BitArray.BITS in
-    let number = g.Word.BitArray.number in
+    let w = g.Word.Natural.BITS in
+    let s = g.State.Natural.BITS in
+    let number = g.Word.Natural.number in
     let table = g.M.EntropyModel.table in
     let known = g.met.Words.IntoReadWords.BoundedReadWords.knows_words in
     let lawful : (m : g.row.M.Denot) → IsModel w (record { precision = g.row.PRECISION; table = table m }) =
     λ m. (let sized = g.met.M.EntropyModel.sized m in record { some_bits = sized.0; within_word = omega (arith, sized.1, g.met.M.Probability.WordOf.width_law); lawful = g.M.EntropyModel.lawful m }) in
     let words : List ℕ = map number (g.Words.Holds.words c.args.words) in
-    let fit : AreWords w words = words_of_numbers number w g.met.Word.BitArray.number_law (g.Words.Holds.words c.args.words) in
+    let fit : AreWords w words = words_of_numbers number w g.met.Word.Natural.number_law (g.Words.Holds.words c.args.words) in
     let items : List g.row.M-Symbol.Denot → List (Item g.row.M-Symbol.Denot) = λ (symbols : List g.row.M-Symbol.Denot). pairs_of g.row.PRECISION table symbols c.args.models.now in
     let lawful_items : (symbols : List g.row.M-Symbol.Denot) → AreModels w (items symbols) = λ symbols. are_pairs g.row.PRECISION table w symbols c.args.models.now lawful in
     let given = c.in_ok-again.ensures.back known words in
@@ -82,19 +82,19 @@ returns-in_err-again-clause-err g c =
     let known = g.met.Words.IntoReadWords.BoundedReadWords.knows_words in
     let items : List g.row.M-Symbol.Denot → List (Item g.row.M-Symbol.Denot) = λ (symbols : List g.row.M-Symbol.Denot). pairs_of g.row.PRECISION g.M.EntropyModel.table symbols c.args.models.now in
     passed _ c.in_err-again.field-0.0 _ c.from_residual.ensures.1
-    (while_reading _ ⊥ ⊥ (NoListFrom g.Words.IntoReadWords.Holds.is_list g.Word.BitArray.BITS g.State.BitArray.BITS items (length c.args.models.now) c.in-Ok.decoder) c.in_err-again.field-0.0
-    c.in_err-again.ensures.err (λ none. none known _ (initial g.State.BitArray.BITS) (c.in-Ok.ensures.ok known)))
+    (while_reading _ ⊥ ⊥ (NoListFrom g.Words.IntoReadWords.Holds.is_list g.Word.Natural.BITS g.State.Natural.BITS items (length c.args.models.now) c.in-Ok.decoder) c.in_err-again.field-0.0
+    c.in_err-again.ensures.err (λ none. none known _ (initial g.State.Natural.BITS) (c.in-Ok.ensures.ok known)))
 
 pub returns-clause-within : goal.returns-clause-within
 returns-clause-within g c = λ some.
-    let w = g.Word.BitArray.BITS in
-    let s = g.State.BitArray.BITS in
+    let w = g.Word.Natural.BITS in
+    let s = g.State.Natural.BITS in
     let table = g.M.EntropyModel.table in
     let known = g.met.Words.IntoReadWords.BoundedReadWords.knows_words in
     let lawful : (m : g.row.M.Denot) → IsModel w (record { precision = g.row.PRECISION; table = table m }) =
     λ m. (let sized = g.met.M.EntropyModel.sized m in record { some_bits = sized.0; within_word = omega (arith, sized.1, g.met.M.Probability.WordOf.width_law); lawful = g.M.EntropyModel.lawful m }) in
-    let words : List ℕ = map g.Word.BitArray.number (g.Words.Holds.words c.args.words) in
-    let fit = words_of_numbers g.Word.BitArray.number w g.met.Word.BitArray.number_law (g.Words.Holds.words c.args.words) in
+    let words : List ℕ = map g.Word.Natural.number (g.Words.Holds.words c.args.words) in
+    let fit = words_of_numbers g.Word.Natural.number w g.met.Word.Natural.number_law (g.Words.Holds.words c.args.words) in
     let law : (first : Item g.row.M-Symbol.Denot) (others : List (Item g.row.M-Symbol.Denot)) (last : Run) → AreModels w (first ∷ others) → NarrowsAll w s (first ∷ others) (initial s) last
     → FindsAll w s words (first ∷ others) (initial s) last ↔ Within w s words last = λ first others last ms coded. c.symbols_of_any_words.ensures w s words first others last c.requires fit ms coded in
     let again = c.in_ok-again.again.items in

@@ -11,12 +11,12 @@ use Rattle.constriction_laws.proofs.queue.round_trips.positions_of_pairs.pairs_f
 
 pub returns-in-Ok-decode_pairs-clause-read : goal.returns-in-Ok-decode_pairs-clause-read
 returns-in-Ok-decode_pairs-clause-read g c = λ there is.
-    let w = g.Word.BitArray.BITS in
-    let s = g.State.BitArray.BITS in
-    let number = g.Word.BitArray.number in
+    let w = g.Word.Natural.BITS in
+    let s = g.State.Natural.BITS in
+    let number = g.Word.Natural.number in
     let items = c.args.words.items in
     let words : List ℕ = map number items in
-    let fit = words_of_numbers number w g.met.Word.BitArray.number_law items in
+    let fit = words_of_numbers number w g.met.Word.Natural.number_law items in
     let placed = c.in-Ok.ensures.place in
     let kept = cursor_keeps Infallible number (λ v. v.items) _ _ _ placed.0 c.in-Ok.decoder.bulk placed.2.2 in
     let sought = c.in-Ok-seek.ensures.ok in
@@ -32,12 +32,12 @@ returns-in-Ok-decode_pairs-clause-read g c = λ there is.
 
 pub returns-in-Ok-decode_pairs-clause-back : goal.returns-in-Ok-decode_pairs-clause-back
 returns-in-Ok-decode_pairs-clause-back g c = λ symbols there last is found count.
-    let w = g.Word.BitArray.BITS in
-    let s = g.State.BitArray.BITS in
-    let number = g.Word.BitArray.number in
+    let w = g.Word.Natural.BITS in
+    let s = g.State.Natural.BITS in
+    let number = g.Word.Natural.number in
     let items = c.args.words.items in
     let words : List ℕ = map number items in
-    let fit = words_of_numbers number w g.met.Word.BitArray.number_law items in
+    let fit = words_of_numbers number w g.met.Word.Natural.number_law items in
     let placed = c.in-Ok.ensures.place in
     let kept = cursor_keeps Infallible number (λ v. v.items) _ _ _ placed.0 c.in-Ok.decoder.bulk placed.2.2 in
     let sought = c.in-Ok-seek.ensures.ok in
@@ -52,12 +52,12 @@ returns-in-Ok-decode_pairs-clause-back g c = λ symbols there last is found coun
 
 pub returns-in-Err-InvalidData-clause-err : goal.returns-in-Err-InvalidData-clause-err
 returns-in-Err-InvalidData-clause-err g c = λ there is.
-    let w = g.Word.BitArray.BITS in
-    let s = g.State.BitArray.BITS in
-    let number = g.Word.BitArray.number in
+    let w = g.Word.Natural.BITS in
+    let s = g.State.Natural.BITS in
+    let number = g.Word.Natural.number in
     let items = c.args.words.items in
     let words : List ℕ = map number items in
-    let fit = words_of_numbers number w g.met.Word.BitArray.number_law items in
+    let fit = words_of_numbers number w g.met.Word.Natural.number_law items in
     let placed = c.in-Ok.ensures.place in
     let kept = cursor_keeps Infallible number (λ v. v.items) _ _ _ placed.0 c.in-Ok.decoder.bulk placed.2.2 in
     let sought = c.in-Ok-seek.ensures.ok in
@@ -75,7 +75,7 @@ pub returns-in-Ok-decode_pairs-clause-place : goal.returns-in-Ok-decode_pairs-cl
 returns-in-Ok-decode_pairs-clause-place g c =
     let items = c.args.words.items in
     let placed = c.in-Ok.ensures.place in
-    let kept = cursor_keeps Infallible g.Word.BitArray.number (λ v. v.items) _ _ _ placed.0 c.in-Ok.decoder.bulk placed.2.2 in
+    let kept = cursor_keeps Infallible g.Word.Natural.number (λ v. v.items) _ _ _ placed.0 c.in-Ok.decoder.bulk placed.2.2 in
     let whole : length c.in-Ok.decoder.bulk.buf.items ≡ length items = ap (λ v. length v.items) (kept ∙ placed.1.0) in
     omega (arith, whole, c.in-Ok-seek.ensures.variant refl)
 
@@ -83,9 +83,9 @@ pub returns-in-Err-seek-clause-err : goal.returns-in-Err-seek-clause-err
 returns-in-Err-seek-clause-err g c =
     let items = c.args.words.items in
     let placed = c.in-Ok.ensures.place in
-    let kept = cursor_keeps Infallible g.Word.BitArray.number (λ v. v.items) _ _ _ placed.0 c.in-Ok.decoder.bulk placed.2.2 in
+    let kept = cursor_keeps Infallible g.Word.Natural.number (λ v. v.items) _ _ _ placed.0 c.in-Ok.decoder.bulk placed.2.2 in
     let whole : length c.in-Ok.decoder.bulk.buf.items ≡ length items = ap (λ v. length v.items) (kept ∙ placed.1.0) in
     elim c.in-Err-seek.ensures.err [
-      | inl short ↦ omega (arith, short, whole, length-map items g.Word.BitArray.number)
+      | inl short ↦ omega (arith, short, whole, length-map items g.Word.Natural.number)
       | inr refused ↦ elim refused.2 [ ]
     ]

@@ -7,8 +7,8 @@ use Rattle.constriction_laws.proofs.stack.round_trips.binary.binary_words_with_p
 
 pub returns-in-Ok-clause-back : goal.returns-in-Ok-clause-back
 returns-in-Ok-clause-back g c = λ words fit taken.
-    let w = g.Word.BitArray.BITS in
-    let s = g.State.BitArray.BITS in
+    let w = g.Word.Natural.BITS in
+    let s = g.State.Natural.BITS in
     let table = g.M.EntropyModel.table in
     let symbols = c.args.symbols.now in
     let items = pairs_of g.row.PRECISION table symbols c.args.models.now in
@@ -25,8 +25,8 @@ returns-in-Ok-clause-back g c = λ words fit taken.
 pub returns-in-Err-None-clause-err : goal.returns-in-Err-None-clause-err
 returns-in-Err-None-clause-err g c = (
   λ words fit taken.
-      let w = g.Word.BitArray.BITS in
-      let s = g.State.BitArray.BITS in
+      let w = g.Word.Natural.BITS in
+      let s = g.State.Natural.BITS in
       let table = g.M.EntropyModel.table in
       let symbols = c.args.symbols.now in
       let items = pairs_of g.row.PRECISION table symbols c.args.models.now in

@@ -14,8 +14,8 @@ returns-in-Ok-clause-words g c = λ valid. (c.encode_pairs_reverse.new.coder.sta
 
 pub returns-in-Ok-clause-few : goal.returns-in-Ok-clause-few
 returns-in-Ok-clause-few g c = λ new.
-    let w = g.Word.BitArray.BITS in
-    let s = g.State.BitArray.BITS in
+    let w = g.Word.Natural.BITS in
+    let s = g.State.Natural.BITS in
     let table = g.M.EntropyModel.table in
     let items = reverse (pairs_of g.row.PRECISION table c.args.symbols.now c.args.models.now) in
     let models = are_turned g.row.PRECISION table w c.args.symbols.now c.args.models.now
@@ -25,7 +25,7 @@ returns-in-Ok-clause-few g c = λ new.
     let coded : EncodesAll w s items empty last = subst (λ (x : AnsState). EncodesAll w s items x last) new (c.in_ok-encode_pairs_reverse.ensures.coded valid) in
     let steps = steps_of_encodes w s items empty last coded in
     let words = g.Backend.Holds.words c.in-Ok.words in
-    let many : length words ≡ length (exported w last) = sym (length-map words g.Word.BitArray.number) ∙ ap length c.in-Ok.ensures.ok in (
+    let many : length words ≡ length (exported w last) = sym (length-map words g.Word.Natural.number) ∙ ap length c.in-Ok.ensures.ok in (
       steps.0,
       steps.1,
       rw many (c.stack_bound.ensures w s steps.0 last c.in-Ok.ensures.coder.sizes (entries_are_steps w s items steps.0 models steps.1) steps.2),

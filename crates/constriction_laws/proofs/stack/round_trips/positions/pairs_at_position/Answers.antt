@@ -11,16 +11,16 @@ use Rattle.constriction_laws.proofs.stack.round_trips.positions.pairs_at_positio
 
 pub returns-clause-read : goal.returns-clause-read
 returns-clause-read g c =
-    let w = g.Word.BitArray.BITS in
-    let s = g.State.BitArray.BITS in
-    let f = g.Word.BitArray.number in
+    let w = g.Word.Natural.BITS in
+    let s = g.State.Natural.BITS in
+    let f = g.Word.Natural.number in
     let table = g.M.EntropyModel.table in
     let models = c.args.models.now in
     let state : AnsState = c.args.coder.now.state in
     let at = c.as_seekable_decoder-decoder.result.backend in
     let buf = at.buf.now in
     let becomes = c.as_seekable_decoder-decoder.ensures.place in
-    let position : AnsPosition = record { held = c.args.position.0; head = g.State.BitArray.number c.args.position.1 } in
+    let position : AnsPosition = record { held = c.args.position.0; head = g.State.Natural.number c.args.position.1 } in
     let words : state.words ≡ map f (reverse (take at.pos buf)) =
     ap (λ (x : AnsState). x.words) (sym c.as_seekable_decoder-decoder.ensures.state) ∙ c.as_seekable_decoder-decoder.ensures.coder.words_are in
     let stands : at.pos ≡ length buf = omega (arith, becomes.1, ap length becomes.0) in
@@ -34,16 +34,16 @@ returns-clause-read g c =
 
 pub returns-clause-back : goal.returns-clause-back
 returns-clause-back g c = λ symbols old there coded named grows count.
-    let w = g.Word.BitArray.BITS in
-    let s = g.State.BitArray.BITS in
-    let f = g.Word.BitArray.number in
+    let w = g.Word.Natural.BITS in
+    let s = g.State.Natural.BITS in
+    let f = g.Word.Natural.number in
     let table = g.M.EntropyModel.table in
     let models = c.args.models.now in
     let state : AnsState = c.args.coder.now.state in
     let at = c.as_seekable_decoder-decoder.result.backend in
     let buf = at.buf.now in
     let becomes = c.as_seekable_decoder-decoder.ensures.place in
-    let position : AnsPosition = record { held = c.args.position.0; head = g.State.BitArray.number c.args.position.1 } in
+    let position : AnsPosition = record { held = c.args.position.0; head = g.State.Natural.number c.args.position.1 } in
     let words : state.words ≡ map f (reverse (take at.pos buf)) =
     ap (λ (x : AnsState). x.words) (sym c.as_seekable_decoder-decoder.ensures.state) ∙ c.as_seekable_decoder-decoder.ensures.coder.words_are in
     let stands : at.pos ≡ length buf = omega (arith, becomes.1, ap length becomes.0) in

@@ -11,9 +11,9 @@ use Rattle.constriction_laws.proofs.stack.round_trips.words.pairs_from_items.Goa
 
 pub returns-clause-read : goal.returns-clause-read
 returns-clause-read g c = λ words tells.
-    let w = g.Word.BitArray.BITS in
-    let s = g.State.BitArray.BITS in
-    let number = g.Word.BitArray.number in
+    let w = g.Word.Natural.BITS in
+    let s = g.State.Natural.BITS in
+    let number = g.Word.Natural.number in
     let start = c.in-Ok.decoder in
     let last = c.decode_pairs.new.coder in
     let law = c.items_are_words.ensures words tells in
@@ -28,8 +28,8 @@ returns-clause-read g c = λ words tells.
 
 pub returns-clause-back : goal.returns-clause-back
 returns-clause-back g c = λ words symbols state tells coded same count.
-    let w = g.Word.BitArray.BITS in
-    let s = g.State.BitArray.BITS in
+    let w = g.Word.Natural.BITS in
+    let s = g.State.Natural.BITS in
     let P = g.row.PRECISION in
     let table = g.M.EntropyModel.table in
     let models = c.args.models.now in

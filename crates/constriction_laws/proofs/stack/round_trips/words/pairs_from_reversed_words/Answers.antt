@@ -9,8 +9,8 @@ use Rattle.constriction_laws.proofs.stack.round_trips.words.pairs_from_reversed_
 
 pub returns-clause-read : goal.returns-clause-read
 returns-clause-read g c =
-    let w = g.Word.BitArray.BITS in
-    let s = g.State.BitArray.BITS in
+    let w = g.Word.Natural.BITS in
+    let s = g.State.Natural.BITS in
     ok_weaker c.decode_pairs.result (c.decode_pairs.ensures.decoded tt)
     (λ again decoded. (
       c.decode_pairs.new.coder.state,
@@ -19,8 +19,8 @@ returns-clause-read g c =
 
 pub returns-clause-back : goal.returns-clause-back
 returns-clause-back g c = λ symbols state coded same count.
-    let w = g.Word.BitArray.BITS in
-    let s = g.State.BitArray.BITS in
+    let w = g.Word.Natural.BITS in
+    let s = g.State.Natural.BITS in
     let items = reverse (pairs_of g.row.PRECISION g.M.EntropyModel.table symbols c.args.models.now) in
     let full = encoded_all_valid w s items empty state (empty_valid w s) coded in
     let start = c.in-Ok.ensures.ok ∙ ap (λ ws. filled w s 0 ws) same ∙ c.import_of_export.ensures.state w s state c.requires full in

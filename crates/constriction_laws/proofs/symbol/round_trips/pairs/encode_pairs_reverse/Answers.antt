@@ -27,7 +27,7 @@ returns-clause-words g c =
     (λ _ p.
     let back = all_pairs_from_back e.0 e.2 same p.1 ∙ ap₂ (λ xs ks. reverse (zip xs ks)) first second in
     let all : map both_now (reverse e.2) ≡ zip symbols books = map-reverse both_now e.2 ∙ (ap (λ ps. reverse ps) back ∙ reverse-reverse (zip symbols books)) in
-    let written = written_last (λ s. s.bits) (PutsOnto g.Word.BitArray.BITS g.Word.BitArray.number (IsWrite g.B.Holds.words g.B.WriteWords.room g.B.WriteWords.writes g.B.WriteWords.write_fails)) _ (λ q. codeword q.1.now q.0.now) e.2 c.args.coder.now e.3 e.4 in
+    let written = written_last (λ s. s.bits) (PutsOnto g.Word.Natural.BITS g.Word.Natural.number (IsWrite g.B.Holds.words g.B.WriteWords.room g.B.WriteWords.writes g.B.WriteWords.write_fails)) _ (λ q. codeword q.1.now q.0.now) e.2 c.args.coder.now e.3 e.4 in
     (written.0, subst (λ ps. AreCodewords (λ q. codeword q.1 q.0) ps written.0) all (codewords_map both_now (λ q. codeword q.1 q.0) (reverse e.2) written.0 written.1), sym (ap (λ s. reverse s.bits) p.0) ∙ written.2))
     (λ _ _. tt)
 
@@ -43,6 +43,6 @@ returns-clause-err g c =
     MatchResult-weaker c.encode_symbols_reverse.result e.5
     (λ _ _. tt)
     (λ refusal p.
-    stops_back (λ s. s.bits) (PutsOnto g.Word.BitArray.BITS g.Word.BitArray.number (IsWrite g.B.Holds.words g.B.WriteWords.room g.B.WriteWords.writes g.B.WriteWords.write_fails)) _ codeword
+    stops_back (λ s. s.bits) (PutsOnto g.Word.Natural.BITS g.Word.Natural.number (IsWrite g.B.Holds.words g.B.WriteWords.room g.B.WriteWords.writes g.B.WriteWords.write_fails)) _ codeword
     (zip symbols books) (rest_of p.1) e.2 p.0 c.args.coder.now e.3 _ refusal
     (sym (ap₂ (λ xs ks. zip xs ks) first second) ∙ pair_stands_back e.0 e.2 p.0 p.1 same p.2) e.4 p.3)

@@ -15,6 +15,6 @@ fits q bits h =
 pub returns-in-Some : goal.returns-in-Some
 returns-in-Some g c =
     let sized = g.met.M.EntropyModel.sized c.args.model in
-    let quantile = rw (fits c.in-Some.quantile g.M.Probability.BitArray.BITS sized.1) at c.narrow.ensures in
+    let quantile = rw (fits c.in-Some.quantile g.M.Probability.Natural.BITS sized.1) at c.narrow.ensures in
     let covers = c.quantile_function-symbol.ensures.covers in
     record { step = (_, _, c.quantile_function-symbol.ensures.found, (refl, refl, (c.in-Some.quantile, search rules, (rw quantile at covers.0, rw quantile at covers.1)))) }

@@ -4,4 +4,4 @@ use Rattle.constriction_queue.proofs.decoder.symbols.RangeDecoderCode.state.Goal
 
 pub returns : goal.returns
 returns g c =
-    rw (← c.self.view_is) (refl, refl, is_decoder g.Word.BitArray.number g.Backend.Holds _ _ _ _ _ _ c.self.invariant c.self.inside.state.wide (g.met.State.BitArray.number_law _) (g.met.State.BitArray.number_law _) (mod-lt _ (pow_pos g.State.BitArray.BITS)))
+    rw (← c.self.view_is) (refl, refl, is_decoder g.Word.Natural.number g.Backend.Holds _ _ _ _ _ _ c.self.invariant c.self.inside.state.wide (g.met.State.Natural.number_law _) (g.met.State.Natural.number_law _) (mod-lt _ (pow_pos g.State.Natural.BITS)))

@@ -19,38 +19,38 @@ narrow_and_read-requires-clause-step g c =
 
 pub returns-then-not-is_nothing-clause-step : goal.returns-then-not-is_nothing-clause-step
 returns-then-not-is_nothing-clause-step g c =
-    let d = g.State.BitArray.number c.self.inside.distance in
-    let l = g.State.BitArray.number c.self.inside.state.lower in
-    let m = 2 ^ g.State.BitArray.BITS in
-    let read : g.State.BitArray.number c.quantile_at-quotient.result ≡ ((d + l) % m + (m - l)) % m / (g.State.BitArray.number c.self.inside.state.range / 2 ^ g.row.PRECISION) =
-    rw (distance_of d l m (g.met.State.BitArray.number_law _) (g.met.State.BitArray.number_law _)) c.quantile_at-quotient.ensures in
+    let d = g.State.Natural.number c.self.inside.distance in
+    let l = g.State.Natural.number c.self.inside.state.lower in
+    let m = 2 ^ g.State.Natural.BITS in
+    let read : g.State.Natural.number c.quantile_at-quotient.result ≡ ((d + l) % m + (m - l)) % m / (g.State.Natural.number c.self.inside.state.range / 2 ^ g.row.PRECISION) =
+    rw (distance_of d l m (g.met.State.Natural.number_law _) (g.met.State.Natural.number_law _)) c.quantile_at-quotient.ensures in
     let large = large_of_shr _ _ (λ e. let off = c.if-not-is_nothing.ensures.1 (c.shift_right.ensures ∙ e) in cc) in
     rw (← c.self.view_is) (inl (refl, rw read at large, refl))
 
 pub returns-then-not-is_nothing-clause-variant : goal.returns-then-not-is_nothing-clause-variant
 returns-then-not-is_nothing-clause-variant g c =
-    let d = g.State.BitArray.number c.self.inside.distance in
-    let l = g.State.BitArray.number c.self.inside.state.lower in
-    let m = 2 ^ g.State.BitArray.BITS in
-    let read : g.State.BitArray.number c.quantile_at-quotient.result ≡ ((d + l) % m + (m - l)) % m / (g.State.BitArray.number c.self.inside.state.range / 2 ^ g.row.PRECISION) =
-    rw (distance_of d l m (g.met.State.BitArray.number_law _) (g.met.State.BitArray.number_law _)) c.quantile_at-quotient.ensures in
+    let d = g.State.Natural.number c.self.inside.distance in
+    let l = g.State.Natural.number c.self.inside.state.lower in
+    let m = 2 ^ g.State.Natural.BITS in
+    let read : g.State.Natural.number c.quantile_at-quotient.result ≡ ((d + l) % m + (m - l)) % m / (g.State.Natural.number c.self.inside.state.range / 2 ^ g.row.PRECISION) =
+    rw (distance_of d l m (g.met.State.Natural.number_law _) (g.met.State.Natural.number_law _)) c.quantile_at-quotient.ensures in
     let large = large_of_shr _ _ (λ e. let off = c.if-not-is_nothing.ensures.1 (c.shift_right.ensures ∙ e) in cc) in
     rw (← c.self.view_is) (λ _. rw read at large, λ _. refl)
 
 pub returns-in-Ok-clause-step : goal.returns-in-Ok-clause-step
 returns-in-Ok-clause-step g c =
-    let d = g.State.BitArray.number c.self.inside.distance in
-    let l = g.State.BitArray.number c.self.inside.state.lower in
-    let m = 2 ^ g.State.BitArray.BITS in
-    let read : g.State.BitArray.number c.quantile_at-quotient.result ≡ ((d + l) % m + (m - l)) % m / (g.State.BitArray.number c.self.inside.state.range / 2 ^ g.row.PRECISION) =
-    rw (distance_of d l m (g.met.State.BitArray.number_law _) (g.met.State.BitArray.number_law _)) c.quantile_at-quotient.ensures in
+    let d = g.State.Natural.number c.self.inside.distance in
+    let l = g.State.Natural.number c.self.inside.state.lower in
+    let m = 2 ^ g.State.Natural.BITS in
+    let read : g.State.Natural.number c.quantile_at-quotient.result ≡ ((d + l) % m + (m - l)) % m / (g.State.Natural.number c.self.inside.state.range / 2 ^ g.row.PRECISION) =
+    rw (distance_of d l m (g.met.State.Natural.number_law _) (g.met.State.Natural.number_law _)) c.quantile_at-quotient.ensures in
     let sized = g.met.M.EntropyModel.sized c.args.model in
     let small = small_of_shr _ _ (sym c.shift_right.ensures ∙ c.if-not-is_nothing.ensures.0 refl) in
     let quantile = (rw c.narrow.ensures at c.narrow-quantile.ensures) ∙ low_in_word _ _ _ _ small (omega (arith, sized.1, g.met.M.Probability.WordOf.width_law)) sized.1 ∙ read in
-    let number = g.Word.BitArray.number in
-    let state = g.State.BitArray.number in
-    let w = g.Word.BitArray.BITS in
-    let s = g.State.BitArray.BITS in
+    let number = g.Word.Natural.number in
+    let state = g.State.Natural.number in
+    let w = g.Word.Natural.BITS in
+    let s = g.State.Natural.BITS in
     let old = decoder_at number g.Backend.Holds s (state c.self.inside.state.lower) (state c.self.inside.state.range) (state c.self.inside.distance) c.self.inside.bulk in
     let new = decoder_at number g.Backend.Holds s (state c.in-Ok.now.lower) (state c.in-Ok.now.range) (state c.in-Ok.now.distance) c.narrow_and_read.new.bulk in
     let step = ap₂ (λ (left p : ℕ). step_of g.row.PRECISION left p) (c.widen-left.ensures ∙ c.widen.ensures) (c.widen-p.ensures ∙ c.widen-2.ensures ∙ c.from_nonzero-p.ensures) in
@@ -62,8 +62,8 @@ returns-in-Ok-clause-step g c =
       (
         Ok tt,
         record {
-          before = is_decoder g.Word.BitArray.number g.Backend.Holds _ _ _ _ _ _ c.self.invariant c.self.inside.state.wide (g.met.State.BitArray.number_law _) (g.met.State.BitArray.number_law _) (mod-lt _ (pow_pos g.State.BitArray.BITS));
-          after = is_decoder g.Word.BitArray.number g.Backend.Holds _ _ _ _ _ _ c.self.invariant c.in-Ok.ensures.wide (g.met.State.BitArray.number_law _) (g.met.State.BitArray.number_law _) (mod-lt _ (pow_pos g.State.BitArray.BITS));
+          before = is_decoder g.Word.Natural.number g.Backend.Holds _ _ _ _ _ _ c.self.invariant c.self.inside.state.wide (g.met.State.Natural.number_law _) (g.met.State.Natural.number_law _) (mod-lt _ (pow_pos g.State.Natural.BITS));
+          after = is_decoder g.Word.Natural.number g.Backend.Holds _ _ _ _ _ _ c.self.invariant c.in-Ok.ensures.wide (g.met.State.Natural.number_law _) (g.met.State.Natural.number_law _) (mod-lt _ (pow_pos g.State.Natural.BITS));
           from = rw quantile at covers.0;
           below = rw quantile at covers.1;
           read = λ list. follows_by w s old new _ _ step (c.in-Ok.ensures.list list);
@@ -80,21 +80,21 @@ returns-in-Ok-clause-step g c =
 
 pub returns-in-Ok-clause-variant : goal.returns-in-Ok-clause-variant
 returns-in-Ok-clause-variant g c =
-    let d = g.State.BitArray.number c.self.inside.distance in
-    let l = g.State.BitArray.number c.self.inside.state.lower in
-    let m = 2 ^ g.State.BitArray.BITS in
-    let read : g.State.BitArray.number c.quantile_at-quotient.result ≡ ((d + l) % m + (m - l)) % m / (g.State.BitArray.number c.self.inside.state.range / 2 ^ g.row.PRECISION) =
-    rw (distance_of d l m (g.met.State.BitArray.number_law _) (g.met.State.BitArray.number_law _)) c.quantile_at-quotient.ensures in
+    let d = g.State.Natural.number c.self.inside.distance in
+    let l = g.State.Natural.number c.self.inside.state.lower in
+    let m = 2 ^ g.State.Natural.BITS in
+    let read : g.State.Natural.number c.quantile_at-quotient.result ≡ ((d + l) % m + (m - l)) % m / (g.State.Natural.number c.self.inside.state.range / 2 ^ g.row.PRECISION) =
+    rw (distance_of d l m (g.met.State.Natural.number_law _) (g.met.State.Natural.number_law _)) c.quantile_at-quotient.ensures in
     let small = rw read at (small_of_shr _ _ (sym c.shift_right.ensures ∙ c.if-not-is_nothing.ensures.0 refl)) in
     rw (← c.self.view_is) (λ e. absurd (cc), λ h. absurd (omega arith))
 
 pub returns-clause-step : goal.returns-clause-step
 returns-clause-step g c =
-    let d = g.State.BitArray.number c.self.inside.distance in
-    let l = g.State.BitArray.number c.self.inside.state.lower in
-    let m = 2 ^ g.State.BitArray.BITS in
-    let read : g.State.BitArray.number c.quantile_at-quotient.result ≡ ((d + l) % m + (m - l)) % m / (g.State.BitArray.number c.self.inside.state.range / 2 ^ g.row.PRECISION) =
-    rw (distance_of d l m (g.met.State.BitArray.number_law _) (g.met.State.BitArray.number_law _)) c.quantile_at-quotient.ensures in
+    let d = g.State.Natural.number c.self.inside.distance in
+    let l = g.State.Natural.number c.self.inside.state.lower in
+    let m = 2 ^ g.State.Natural.BITS in
+    let read : g.State.Natural.number c.quantile_at-quotient.result ≡ ((d + l) % m + (m - l)) % m / (g.State.Natural.number c.self.inside.state.range / 2 ^ g.row.PRECISION) =
+    rw (distance_of d l m (g.met.State.Natural.number_law _) (g.met.State.Natural.number_law _)) c.quantile_at-quotient.ensures in
     let sized = g.met.M.EntropyModel.sized c.args.model in
     let small = small_of_shr _ _ (sym c.shift_right.ensures ∙ c.if-not-is_nothing.ensures.0 refl) in
     let quantile = (rw c.narrow.ensures at c.narrow-quantile.ensures) ∙ low_in_word _ _ _ _ small (omega (arith, sized.1, g.met.M.Probability.WordOf.width_law)) sized.1 ∙ read in
@@ -108,8 +108,8 @@ returns-clause-step g c =
         (
           Err c.in-Err.error,
           record {
-            before = is_decoder g.Word.BitArray.number g.Backend.Holds _ _ _ _ _ _ c.self.invariant c.self.inside.state.wide (g.met.State.BitArray.number_law _) (g.met.State.BitArray.number_law _) (mod-lt _ (pow_pos g.State.BitArray.BITS));
-            after = is_decoder g.Word.BitArray.number g.Backend.Holds _ _ _ _ _ _ c.self.invariant c.self.inside.state.wide (g.met.State.BitArray.number_law _) (g.met.State.BitArray.number_law _) (mod-lt _ (pow_pos g.State.BitArray.BITS));
+            before = is_decoder g.Word.Natural.number g.Backend.Holds _ _ _ _ _ _ c.self.invariant c.self.inside.state.wide (g.met.State.Natural.number_law _) (g.met.State.Natural.number_law _) (mod-lt _ (pow_pos g.State.Natural.BITS));
+            after = is_decoder g.Word.Natural.number g.Backend.Holds _ _ _ _ _ _ c.self.invariant c.self.inside.state.wide (g.met.State.Natural.number_law _) (g.met.State.Natural.number_law _) (mod-lt _ (pow_pos g.State.Natural.BITS));
             from = rw quantile at covers.0;
             below = rw quantile at covers.1;
             read = tt;
@@ -127,11 +127,11 @@ returns-clause-step g c =
 
 pub returns-clause-variant : goal.returns-clause-variant
 returns-clause-variant g c =
-    let d = g.State.BitArray.number c.self.inside.distance in
-    let l = g.State.BitArray.number c.self.inside.state.lower in
-    let m = 2 ^ g.State.BitArray.BITS in
-    let read : g.State.BitArray.number c.quantile_at-quotient.result ≡ ((d + l) % m + (m - l)) % m / (g.State.BitArray.number c.self.inside.state.range / 2 ^ g.row.PRECISION) =
-    rw (distance_of d l m (g.met.State.BitArray.number_law _) (g.met.State.BitArray.number_law _)) c.quantile_at-quotient.ensures in
+    let d = g.State.Natural.number c.self.inside.distance in
+    let l = g.State.Natural.number c.self.inside.state.lower in
+    let m = 2 ^ g.State.Natural.BITS in
+    let read : g.State.Natural.number c.quantile_at-quotient.result ≡ ((d + l) % m + (m - l)) % m / (g.State.Natural.number c.self.inside.state.range / 2 ^ g.row.PRECISION) =
+    rw (distance_of d l m (g.met.State.Natural.number_law _) (g.met.State.Natural.number_law _)) c.quantile_at-quotient.ensures in
     let small = rw read at (small_of_shr _ _ (sym c.shift_right.ensures ∙ c.if-not-is_nothing.ensures.0 refl)) in
     rw (← c.self.view_is) (λ e. absurd (cc), λ h. absurd (omega arith))
 

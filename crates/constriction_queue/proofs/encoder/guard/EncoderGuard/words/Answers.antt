@@ -6,4 +6,4 @@ use Rattle.constriction_queue.proofs.encoder.guard.EncoderGuard.words.Goals as g
 pub returns-clause-shows : goal.returns-clause-shows
 returns-clause-shows g c =
     let items = c.inner.inside.bulk.items in
-    rw (c.as_slice.ensures.value, ← c.inner.view_is) (queue_is g.Word.BitArray.number (reverse items) (sym (reverse-reverse items)) refl)
+    rw (c.as_slice.ensures.value, ← c.inner.view_is) (queue_is g.Word.Natural.number (reverse items) (sym (reverse-reverse items)) refl)

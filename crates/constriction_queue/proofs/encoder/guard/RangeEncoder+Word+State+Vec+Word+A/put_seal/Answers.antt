@@ -9,13 +9,13 @@ use Rattle.std.proofs.Math.Seq.{drop-append_seam}
 
 pub returns-clause-shows : goal.returns-clause-shows
 returns-clause-shows g c =
-    let number = g.Word.BitArray.number in
+    let number = g.Word.Natural.number in
     let words = reverse c.self.inside.bulk.items in
-    rw (← c.self.view_is) (ap reverse c.in_ok-flush_words.ensures.words ∙ c.make_seal-seal.ensures.words (map number words) (words_of_numbers number _ g.met.Word.BitArray.number_law words))
+    rw (← c.self.view_is) (ap reverse c.in_ok-flush_words.ensures.words ∙ c.make_seal-seal.ensures.words (map number words) (words_of_numbers number _ g.met.Word.Natural.number_law words))
 
 pub returns-clause-back : goal.returns-clause-back
 returns-clause-back g c =
-    let number = g.Word.BitArray.number in
+    let number = g.Word.Natural.number in
     let words = reverse c.self.inside.bulk.items in
     let seal = c.make_seal-seal.result in
     let owed = flushed_of number seal.held seal.point seal.zero in
@@ -23,11 +23,11 @@ returns-clause-back g c =
 
 pub returns-in_err-flush_words-clause-room : goal.returns-in_err-flush_words-clause-room
 returns-in_err-flush_words-clause-room g c =
-    let number = g.Word.BitArray.number in
+    let number = g.Word.Natural.number in
     let words = reverse c.self.inside.bulk.items in
     let seal = c.make_seal-seal.result in
     let owed = flushed_of number seal.held seal.point seal.zero in
-    let all = c.make_seal-seal.ensures.words (map number words) (words_of_numbers number _ g.met.Word.BitArray.number_law words) in
+    let all = c.make_seal-seal.ensures.words (map number words) (words_of_numbers number _ g.met.Word.Natural.number_law words) in
     let count = count_is number owed words _ all in
     let len = length-map words number in
     let told = err_from_is_err_and c.from_residual.result c.from_residual.ensures.1 in
@@ -35,8 +35,8 @@ returns-in_err-flush_words-clause-room g c =
 
 pub returns-clause-coder : goal.returns-clause-coder
 returns-clause-coder g c =
-    is_encoder g.Word.BitArray.number _ _ _ _ _ _ c.self.inside.situation c.self.invariant.0 c.self.invariant.1 c.self.inside.state.wide (g.met.State.BitArray.number_law _) (g.met.State.BitArray.number_law _)
+    is_encoder g.Word.Natural.number _ _ _ _ _ _ c.self.inside.situation c.self.invariant.0 c.self.invariant.1 c.self.inside.state.wide (g.met.State.Natural.number_law _) (g.met.State.Natural.number_law _)
 
 pub returns-in_err-flush_words-clause-coder : goal.returns-in_err-flush_words-clause-coder
 returns-in_err-flush_words-clause-coder g c =
-    is_encoder g.Word.BitArray.number _ _ _ _ _ _ c.self.inside.situation c.self.invariant.0 c.self.invariant.1 c.self.inside.state.wide (g.met.State.BitArray.number_law _) (g.met.State.BitArray.number_law _)
+    is_encoder g.Word.Natural.number _ _ _ _ _ _ c.self.inside.situation c.self.invariant.0 c.self.invariant.1 c.self.inside.state.wide (g.met.State.Natural.number_law _) (g.met.State.Natural.number_law _)

@@ -13,30 +13,30 @@ buffer place = place.buf
 
 pub returns-clause-same_reference : goal.returns-clause-same_reference
 returns-clause-same_reference g c =
-    let buf = cursor_keeps Infallible g.Word.BitArray.number lent_by _ _ _ c.new_at_write_beginning-bulk.result c.read_point.new.bulk c.in-Ok.ensures.reads ∙ ap buffer c.new_at_write_beginning-bulk.ensures in
+    let buf = cursor_keeps Infallible g.Word.Natural.number lent_by _ _ _ c.new_at_write_beginning-bulk.result c.read_point.new.bulk c.in-Ok.ensures.reads ∙ ap buffer c.new_at_write_beginning-bulk.ensures in
     rw buf refl
 
 pub returns-clause-ok : goal.returns-clause-ok
 returns-clause-ok g c =
-    let number = g.Word.BitArray.number in
+    let number = g.Word.Natural.number in
     let items = c.put_seal.new.self.bulk.items in
     let sealed = rw c.put_seal.ensures.coder.words_are at c.in_ok-count.ensures.shows in
     let all = queue_is number (reverse items) (sym (reverse-reverse items)) sealed in
     let point = rw c.new_at_write_beginning-bulk.ensures at ((c.in-Ok.ensures.list tt).0) in
     let rest = rw c.new_at_write_beginning-bulk.ensures at ((c.in-Ok.ensures.list tt).1) in
-    at_start _ _ _ _ _ _ _ c.start.ensures.lower c.start.ensures.range (mod-lt _ (pow_pos g.State.BitArray.BITS)) (from_zero _ _ _ c.start.ensures.lower (g.met.State.BitArray.number_law _) ∙ (rw all at point)) (rw all at rest)
+    at_start _ _ _ _ _ _ _ c.start.ensures.lower c.start.ensures.range (mod-lt _ (pow_pos g.State.Natural.BITS)) (from_zero _ _ _ c.start.ensures.lower (g.met.State.Natural.number_law _) ∙ (rw all at point)) (rw all at rest)
 
 pub returns-clause-back : goal.returns-clause-back
 returns-clause-back g c =
-    let buf = cursor_keeps Infallible g.Word.BitArray.number lent_by _ _ _ c.new_at_write_beginning-bulk.result c.read_point.new.bulk c.in-Ok.ensures.reads ∙ ap buffer c.new_at_write_beginning-bulk.ensures in
+    let buf = cursor_keeps Infallible g.Word.Natural.number lent_by _ _ _ c.new_at_write_beginning-bulk.result c.read_point.new.bulk c.in-Ok.ensures.reads ∙ ap buffer c.new_at_write_beginning-bulk.ensures in
     rw buf c.in_ok-count.ensures.back
 
 pub returns-clause-heads : goal.returns-clause-heads
 returns-clause-heads g c =
-    let buf = cursor_keeps Infallible g.Word.BitArray.number lent_by _ _ _ c.new_at_write_beginning-bulk.result c.read_point.new.bulk c.in-Ok.ensures.reads ∙ ap buffer c.new_at_write_beginning-bulk.ensures in
+    let buf = cursor_keeps Infallible g.Word.Natural.number lent_by _ _ _ c.new_at_write_beginning-bulk.result c.read_point.new.bulk c.in-Ok.ensures.reads ∙ ap buffer c.new_at_write_beginning-bulk.ensures in
     rw buf c.put_seal.ensures.heads
 
 pub returns-clause-shows : goal.returns-clause-shows
 returns-clause-shows g c =
-    let buf = cursor_keeps Infallible g.Word.BitArray.number lent_by _ _ _ c.new_at_write_beginning-bulk.result c.read_point.new.bulk c.in-Ok.ensures.reads ∙ ap buffer c.new_at_write_beginning-bulk.ensures in
+    let buf = cursor_keeps Infallible g.Word.Natural.number lent_by _ _ _ c.new_at_write_beginning-bulk.result c.read_point.new.bulk c.in-Ok.ensures.reads ∙ ap buffer c.new_at_write_beginning-bulk.ensures in
     rw buf c.in_ok-count.ensures.shows

@@ -11,11 +11,11 @@ from_compressed-requires g c = c.requires
 pub returns-in-Ok-clause-ok : goal.returns-in-Ok-clause-ok
 returns-in-Ok-clause-ok g c =
     c.in-Ok.ensures.ok tt
-    ∙ ap (λ ws. filled g.Word.BitArray.BITS g.State.BitArray.BITS 0 (map g.Word.BitArray.number ws)) (all_below (λ buf. buf.now) _ _ c.new_at_write_end.ensures)
+    ∙ ap (λ ws. filled g.Word.Natural.BITS g.State.Natural.BITS 0 (map g.Word.Natural.number ws)) (all_below (λ buf. buf.now) _ _ c.new_at_write_end.ensures)
 
 pub returns-in-Ok-clause-variant : goal.returns-in-Ok-clause-variant
 returns-in-Ok-clause-variant g c = (
-  λ is. still_high g.Word.BitArray.number _ _ (all_below (λ buf. buf.now) _ _ c.new_at_write_end.ensures) (c.in-Ok.ensures.some tt),
+  λ is. still_high g.Word.Natural.number _ _ (all_below (λ buf. buf.now) _ _ c.new_at_write_end.ensures) (c.in-Ok.ensures.some tt),
   λ high. refl,
 )
 
@@ -33,8 +33,8 @@ returns-in-Err-clause-ok g c = tt
 pub returns-in-Err-clause-variant : goal.returns-in-Err-clause-variant
 returns-in-Err-clause-variant g c = (
   λ is. absurd cc,
-  λ high. absurd (refused_low {E = Infallible} g.Word.BitArray.number _ _ (λ never. elim never [ ]) (c.in-Err.ensures.taken tt)
-      (still_high g.Word.BitArray.number _ _ (sym (all_below (λ buf. buf.now) _ _ c.new_at_write_end.ensures)) high)),
+  λ high. absurd (refused_low {E = Infallible} g.Word.Natural.number _ _ (λ never. elim never [ ]) (c.in-Err.ensures.taken tt)
+      (still_high g.Word.Natural.number _ _ (sym (all_below (λ buf. buf.now) _ _ c.new_at_write_end.ensures)) high)),
 )
 
 pub returns-in-Err-clause-buffer : goal.returns-in-Err-clause-buffer

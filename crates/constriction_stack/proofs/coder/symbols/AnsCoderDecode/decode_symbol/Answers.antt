@@ -20,7 +20,7 @@ low_bits_are w p low head q h is e =
 pub pop_head-head-requires-clause-quantile : goal.pop_head-head-requires-clause-quantile
 pop_head-head-requires-clause-quantile g c =
     let sized = g.met.M.EntropyModel.sized c.args.model in
-    low_bits_are g.Word.BitArray.BITS g.row.PRECISION (g.Word.BitArray.number c.self.inside.low) (g.State.BitArray.number c.self.inside.state) _
+    low_bits_are g.Word.Natural.BITS g.row.PRECISION (g.Word.Natural.number c.self.inside.low) (g.State.Natural.number c.self.inside.state) _
     (omega (arith, sized.1, g.met.M.Probability.WordOf.width_law)) c.self.inside.low_word (rw c.widen.ensures at c.low_bits-quantile.ensures)
 
 -- the quantile that is looked up
@@ -30,7 +30,7 @@ quantile_is w v p low head q h k is e = low_bits_are w p low head q h is (e ∙ 
 pub returns-in-Ok : goal.returns-in-Ok
 returns-in-Ok g c =
     let sized = g.met.M.EntropyModel.sized c.args.model in
-    let quantile = quantile_is g.Word.BitArray.BITS g.M.Probability.BitArray.BITS g.row.PRECISION (g.Word.BitArray.number c.self.inside.low) (g.State.BitArray.number c.self.inside.state) _
+    let quantile = quantile_is g.Word.Natural.BITS g.M.Probability.Natural.BITS g.row.PRECISION (g.Word.Natural.number c.self.inside.low) (g.State.Natural.number c.self.inside.state) _
     (omega (arith, sized.1, g.met.M.Probability.WordOf.width_law)) sized.1 c.self.inside.low_word (rw (c.narrow.ensures, c.low_bits-quantile.ensures, c.widen.ensures) at c.narrow-2.ensures) in
     let covers = c.quantile_function-symbol.ensures.covers in
     record {
@@ -41,8 +41,8 @@ returns-in-Ok g c =
         (
           Ok tt,
           record {
-            before = is_coder _ _ _ _ _ _ c.self.invariant (g.met.State.BitArray.number_law _);
-            after = is_coder _ _ _ _ _ _ c.self.invariant (g.met.State.BitArray.number_law _);
+            before = is_coder _ _ _ _ _ _ c.self.invariant (g.met.State.Natural.number_law _);
+            after = is_coder _ _ _ _ _ _ c.self.invariant (g.met.State.Natural.number_law _);
             is_next = record { from = rw quantile at covers.0; below = rw quantile at covers.1 };
             popped = λ list. sym (rw (c.pop_head-head.ensures, c.widen-3.ensures, c.widen-2.ensures, c.widen-5.ensures, c.widen-4.ensures, c.from_nonzero-p.ensures) at c.in-Ok.ensures.list list);
             refilled = rw (c.pop_head-head.ensures, c.widen-3.ensures, c.widen-2.ensures, c.widen-5.ensures, c.widen-4.ensures, c.from_nonzero-p.ensures) at c.in-Ok.ensures.reads;
@@ -58,7 +58,7 @@ returns-in-Ok g c =
 pub returns : goal.returns
 returns g c =
     let sized = g.met.M.EntropyModel.sized c.args.model in
-    let quantile = quantile_is g.Word.BitArray.BITS g.M.Probability.BitArray.BITS g.row.PRECISION (g.Word.BitArray.number c.self.inside.low) (g.State.BitArray.number c.self.inside.state) _
+    let quantile = quantile_is g.Word.Natural.BITS g.M.Probability.Natural.BITS g.row.PRECISION (g.Word.Natural.number c.self.inside.low) (g.State.Natural.number c.self.inside.state) _
     (omega (arith, sized.1, g.met.M.Probability.WordOf.width_law)) sized.1 c.self.inside.low_word (rw (c.narrow.ensures, c.low_bits-quantile.ensures, c.widen.ensures) at c.narrow-2.ensures) in
     let covers = c.quantile_function-symbol.ensures.covers in
     record {
@@ -71,8 +71,8 @@ returns g c =
           (
             Err c.in-Err.error,
             record {
-              before = is_coder _ _ _ _ _ _ c.self.invariant (g.met.State.BitArray.number_law _);
-              after = is_coder _ _ _ _ _ _ c.self.invariant (g.met.State.BitArray.number_law _);
+              before = is_coder _ _ _ _ _ _ c.self.invariant (g.met.State.Natural.number_law _);
+              after = is_coder _ _ _ _ _ _ c.self.invariant (g.met.State.Natural.number_law _);
               is_next = record { from = rw quantile at covers.0; below = rw quantile at covers.1 };
               popped = tt;
               refilled = tt;

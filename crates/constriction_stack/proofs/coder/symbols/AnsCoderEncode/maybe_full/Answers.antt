@@ -6,7 +6,7 @@ use Rattle.constriction_stack.proofs.coder.symbols.AnsCoderEncode.maybe_full.Goa
 
 pub returns-clause-room : goal.returns-clause-room
 returns-clause-room g c = rw (← c.self.view_is) (room_unless _ c.maybe_full.result ⊤
-    (EncodeCall g.Word.BitArray.number g.Backend.Holds g.Backend.WriteWords g.Word.BitArray.BITS g.State.BitArray.BITS)
+    (EncodeCall g.Word.Natural.number g.Backend.Holds g.Backend.WriteWords g.Word.Natural.BITS g.State.Natural.BITS)
     g.Backend.WriteWords.is_lack_of_room _
     (λ not_full any step e new given lack. elim given.error.1 [
       | inl prepare ↦ g.met.Backend.WriteWords.full_law _ e (sym c.maybe_full.ensures.value ∙ not_full) lack prepare

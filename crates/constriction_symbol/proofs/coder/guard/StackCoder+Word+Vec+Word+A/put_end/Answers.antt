@@ -5,18 +5,18 @@ use Rattle.constriction_symbol.proofs.coder.guard.StackCoder+Word+Vec+Word+A.put
 
 pub returns-clause-shows : goal.returns-clause-shows
 returns-clause-shows g c =
-    let w = g.Word.BitArray.BITS in
+    let w = g.Word.Natural.BITS in
     let last = c.push-2.new.self in
     let more : last ≡ c.self.inside.last ++ true ∷ [] = rw c.copied-last.ensures at c.push-2.ensures in
     let some : 0 < length last = rw more (omega (arith, length-append c.self.inside.last (true ∷ []))) in
     let ends = bit_after _ c.self.inside.last last true more in
-    let closed = stack_closed w g.Word.BitArray.number (reverse c.self.inside.backend.items) (reverse c.write-2.new.self.items) last c.word-2.result _ c.word-2.ensures.bits c.word-2.ensures.small c.word-2.ensures.within some c.in-Ok-write-3.ensures.ok ends in
+    let closed = stack_closed w g.Word.Natural.number (reverse c.self.inside.backend.items) (reverse c.write-2.new.self.items) last c.word-2.result _ c.word-2.ensures.bits c.word-2.ensures.small c.word-2.ensures.within some c.in-Ok-write-3.ensures.ok ends in
     rw (← c.self.view_is) (rw (reverse-reverse c.write-2.new.self.items) at closed)
 
 pub returns-then-is_full-clause-shows : goal.returns-then-is_full-clause-shows
 returns-then-is_full-clause-shows g c =
-    let w = g.Word.BitArray.BITS in
-    let number = g.Word.BitArray.number in
+    let w = g.Word.Natural.BITS in
+    let number = g.Word.Natural.number in
     let last = c.push.new.self in
     let begun : last ≡ true ∷ [] = rw c.none-end.ensures at c.push.ensures in
     let some : 0 < length last = rw begun (omega arith) in

@@ -5,8 +5,8 @@ use Rattle.constriction_symbol.proofs.coder.words.StackCoder+Word+B.into_compres
 
 pub returns-in-Ok-write-clause-ok : goal.returns-in-Ok-write-clause-ok
 returns-in-Ok-write-clause-ok g c =
-    let w = g.Word.BitArray.BITS in
-    let number = g.Word.BitArray.number in
+    let w = g.Word.Natural.BITS in
+    let number = g.Word.Natural.number in
     let last = c.put_last.new.last in
     let some = put_some {E = g.row.B-WriteError.Denot} w number (IsWrite g.B.Holds.words g.B.WriteWords.room g.B.WriteWords.writes g.B.WriteWords.write_fails) c.self.inside.last last c.self.inside.backend c.put_last.new.backend true c.in-Ok.ensures in
     let put = puts_bits {E = g.row.B-WriteError.Denot} w number g.B.Holds.words g.B.WriteWords.room g.B.WriteWords.writes g.B.WriteWords.write_fails c.self.inside.last last c.self.inside.backend c.put_last.new.backend true (Ok tt) c.in-Ok.ensures in
@@ -15,8 +15,8 @@ returns-in-Ok-write-clause-ok g c =
 
 pub returns-in-Ok-write-clause-closes : goal.returns-in-Ok-write-clause-closes
 returns-in-Ok-write-clause-closes g c =
-    let w = g.Word.BitArray.BITS in
-    let number = g.Word.BitArray.number in
+    let w = g.Word.Natural.BITS in
+    let number = g.Word.Natural.number in
     let last = c.put_last.new.last in
     let some = put_some {E = g.row.B-WriteError.Denot} w number (IsWrite g.B.Holds.words g.B.WriteWords.room g.B.WriteWords.writes g.B.WriteWords.write_fails) c.self.inside.last last c.self.inside.backend c.put_last.new.backend true c.in-Ok.ensures in
     let padded = word_padded w last (number c.word.result) c.word.ensures.bits c.word.ensures.small c.word.ensures.within some in
@@ -25,8 +25,8 @@ returns-in-Ok-write-clause-closes g c =
 
 pub returns-in-Err-write-clause-closes : goal.returns-in-Err-write-clause-closes
 returns-in-Err-write-clause-closes g c =
-    let w = g.Word.BitArray.BITS in
-    let number = g.Word.BitArray.number in
+    let w = g.Word.Natural.BITS in
+    let number = g.Word.Natural.number in
     let last = c.put_last.new.last in
     let some = put_some {E = g.row.B-WriteError.Denot} w number (IsWrite g.B.Holds.words g.B.WriteWords.room g.B.WriteWords.writes g.B.WriteWords.write_fails) c.self.inside.last last c.self.inside.backend c.put_last.new.backend true c.in-Ok.ensures in
     let padded = word_padded w last (number c.word.result) c.word.ensures.bits c.word.ensures.small c.word.ensures.within some in

@@ -8,7 +8,7 @@ returns-then-place-len g c =
     let place = c.place_of-place.result in
     let at = c.place_of-place.ensures nodes (rw c.deref.ensures.value c.self.invariant.1) in
     rw (← c.self.view_is)
-    (top_begins nodes g.Word.BitArray.BITS c.args.count (g.Word.BitArray.number c.args.bits) place.index place.taken c.self.invariant.0 (omega (arith, c.if-place-len.true, c.len.ensures)) (omega (arith, c.if-place-eq0.false)) (omega (arith, c.if-place-count.false)) at.1)
+    (top_begins nodes g.Word.Natural.BITS c.args.count (g.Word.Natural.number c.args.bits) place.index place.taken c.self.invariant.0 (omega (arith, c.if-place-len.true, c.len.ensures)) (omega (arith, c.if-place-eq0.false)) (omega (arith, c.if-place-count.false)) at.1)
 
 pub walk_on-requires-clause-place : goal.walk_on-requires-clause-place
 walk_on-requires-clause-place g c =

@@ -12,4 +12,4 @@ returns g c =
     let within : c.args.symbol.now ≤ length inside.nodes.items / 2 = omega (arith, c.if-symbol-len.false, c.len.ensures) in
     let is = get_or_read_under inside.codewords.items c.args.symbol.now (length inside.nodes.items) c.index.result.now 0 c.index.ensures (omega (arith, within, climbs.some)) (omega (arith, have.len)) in
     rw (← c.self.view_is)
-    (read_codeword g.Word.BitArray.number g.Word.BitArray.BITS c.args.symbol.now c.index.result.now inside.nodes.items inside.codewords.items (tree_of_parents inside.nodes.items) c.below_one.result climbs have within is c.below_one.ensures.some c.below_one.ensures.bits)
+    (read_codeword g.Word.Natural.number g.Word.Natural.BITS c.args.symbol.now c.index.result.now inside.nodes.items inside.codewords.items (tree_of_parents inside.nodes.items) c.below_one.result climbs have within is c.below_one.ensures.some c.below_one.ensures.bits)
