@@ -30,19 +30,24 @@ def declared_by_trait(text):
     return {*TRAIT.findall(text), *GHOST.findall(text)}
 
 
-def stand_ins(traits):
-    """Returns a replacement for each trait and each of its ghost members, by name, for traits outside of the texts.
+def stand_ins(name, related, whole):
+    """Returns a replacement for a trait that is outside of the texts, and those of its ghost members by name.
 
-    A trait's replacement has its methods, and a member's also has its place in the trait. A trait without methods has
-    an empty replacement.
+    `related` has the names of the traits that supertraits connect with the trait, and `whole` has the texts of traits
+    with the members of their supertraits. The trait's replacement has its methods. A member's has those of all related
+    traits, the member's type, and its place among members of this type. A trait without methods has an empty
+    replacement.
     """
-    found, members = {}, collections.defaultdict(list)
-    for name, text in traits.items():
-        methods = " ".join(METHOD.findall(text))
-        found[name] = methods and f"§({methods})"
-        for place, member in enumerate(GHOST.findall(text)):
-            members[member].append(f"§({methods}).{place}")
-    return {member: " ".join(sorted(places)) for member, places in members.items()} | found
+    methods = " ".join(sorted(METHOD.findall(whole[name])))
+    all_methods = " ".join(sorted({method for it in related for method in METHOD.findall(whole[it])}))
+    texts = sorted({line for it in related for line in whole[it].split("\n") if GHOST.search(line)})
+    own, types, members = {GHOST.search(it)[1] for it in texts}, collections.defaultdict(list), {}
+    for text in texts:
+        types[replaced(GHOST.sub("", text), own, lambda _: "§")].append(GHOST.search(text)[1])
+    for of_type, of_names in types.items():
+        for place, member in enumerate(of_names):
+            members[member] = f"§({all_methods}).{of_type}.{place}"
+    return methods and f"§({methods})", members
 
 
 def without_names(texts, names, others):

@@ -9,6 +9,7 @@ import subprocess
 from edit import read
 from items import implemented, is_of_trait, items, words_of
 from layout import said_by_definitions, without_comments
+from related import related, supertraits, whole_of
 from renaming import FIELD_OF_RECORD, declared_by_trait, declared_by_type, stand_ins
 
 # The first line of a definition, or of one of its cases.
@@ -16,6 +17,8 @@ DEFINED = re.compile(r"(?:(?:pub|abbrev|unfoldable|record|data|lemma|instance) )
 LABEL = re.compile(r"\b(requires|ensures\*?) [\w']+ \{")
 TYPES = ("struct", "enum", "union", "type", "const", "static")
 USE = re.compile(r"^ *(?:pub(?:\([^)]*\))? |ghost )*use ([^;{\n]*)(\{[^}]*)?", re.MULTILINE)
+# A trait: its header, the texts of its members, and its file.
+Trait = collections.namedtuple("Trait", "head members file")
 # A ghost member of an impl: its name, its trait, the impl's type, its text, and its file.
 Member = collections.namedtuple("Member", "name trait type text file")
 
@@ -86,12 +89,12 @@ class Sources:
         return found
 
     def traits(self):
-        """Returns the text of each trait by name, with its header on the first line, and its file."""
-        texts = collections.defaultdict(list)
+        """Returns each trait by name."""
+        members = collections.defaultdict(list)
         for file, it in self.items_by_file():
             if is_of_trait(it):
-                texts[it.head, file].append(unlabelled(it.text))
-        return {implemented(head)[0]: ("\n".join([head, *texts[head, file]]), file) for head, file in texts}
+                members[it.head, file] += [unlabelled(it.text)] if it.kind != "header" else []
+        return {implemented(head)[0]: Trait(head, texts, file) for (head, file), texts in members.items()}
 
     def members(self):
         """Returns the ghost members of impls that some text cites, or whose trait another library declares."""
@@ -103,7 +106,9 @@ class Sources:
         found = []
         for file, it in ghosts:
             if implemented(it.head)[0] not in declared or told[it.name] > own[it.name] and not is_of_trait(it):
-                found.append(Member(it.name, *implemented(it.head), f"{it.head} {it.text}", file))
+                of_trait, of_type = implemented(it.head)
+                head = re.sub(rf"\b{of_trait} for\b", "for", it.head) if of_trait else it.head  # its members tell which
+                found.append(Member(it.name, of_trait, of_type, f"{head} {it.text}", file))
         return found
 
     def used_of(self, libraries):
@@ -163,21 +168,46 @@ class Meaning:
         members = [
             (member.text, member.file)
             for member in self.members
-            if told & {member.name, member.trait} and words & words_of(member.type)
+            if told & {member.name, *self.with_supertrait[member.trait]} and words & words_of(member.type)
         ]
         due = [(f"{it.head} {unlabelled(it.text)}", file), *traits, *members]
         seen = set(due)
         for text in due:
             due += self.named(*text) - seen
             seen |= self.named(*text)
-        return {text for text, _ in seen}
+        return {text for text, _ in seen - set(traits)} | self.whole_traits_of(implemented(it.head)[0])
 
-    def traits_of(self, name):
-        """Returns a trait, and then the traits that its header names, directly or through others."""
+    @functools.cached_property
+    def with_supertrait(self):
+        """Returns the names of a trait and of the traits that have it as a supertrait, by its name."""
+        found = collections.defaultdict(set, {it.trait: {it.trait} for it in self.members})
+        for name in self.traits:
+            for above in (name, *supertraits(self.traits, name)):
+                found[above].add(name)
+        return found
+
+    def trait_names_of(self, name):
+        """Returns the name of a trait, and then of the traits that its header names, directly or through others."""
         names = [name] if name in self.traits else []
         for it in names:
-            names += sorted((words_of(self.traits[it][0].partition("\n")[0]) & self.traits.keys()) - set(names))
-        return [self.traits[it] for it in names]
+            names += sorted((words_of(self.traits[it].head) & self.traits.keys()) - set(names))
+        return names
+
+    def traits_of(self, name):
+        """Returns the texts of these traits, with their files."""
+        found = [self.traits[it] for it in self.trait_names_of(name)]
+        return [("\n".join([it.head, *it.members]), it.file) for it in found]
+
+    def whole_traits_of(self, name):
+        """Returns the texts of these traits with the members of their supertraits. The supertraits have none."""
+        names = self.trait_names_of(name)
+        above = {it for of_name in names for it in supertraits(self.traits, of_name)}
+        return {self.whole[it] for it in names if it not in above}
+
+    @functools.cached_property
+    def whole(self):
+        """Returns the text of each trait with the members of its supertraits, by name."""
+        return {name: whole_of(self.traits, name) for name in self.traits}
 
     def named_by(self, text, file):
         """Returns the types that a text names, and the named definitions that its file imports or has."""
@@ -194,7 +224,7 @@ class Meaning:
     def declared(self):
         """Returns the names that each definition, type and trait declares, by its text."""
         found = {text: declared_by_type(text) for of_name in self.types.values() for text, _ in of_name}
-        found |= {text: declared_by_trait(text) for text, _ in self.traits.values()}
+        found |= {text: declared_by_trait(text) for text in self.whole.values()}
         return found | {
             text: names_of(text) | set(FIELD_OF_RECORD.findall(text))
             for of_name in self.definitions.values()
@@ -205,8 +235,17 @@ class Meaning:
         """Returns the names that some of these texts declare, without names of other libraries."""
         return set().union(*(self.declared.get(it, ()) for it in texts)) - self.foreign
 
+    @functools.cached_property
+    def stand_ins(self):
+        """Returns the replacement of each trait and those of its ghost members, by the trait's name."""
+        return {name: stand_ins(name, related(self.traits, name), self.whole) for name in self.traits}
+
     def others(self, names):
         """Returns the replacements of all other traits and their ghost members, by name."""
-        beyond = self.traits.keys() - names
-        found = stand_ins({name: self.traits[name][0] for name in beyond})
+        members, found = collections.defaultdict(set), {}
+        for name in self.traits.keys() - names:
+            found[name], of_members = self.stand_ins[name]
+            for member, replacement in of_members.items():
+                members[member].add(replacement)
+        found = {member: " ".join(sorted(it)) for member, it in members.items()} | found
         return {name: found[name] for name in found.keys() - names - self.foreign}

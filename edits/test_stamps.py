@@ -203,6 +203,22 @@ CASES = {
     "the proof of a law": ([(UPPER, "omega arith", "zero_less")], []),
     "a trait below": ([(LOWER, "≡ Self.width", "≡ Self.width + 0")], ["measure"]),
     "a trait of that trait": ([(LOWER, "0 < width", "1 < width")], ["measure"]),
+    "a member that a trait declares, and not its supertrait": (
+        [
+            (LOWER, "{ ℕ };\n\n    ghost some: { 0 < width };\n", "{ ℕ };\n"),
+            (LOWER, "Measured: Wide {\n", "Measured: Wide {\n    ghost some: { 0 < Self.width };\n\n"),
+            (UPPER, "{ 3 };\n\n    ghost some = { omega arith };\n", "{ 3 };\n"),
+            (UPPER, "Measured for Pile<Word> {\n", "Measured for Pile<Word> {\n    ghost some = { omega arith };\n\n"),
+        ],
+        [],
+    ),
+    "a supertrait's member that is gone": (
+        [
+            (LOWER, "{ ℕ };\n\n    ghost some: { 0 < width };\n", "{ ℕ };\n"),
+            (UPPER, "{ 3 };\n\n    ghost some = { omega arith };\n", "{ 3 };\n"),
+        ],
+        ["measure"],
+    ),
     "a function that is called": (
         [(UPPER, "pub fn second", "fn two(x: u32) -> u32 {\n        x\n    }\n\n    pub fn second")],
         [],
