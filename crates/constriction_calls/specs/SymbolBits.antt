@@ -28,6 +28,17 @@ words_at words bit = record { words = words; bit = bit }
 abbrev pub AreWordsFrom : ℕ → List ℕ → ℕ → List Bool → List ℕ → Type 0
 AreWordsFrom w old bit code words = IsQueueWords w (take bit (bits_of_words w old) ++ code) words
 
+-- The words hold the bits `begun`, and then the symbols' codewords. These are `count` bits together.
+abbrev pub AreQueuedAfter : {S : Type 0} → ℕ → (S → Option (List Bool)) → List Bool → List S → List ℕ → ℕ → Type 0
+AreQueuedAfter w codeword begun symbols words count =
+    (code : List Bool) × AreCodewords codeword symbols code × IsQueueWords w (begun ++ code) words × (count ≡ length (begun ++ code))
+
+-- With the words `added` in place of those from the word of bit `old.bit` on, a buffer holds its first `old.bit` bits,
+-- and then the symbols' codewords. `end` is the bit after these.
+abbrev pub AreAddedFrom : {S Word : Type 0} → (Word → ℕ) → ℕ → (S → Option (List Bool)) → BitBuffer Word → List S → List Word → ℕ → Type 0
+AreAddedFrom number w codeword old symbols added end = (code : List Bool) × AreCodewords codeword symbols code
+    × AreWordsFrom w (map number old.words) old.bit code (map number (take (old.bit / w) old.words ++ added)) × (end ≡ old.bit + length code)
+
 -- A call writes `code` from bit `old.bit` on, and leaves the bits below unchanged. `new.bit` is the bit after `code`.
 pub record EncodesCode {Word : Type 0} (number : Word → ℕ) (w : ℕ) (code : List Bool) (old new : BitBuffer Word) : Type 0 where
   -- The new words, from the word that has bit `old.bit` on.

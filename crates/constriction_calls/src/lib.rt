@@ -13,6 +13,7 @@
 
 pub mod ans;
 pub mod chain;
+mod finishing;
 pub mod range;
 pub mod store;
 pub mod symbol;

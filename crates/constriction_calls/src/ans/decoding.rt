@@ -42,9 +42,8 @@ pub fn decode<
 ) -> Result<(), Refusal>
     requires sizes { IsSizes Word.BITS State.BITS }
     requires precision { (1 ≤ PRECISION) × (PRECISION ≤ P.BITS) }
-    ensures call { AnsDecodesListBy Word.Natural State.Natural PRECISION (G.coded models.now)
-        words.now head.old len.old head.new len.new
-        (G.Symbol.numbers symbols.old) (G.Symbol.numbers symbols.new) result }
+    ensures call { AnsDecodesListBy Word.Natural State.Natural PRECISION (G.coded models.now) words.now head.old len.old
+        head.new len.new (G.Symbol.numbers symbols.old) (G.Symbol.numbers symbols.new) result }
 {
     if *len > words.len() {
         return Err(Refusal::WrongLength);

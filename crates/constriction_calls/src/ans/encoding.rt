@@ -2,13 +2,11 @@
 //!
 //! The calls encode a list from the last item to the first, so that decoding returns the symbols in the list's order.
 
-ghost use Rattle.std.specs.Prelude.{◌≡◌, ◌+◌, ◌<◌, ◌≤◌, ◌⊎◌, ◌^◌, length, take, IfErr, IfSome, OnErr, OnOk};
+ghost use Rattle.std.specs.Prelude.{◌≡◌, ◌≤◌, length, take, IfSome};
 ghost use Rattle.constriction_base.specs.Steps.{IsSizes};
-ghost use Rattle.constriction_inputs.specs.Buffers.{Appended};
-ghost use Rattle.constriction_inputs.specs.declared.refusal.Refusal.TheVariants as refusals;
 ghost use Rattle.constriction_calls.specs.AnsCalls.{AnsEncodesListBy, CodesAlone};
 
-use constriction_inputs::buffers::append;
+use crate::finishing::finish_encoding;
 use constriction_inputs::items::{ItemList, Items};
 use constriction_inputs::refusal::Refusal;
 use constriction_stack::coder::AnsCoder;
@@ -224,29 +222,4 @@ fn encode_ahead<
         Ok(()) => Some(coder.into_raw_parts()),
         Err(_) => None,
     }
-}
-
-/// Appends words to the first `len` words of `words`, and then sets `head` to `new_head`.
-///
-/// # Errors
-///
-/// The call returns the errors of [`append`]. A call that fails changes nothing.
-#[inline]
-fn finish_encoding<Word: BitArray, State: BitArray>(
-    added: &[Word],
-    new_head: State,
-    head: &mut State,
-    words: &mut [Word],
-    len: &mut usize,
-) -> Result<(), Refusal>
-    requires { len.now ≤ length words.now }
-    ensures ok { OnOk result ((head.new ≡ new_head) × Appended words.old len.old added.now words.new len.new) }
-    ensures err { IfErr result (λ e. (e ≡ refusals.NoSpace (len.old + length added.now))
-        ⊎ ((e ≡ refusals.NoMemory) × (2 ^ 64 ≤ len.old + length added.now))) }
-    ensures full { OnErr result (length words.old < len.old + length added.now) }
-    ensures kept { OnErr result ((head.new ≡ head.old) × (words.new ≡ words.old) × (len.new ≡ len.old)) }
-{
-    append(added, words, len)?;
-    *head = new_head;
-    Ok(())
 }

@@ -1,17 +1,15 @@
 //! Encoding items after the words in a caller's buffer.
 
-ghost use Rattle.std.specs.Prelude.{◌≡◌, ◌+◌, ◌<◌, ◌≤◌, ◌⊎◌, ◌^◌, [], length, IfErr, IfSome, OnErr, OnOk};
+ghost use Rattle.std.specs.Prelude.{◌≤◌, [], length, IfSome};
 ghost use Rattle.constriction_base.specs.Steps.{IsSizes};
 ghost use Rattle.constriction_queue.specs.Encoder.{left_to_encode, run_by};
-ghost use Rattle.constriction_inputs.specs.Buffers.{Appended};
 ghost use Rattle.constriction_inputs.specs.Coded as arguments;
 ghost use Rattle.constriction_inputs.specs.Coded.{AreFit};
-ghost use Rattle.constriction_inputs.specs.declared.refusal.Refusal.TheVariants as refusals;
 ghost use Rattle.constriction_calls.specs.RangeCalls.{CanEncode, Narrowed, RangeEncodesListBy, run_of_parts};
 
-use crate::range::parts::{EncoderParts, encoder_for, encoder_over, parts_over};
+use crate::finishing::finish_encoding;
+use crate::range::parts::{EncoderParts, encoder_over, parts_over};
 use constriction_base::cursor::Cursor;
-use constriction_inputs::buffers::append;
 use constriction_inputs::items::{ItemList, Items};
 use constriction_inputs::refusal::Refusal;
 use constriction_queue::RangeEncoder;
@@ -48,8 +46,7 @@ pub fn encode<
 ) -> Result<(), Refusal>
     requires sizes { IsSizes Word.BITS State.BITS }
     requires precision { (1 ≤ PRECISION) × (PRECISION ≤ P.BITS) }
-    ensures call { RangeEncodesListBy Word.Natural State.Natural PRECISION (I.coded items.now)
-        (I.item_count items.now)
+    ensures call { RangeEncodesListBy Word.Natural State.Natural PRECISION (I.coded items.now) (I.item_count items.now)
         encoder.old buffer.old len.old encoder.new buffer.new len.new result }
 {
     if *len > buffer.len() {
@@ -95,11 +92,10 @@ fn encode_list<
     requires precision { (1 ≤ PRECISION) × (PRECISION ≤ P.BITS) }
     requires within { len.now ≤ length buffer.now }
     requires fit { AreFit PRECISION (I.coded items.now) }
-    ensures call { RangeEncodesListBy Word.Natural State.Natural PRECISION (I.coded items.now)
-        (I.item_count items.now)
+    ensures call { RangeEncodesListBy Word.Natural State.Natural PRECISION (I.coded items.now) (I.item_count items.now)
         encoder.old buffer.old len.old encoder.new buffer.new len.new result }
 {
-    let Some(made) = encoder_for(alloc, *encoder, items.count()) else {
+    let Some(made) = encoder_over(Vec::new(alloc), *encoder, items.count()) else {
         return Err(Refusal::InvalidData);
     };
     let held = encoder.held;
@@ -197,31 +193,4 @@ fn encode_single<
         }
         Err(_) => None,
     }
-}
-
-/// Appends words to the first `len` words of `buffer`, and then sets `encoder` to `now`.
-///
-/// # Errors
-///
-/// The call returns the errors of [`append`]. A call that fails changes nothing.
-#[inline]
-fn finish_encoding<Word: WordOf<State>, State: BitArray>(
-    words: &[Word],
-    now: EncoderParts<Word, State>,
-    encoder: &mut EncoderParts<Word, State>,
-    buffer: &mut [Word],
-    len: &mut usize,
-) -> Result<(), Refusal>
-    requires { len.now ≤ length buffer.now }
-    ensures ok { OnOk result
-        ((encoder.new ≡ now) × Appended buffer.old len.old words.now buffer.new len.new) }
-    ensures err { IfErr result (λ e. (e ≡ refusals.NoSpace (len.old + length words.now))
-        ⊎ ((e ≡ refusals.NoMemory) × (2 ^ 64 ≤ len.old + length words.now))) }
-    ensures full { OnErr result (length buffer.old < len.old + length words.now) }
-    ensures kept { OnErr result
-        ((encoder.new ≡ encoder.old) × (buffer.new ≡ buffer.old) × (len.new ≡ len.old)) }
-{
-    append(words, buffer, len)?;
-    *encoder = now;
-    Ok(())
 }

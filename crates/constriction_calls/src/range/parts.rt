@@ -10,7 +10,6 @@ use constriction_base::backends::{Holds, Seek, Stack};
 use constriction_base::cursor::Cursor;
 use constriction_queue::{EncoderSituation, RangeCoderState, RangeDecoder, RangeEncoder};
 use constriction_words::{BitArray, WordOf};
-use std::alloc::Global;
 use std::num::NonZeroUsize;
 
 /// A range encoder between two calls: its interval and its pending words.
@@ -56,28 +55,10 @@ pub struct DecoderParts<State> {
     pub point: State,
     pub pos: usize,
 }
-
-/// Creates an encoder over an empty vector from `parts`. The call needs no memory.
+/// Creates an encoder over an empty backend from `parts`. The call needs no memory.
 ///
 /// The encoder can encode at least `count` symbols. Returns `None` in exactly two cases: no encoder can have the values
 /// in `parts`, or `parts.held + count` is above `2^64 - 18`.
-pub fn encoder_for<Word: WordOf<State>, State: BitArray>(
-    alloc: Global,
-    parts: EncoderParts<Word, State>,
-    count: usize,
-) -> Option<RangeEncoder<Word, State, Vec<Word>>>
-    requires { IsSizes Word.BITS State.BITS }
-    ensures run { IfSome result (λ encoder. run_by Word.BITS State.BITS encoder
-        ≡ run_of_parts Word.number State.number Word.BITS State.BITS parts []) }
-    ensures left { IfSome result (λ encoder. count ≤ left_to_encode encoder) }
-    ensures variant { IsSome result ↔ CanEncode Word.number State.number Word.BITS State.BITS parts count }
-{
-    encoder_over(Vec::new(alloc), parts, count)
-}
-
-/// Creates an encoder over an empty backend from `parts`.
-///
-/// The encoder can encode at least `count` symbols. Returns `None` if and only if [`encoder_for`] does.
 #[inline]
 pub(crate) fn encoder_over<
     Word: WordOf<State>,

@@ -84,11 +84,9 @@ pub fn maybe_exhausted<Word: WordOf<State>, State: BitArray>(
     if decoder.pos > words.len() {
         return Err(Refusal::WrongLength);
     }
-    match decoder_of(words, *decoder) {
-        Some(reading) => {
-            *maybe = u32::from(Decode::<1>::maybe_exhausted(&reading));
-            Ok(())
-        }
-        None => Err(Refusal::InvalidData),
-    }
+    let Some(reading) = decoder_of(words, *decoder) else {
+        return Err(Refusal::InvalidData);
+    };
+    *maybe = u32::from(Decode::<1>::maybe_exhausted(&reading));
+    Ok(())
 }

@@ -6,7 +6,7 @@ ghost use Rattle.constriction_queue.specs.Range.{sealed};
 ghost use Rattle.constriction_calls.specs.RangeCalls.{ValidEncoder, IsSealed, IsSelfSealed, RangeSealsBy};
 ghost use Rattle.constriction_calls.specs.RangeCalls.{run_of_parts};
 
-use crate::range::parts::{EncoderParts, encoder_for};
+use crate::range::parts::{EncoderParts, encoder_over};
 use constriction_inputs::buffers::append;
 use constriction_inputs::refusal::Refusal;
 use constriction_words::{BitArray, WordOf};
@@ -36,7 +36,7 @@ pub fn into_compressed<Word: WordOf<State>, State: BitArray>(
     if *len > buffer.len() {
         return Err(Refusal::WrongLength);
     }
-    let Some(made) = encoder_for(alloc, *encoder, 0) else {
+    let Some(made) = encoder_over(Vec::new(alloc), *encoder, 0) else {
         return Err(Refusal::InvalidData);
     };
     let count = sealed_count(alloc, *encoder);
@@ -60,7 +60,7 @@ fn sealed_count<Word: WordOf<State>, State: BitArray>(
         (run_of_parts Word.number State.number Word.BITS State.BITS parts [])) }
 {
     let held = parts.held.min(1);
-    let Some(encoder) = encoder_for(alloc, EncoderParts { held, ..parts }, 0) else {
+    let Some(encoder) = encoder_over(Vec::new(alloc), EncoderParts { held, ..parts }, 0) else {
         unreachable!()
     };
     parts.held - held + encoder.num_words()

@@ -52,9 +52,7 @@ fn build_store<Word: WordOf<State>, State: BitArray, P: WordOf<Word>, const PREC
         (weights_model PRECISION (map P.number weights.now)) (map Word.number made.0.items)
         (map entry_at made.1.items) (chunks_by symbols.now lengths.now)) }
 {
-    let Some(table) = table_by::<P, PRECISION>(alloc, weights, false) else {
-        return None;
-    };
+    let table = table_by::<P, PRECISION>(alloc, weights, false)?;
     let Ok(chunks) = cut(alloc, symbols, lengths) else {
         return None;
     };

@@ -1,11 +1,9 @@
 //! Encoding symbols as words with codebooks.
 
-ghost use Rattle.std.specs.Prelude.{◌≡◌, ◌+◌, ◌-◌, ◌/◌, ◌<◌, ◌^◌, ◌++◌, Bool, List, length, map, take};
-ghost use Rattle.std.specs.Prelude.{IfErr, IfSome, OnErr, OnOk, OnSome};
-ghost use Rattle.constriction_symbol.specs.Bits.{IsQueueWords, bits_of_words};
-ghost use Rattle.constriction_symbol.specs.Lists.{AreCodewords};
+ghost use Rattle.std.specs.Prelude.{◌≡◌, ◌-◌, ◌<◌, ◌^◌, length, map, take, IfErr, IfSome, OnErr, OnOk, OnSome};
+ghost use Rattle.constriction_symbol.specs.Bits.{bits_of_words};
 ghost use Rattle.constriction_inputs.specs.Buffers.{Appended};
-ghost use Rattle.constriction_calls.specs.SymbolBits.{AreWordsFrom, IsBit, EncodesAtBit, words_at};
+ghost use Rattle.constriction_calls.specs.SymbolBits.{AreAddedFrom, AreQueuedAfter, IsBit, EncodesAtBit, words_at};
 ghost use Rattle.constriction_calls.specs.SymbolCalls.{AreSymbolWords, AsQueue, AsStack, MakesCode, EncodesCodewords};
 ghost use Rattle.constriction_calls.specs.SymbolCalls.{codeword_in, words_in};
 ghost use Rattle.constriction_inputs.specs.declared.refusal.Refusal.TheVariants as refusals;
@@ -120,11 +118,8 @@ fn words_from<Word: BitArray, C: Codes>(
 ) -> Option<(Vec<Word>, usize)>
     requires { IsBit Word.BITS (length words.now) bit }
     ensures tree { OnSome result (MakesCode (2 ^ 62 - 1) (C.book codes.now)) }
-    ensures words { IfSome result (λ made. (code : List Bool)
-        × AreCodewords (codeword_in C.number (C.book codes.now)) symbols.now code
-        × AreWordsFrom Word.BITS (map Word.number words.now) bit code
-        (map Word.number (take (bit / Word.BITS) words.now ++ made.0.items))
-        × (made.1 ≡ bit + length code)) }
+    ensures words { IfSome result (λ made. AreAddedFrom Word.number Word.BITS (codeword_in C.number (C.book codes.now))
+        (words_at words.now bit) symbols.now made.0.items made.1) }
 {
     let width = Word::BITS as usize;
     let first = bit / width;
@@ -142,8 +137,7 @@ fn queue_of_first<Word: BitArray>(
     words: &[Word],
     count: usize,
 ) -> Option<QueueEncoder<Word>>
-    ensures { IfSome result (λ queue.
-        queue.bits ≡ take count (bits_of_words Word.BITS (map Word.number words.now))) }
+    ensures { IfSome result (λ queue. queue.bits ≡ take count (bits_of_words Word.BITS (map Word.number words.now))) }
 {
     let mut queue = QueueEncoder::new(alloc);
     let mut bits = QueueDecoder::<Word, Cursor<Word, &[Word]>>::from_compressed(
@@ -171,10 +165,8 @@ fn queue_words<Word: BitArray, C: Codes>(
     symbols: &[C::Symbol],
 ) -> Option<(Vec<Word>, usize)>
     ensures tree { OnSome result (MakesCode (2 ^ 62 - 1) (C.book codes.now)) }
-    ensures words { IfSome result (λ made. (code : List Bool)
-        × AreCodewords (codeword_in C.number (C.book codes.now)) symbols.now code
-        × IsQueueWords Word.BITS (begun.bits ++ code) (map Word.number made.0.items)
-        × (made.1 ≡ length (begun.bits ++ code))) }
+    ensures words { IfSome result (λ made. AreQueuedAfter Word.BITS (codeword_in C.number (C.book codes.now)) begun.bits
+        symbols.now (map Word.number made.0.items) made.1) }
 {
     let codebook = codes.encoder(alloc)?;
     let mut encoder = begun;

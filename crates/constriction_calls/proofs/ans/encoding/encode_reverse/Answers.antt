@@ -14,7 +14,7 @@ returns-in-Some-encode_single_item g c =
     let new = c.finish_encoding.new in
     record {
       call = puts_ended g.Word.Natural.number g.State.Natural.number g.Word.Natural.BITS g.State.Natural.BITS g.row.PRECISION coded old within (fit_ok g.row.PRECISION coded c.in_ok-check.ensures)
-          c.requires.sizes _ (sym c.in-Some.ensures.items) made.ensures.models made.added.now c.encode_single_item.new.head made.ensures.coded _ c.finish_encoding.result new.head new.words new.len
+          c.requires.sizes _ (sym c.in-Some.ensures.items) made.ensures.models made.added.now c.encode_single_item.new.head made.ensures.coded _ c.finish_encoding.result new.kept new.words new.len
           ended.ok ended.err ended.full ended.kept;
     }
 
@@ -28,6 +28,6 @@ returns-in-Some-encode_items g c =
     let ended = rw c.deref.ensures.value at call.ensures in
     record {
       call = puts_ended g.Word.Natural.number g.State.Natural.number g.Word.Natural.BITS g.State.Natural.BITS g.row.PRECISION coded old within (fit_ok g.row.PRECISION coded c.in_ok-check.ensures)
-          c.requires.sizes _ (sym c.in-Some.ensures.items) made.ensures.models made.added.items made.new_head made.ensures.coded _ call.result call.new.head call.new.words call.new.len
+          c.requires.sizes _ (sym c.in-Some.ensures.items) made.ensures.models made.added.items made.new_head made.ensures.coded _ call.result call.new.kept call.new.words call.new.len
           ended.ok ended.err ended.full ended.kept;
     }

@@ -20,5 +20,5 @@ returns-in-Some g c =
     let new = c.finish_encoding.new in
     record {
       call = puts_ended number state w s g.row.PRECISION coded count old within (fit_ok g.row.PRECISION coded c.in_ok-check.ensures) made.ensures.can room (run_of_parts number state w s c.args.encoder.now []) refl made.now
-          made.ensures.narrowed.is made.words.now made.words.now refl made.ensures.narrowed.narrowed c.finish_encoding.result new.encoder new.buffer new.len e.ok e.err e.full e.kept;
+          made.ensures.narrowed.is made.words.now made.words.now refl made.ensures.narrowed.narrowed c.finish_encoding.result new.kept new.words new.len e.ok e.err e.full e.kept;
     }

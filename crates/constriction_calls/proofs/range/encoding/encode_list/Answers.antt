@@ -20,5 +20,5 @@ returns g c =
     let new = c.finish_encoding.new in
     record {
       call = puts_ended number state w s g.row.PRECISION coded count old c.requires.within c.requires.fit can (search rules) (run_by w s c.in-Some.made) c.in-Some.ensures.run made.now put.is
-          made.words.items c.deref.result.now c.deref.ensures.value put.narrowed c.finish_encoding.result new.encoder new.buffer new.len e.ok e.err e.full e.kept;
+          made.words.items c.deref.result.now c.deref.ensures.value put.narrowed c.finish_encoding.result new.kept new.words new.len e.ok e.err e.full e.kept;
     }

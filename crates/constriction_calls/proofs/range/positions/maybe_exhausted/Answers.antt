@@ -4,8 +4,8 @@ use Rattle.constriction_queue.proofs.ReadingOn.{as_number, may_end}
 use Rattle.constriction_calls.proofs.RangeSteps.{stands_read}
 use Rattle.constriction_calls.proofs.range.positions.maybe_exhausted.Goals as goal
 
-pub returns-in-Some : goal.returns-in-Some
-returns-in-Some g c =
+pub returns : goal.returns
+returns g c =
     let number = g.Word.Natural.number in
     let state = g.State.Natural.number in
     let w = g.Word.Natural.BITS in
