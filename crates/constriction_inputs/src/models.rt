@@ -13,6 +13,7 @@ mod counts;
 mod families;
 mod guided;
 mod indexed;
+pub mod located_family;
 mod mixtures;
 mod narrow_weights;
 pub mod row_lookup;

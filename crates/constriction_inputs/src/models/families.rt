@@ -12,6 +12,7 @@ ghost use Rattle.constriction_inputs.specs.Refusals.{Asks, Otherwise, NoRefusal}
 ghost use Rattle.constriction_inputs.specs.declared.refusal.Refusal.TheVariants as refusals;
 ghost use Rattle.std.proofs.Common.{refl};
 
+use crate::models::located_family::LocatedFamily;
 use crate::models::{DecoderModelList, DecoderModels, EncoderModels, ModelList, Models, entry_of};
 use crate::refusal::Refusal;
 use crate::symbol::Symbol;
@@ -91,26 +92,24 @@ impl<'a, P: WordOf<u32>, const PRECISION: usize> EncoderModels<P, PRECISION> for
 impl<'a, P: WordOf<u32>, const PRECISION: usize> DecoderModels<P, PRECISION> for Families<'a> {
     type Symbol = usize;
 
-    type DecoderList = FamilyList<'a, P, FamilyModel<P, PRECISION>, PRECISION>;
+    type DecoderList = FamilyList<'a, P, PRECISION>;
 
     #[inline]
-    fn decoder_list(
-        &self,
-        _alloc: Global,
-        _count: usize,
-    ) -> Option<FamilyList<'a, P, FamilyModel<P, PRECISION>, PRECISION>> {
+    fn decoder_list(&self, _alloc: Global, _count: usize) -> Option<FamilyList<'a, P, PRECISION>> {
         let Ok((family, quantizer)) = self.family_and_range::<P, PRECISION>() else {
             return None;
         };
         let (locations, scales) = (self.locations, self.scales);
-        let model = first_model(family, &quantizer, locations, scales);
         Some(FamilyList {
-            family,
-            quantizer,
             locations,
             scales,
-            place: 0,
-            model,
+            place: locations.len(),
+            model: LocatedFamily {
+                family,
+                quantizer,
+                location: 0,
+                scale: 1,
+            },
         })
     }
 
@@ -168,10 +167,7 @@ impl<'a, P: WordOf<u32>, const PRECISION: usize> ModelList<P, PRECISION>
     }
 }
 
-/// The list of the models of a family, one for each symbol to decode. It holds the model of one symbol only.
-///
-/// This is the first symbol's model until `select` replaces it by the model of another symbol. To create a model, the
-/// list computes the inverse of the symbol's scale. So a list of one symbol computes one inverse.
+/// The list of the models of a family, one for each symbol to decode. It keeps the model that `select` selected last.
 ///
 /// # Examples
 ///
@@ -182,50 +178,34 @@ impl<'a, P: WordOf<u32>, const PRECISION: usize> ModelList<P, PRECISION>
 /// }
 /// ```
 #[derive(Drop)]
-pub struct FamilyList<
-    'a,
-    P: WordOf<u32>,
-    M: EntropyModel<PRECISION, Symbol = usize>,
-    const PRECISION: usize,
-> {
-    family: Family,
-    quantizer: LeakyQuantizer<P, PRECISION>,
+pub struct FamilyList<'a, P: WordOf<u32>, const PRECISION: usize> {
     locations: &'a [i64],
     scales: &'a [u32],
     place: usize,
-    model: M,
+    model: LocatedFamily<P, PRECISION>,
     ghost counted: { length locations.now ≡ length scales.now },
     ghost scaled: { (k : ℕ) → k < length scales.now → 0 < get_or scales.now k 0 },
-    ghost turned: { place < length locations.now → M.table model
-        ≡ indexed PRECISION (below_by (Some family) (get_or locations.now place (pos 0)) (get_or scales.now place 0))
-        (first_symbol quantizer) (symbol_count quantizer) },
+    ghost selected: { place < length locations.now → (model.location ≡ get_or locations.now place (pos 0))
+        × (model.scale ≡ get_or scales.now place 0) },
 }
 
 impl<'a, P: WordOf<u32>, const PRECISION: usize> DecoderModelList<P, PRECISION>
-    for FamilyList<'a, P, FamilyModel<P, PRECISION>, PRECISION> {
-    type Model = FamilyModel<P, PRECISION>;
+    for FamilyList<'a, P, PRECISION> {
+    type Model = LocatedFamily<P, PRECISION>;
 
-    ghost tables = { λ list. tables_by PRECISION (Some list.family) (first_symbol list.quantizer)
-        (symbol_count list.quantizer) list.locations.now list.scales.now };
+    ghost tables = { λ list. tables_by PRECISION (Some list.model.family) (first_symbol list.model.quantizer)
+        (symbol_count list.model.quantizer) list.locations.now list.scales.now };
 
     ghost turned_to = { λ list. list.place };
 
     #[inline(always)]
     fn select(&mut self, place: usize) {
-        if place != self.place {
-            self.model = model_at(
-                self.family,
-                &self.quantizer,
-                self.locations,
-                self.scales,
-                place,
-            );
-            self.place = place;
-        }
+        self.model.move_to(self.locations, self.scales, place);
+        self.place = place;
     }
 
     #[inline(always)]
-    fn model(&self) -> &FamilyModel<P, PRECISION> {
+    fn model(&self) -> &LocatedFamily<P, PRECISION> {
         &self.model
     }
 }
@@ -359,7 +339,7 @@ fn are_above_zero(scales: &[u32]) -> bool
 
 /// Returns the model of `family` with this location and scale. The caller proves that `scale` is above 0.
 #[inline(always)]
-fn model_of<P: WordOf<u32>, const PRECISION: usize>(
+pub(super) fn model_of<P: WordOf<u32>, const PRECISION: usize>(
     family: Family,
     quantizer: &LeakyQuantizer<P, PRECISION>,
     location: i64,
@@ -394,28 +374,4 @@ fn model_at<P: WordOf<u32>, const PRECISION: usize>(
         (first_symbol quantizer.now) (symbol_count quantizer.now) }
 {
     model_of(family, quantizer, locations[place], scales[place])
-}
-
-/// Returns the model of `family` with the first location and scale. Without a location, it is any model of the family.
-///
-/// The caller proves that there are as many scales as locations, and that the first scale is above 0.
-#[inline(always)]
-fn first_model<P: WordOf<u32>, const PRECISION: usize>(
-    family: Family,
-    quantizer: &LeakyQuantizer<P, PRECISION>,
-    locations: &[i64],
-    scales: &[u32],
-) -> FamilyModel<P, PRECISION>
-    requires counted { length locations.now ≡ length scales.now }
-    requires scaled { 0 < length scales.now → 0 < get_or scales.now 0 0 }
-    ensures { 0 < length locations.now → ⟦<FamilyModel<P, PRECISION> as EntropyModel<PRECISION>>⟧.table result
-        ≡ indexed PRECISION (below_by (Some family) (get_or locations.now 0 (pos 0)) (get_or scales.now 0 0))
-        (first_symbol quantizer.now) (symbol_count quantizer.now) }
-{
-    if locations.is_empty() {
-        // A scale of 1.0, whose inverse takes a short division.
-        model_of(family, quantizer, 0, 65536)
-    } else {
-        model_at(family, quantizer, locations, scales, 0)
-    }
 }
