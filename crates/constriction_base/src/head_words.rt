@@ -28,7 +28,7 @@ pub fn count_of_words<Word: WordOf<State>, State: BitArray>(head: State) -> usiz
 {
     let mut count = 0;
     let mut rest = head;
-    'words: while !rest.is_nothing() {
+    while !rest.is_nothing() {
         count += 1;
         rest = rest.shift_right(Word::BITS);
     }
@@ -74,7 +74,7 @@ pub fn write_words<Word: WordOf<State>, State: BitArray, Backend: WriteWords<Wor
 {
     let mut rest = head;
     let mut left = count;
-    'words: while left > 0 {
+    while left > 0 {
         match bulk.write(Word::narrow(rest)) {
             Ok(()) => {}
             Err(refusal) => return Err((count - left, refusal)),
@@ -141,7 +141,7 @@ pub fn fill<Word: WordOf<State>, State: BitArray, Backend: ReadWords<Word, Stack
     ensures untouched { 2 ^ bits ≤ State.number head → (result ≡ Ok (head, true)) × (bulk.new ≡ bulk.old) }
 {
     let mut full = head;
-    'words: while full.shift_right(bits).is_nothing() {
+    while full.shift_right(bits).is_nothing() {
         match bulk.read() {
             Ok(Some(word)) => full = full.shift_left(Word::BITS).plus(word.widen()),
             Ok(None) => return Ok((full, false)),

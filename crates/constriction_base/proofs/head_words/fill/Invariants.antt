@@ -2,8 +2,8 @@ use Rattle.std.specs.Prelude.{◌+◌, ◌-◌, ◌^◌, ◌<◌, ◌≡◌, ◌
 use Rattle.constriction_base.specs.Readings.{MovesIn}
 use Rattle.constriction_base.proofs.head_words.fill.Given as goal
 
-abbrev pub invariant-words : goal.invariant-words
-invariant-words g l =
+abbrev pub invariant-loop-bulk : goal.invariant-loop-bulk
+invariant-loop-bulk g l =
     let w = g.Word.Natural.BITS in
     let n = g.State.Natural.number l.full in
     record {
@@ -13,5 +13,5 @@ invariant-words g l =
       moved : MovesIn g.Word.Natural.number g.Backend.Holds g.Backend.ReadWords w (g.State.Natural.number l.fn.head) l.initial.bulk n l.bulk;
     }
 
-abbrev pub decreases-words : goal.decreases-words
-decreases-words g l = 2 ^ g.State.Natural.BITS - g.State.Natural.number l.full
+abbrev pub decreases-loop-bulk : goal.decreases-loop-bulk
+decreases-loop-bulk g l = 2 ^ g.State.Natural.BITS - g.State.Natural.number l.full

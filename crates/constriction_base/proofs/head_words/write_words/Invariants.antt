@@ -3,8 +3,8 @@ use Rattle.constriction_base.specs.Digits.{fixed_digits}
 use Rattle.constriction_base.specs.Writing.{WriteTrace}
 use Rattle.constriction_base.proofs.head_words.write_words.Given as goal
 
-abbrev pub invariant-words : goal.invariant-words
-invariant-words g l =
+abbrev pub invariant-loop-left : goal.invariant-loop-left
+invariant-loop-left g l =
     let b = 2 ^ g.Word.Natural.BITS in
     record {
       within : l.left ≤ l.fn.count;
@@ -16,5 +16,5 @@ invariant-words g l =
       room : g.Backend.WriteWords.room l.initial.bulk + l.left ≤ g.Backend.WriteWords.room l.bulk + l.fn.count;
     }
 
-abbrev pub decreases-words : goal.decreases-words
-decreases-words g l = l.left
+abbrev pub decreases-loop-left : goal.decreases-loop-left
+decreases-loop-left g l = l.left
