@@ -2,8 +2,8 @@ use Rattle.std.specs.Prelude.{ℕ, ◌-◌, ◌<◌, ◌≤◌}
 use Rattle.constriction_models.specs.Counts.{AllShare, NoneBelowLimit, IsLimit, IsSplit}
 use Rattle.constriction_models.proofs.counts.split_at_least_limit.Given as goal
 
-abbrev pub invariant-search : goal.invariant-search
-invariant-search l = record {
+abbrev pub invariant-loop-split : goal.invariant-loop-split
+invariant-loop-split l = record {
   split : IsSplit l.counts l.split.limit l.split.raised l.split.rest;
   fits : l.split.rest < 170141183460469231731687303715884105728;
   some : 1 ≤ l.split.limit;
@@ -12,5 +12,5 @@ invariant-search l = record {
   fair : AllShare l.counts l.all → NoneBelowLimit l.counts l.split.limit;
 }
 
-abbrev pub decreases-search : goal.decreases-search
-decreases-search l = l.most - l.split.limit
+abbrev pub decreases-loop-split : goal.decreases-loop-split
+decreases-loop-split l = l.most - l.split.limit
