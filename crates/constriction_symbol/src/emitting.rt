@@ -42,7 +42,7 @@ pub fn emit_down<Word: BitArray, E, F: FnMut(bool) -> Result<(), E>>(
     ensures emits { Emits F.FnMut emit.old (reverse (bits_of count (Word.number word))) result emit.new }
 {
     let mut left = count;
-    'bits: while left > 0 {
+    while left > 0 {
         left -= 1;
         match emit(!word.shift_right(left).low_bits(1).is_nothing()) {
             Ok(()) => {}

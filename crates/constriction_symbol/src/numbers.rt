@@ -58,7 +58,7 @@ fn same_down_to<From: BitArray, To: BitArray>(number: From, done: To, from: u32,
 {
     let mut same = done;
     let mut left = from;
-    'bits: while left > to {
+    while left > to {
         left -= 1;
         same = doubled(same, !number.shift_right(left).low_bits(1).is_nothing());
     }

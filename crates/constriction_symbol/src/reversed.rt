@@ -108,7 +108,7 @@ fn emit_taken<E, F: FnMut(bool) -> Result<(), E>>(
     requires { F.IsAlwaysCallable emit.old }
     ensures { Emits F.FnMut emit.old (reverse stack.old.bits) result emit.new }
 {
-    'bits: while let Some(bit) = take_small(stack) {
+    while let Some(bit) = take_small(stack) {
         match emit(bit) {
             Ok(()) => {}
             Err(error) => return Err(CoderError::Backend(error)),

@@ -59,7 +59,7 @@ pub fn count_zeros<V, E, I: Iterator<Item = Result<bool, E>>>(
         (λ bits. (count : ℕ) × (count ≤ most) × (bits ≡ replicate count false)) source.old e source.new) }
 {
     let mut count = 0u32;
-    'zeros: while count <= most {
+    while count <= most {
         match next_bit(source) {
             Err(error) => return Err(error),
             Ok(true) => return Ok(Some(count)),
@@ -92,7 +92,7 @@ pub fn read_bits<V, N: BitArray, E, I: Iterator<Item = Result<bool, E>>>(
 {
     let mut number = start;
     let mut left = count;
-    'bits: while left > 0 {
+    while left > 0 {
         match next_bit(source) {
             Err(error) => return Err(error),
             Ok(bit) => number = doubled(number, bit),

@@ -36,7 +36,7 @@ pub fn codewords_of(alloc: Global, nodes: &[usize]) -> Result<Vec<usize>, AllocE
 {
     let mut codewords = vec![in alloc; 1usize; nodes.len()]?;
     let mut index = nodes.len();
-    'down: while index > 0 {
+    while index > 0 {
         index -= 1;
         let entry = nodes[index];
         if entry != 0 {

@@ -283,7 +283,7 @@ fn walk<V, E, I: Iterator<Item = Result<bool, E>>>(
 {
     let symbols = nodes.len() + 1;
     let mut index = 2 * nodes.len();
-    'walk: while index >= symbols {
+    while index >= symbols {
         match next_bit(source) {
             Err(error) => return Err(error),
             Ok(bit) => index = nodes[index - symbols][bit as usize],
@@ -315,7 +315,7 @@ fn walk_on<Word: BitArray>(
     let mut index = place.index;
     let mut rest = TopBits::all(bits);
     rest.drop_last(place.taken);
-    'walk: while symbols <= index {
+    while symbols <= index {
         if rest.room() >= count - 1 {
             return None;
         }

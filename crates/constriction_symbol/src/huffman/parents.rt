@@ -44,7 +44,7 @@ pub fn climb<E, F: FnMut(bool) -> Result<(), E>>(
     ensures { Emits F.FnMut emit.old (reverse (climbed (length nodes.now) nodes.now symbol)) result emit.new }
 {
     let mut index = symbol;
-    'climb: while nodes[index] != 0 {
+    while nodes[index] != 0 {
         let node = nodes[index];
         match emit(node % 2 == 1) {
             Ok(()) => {}

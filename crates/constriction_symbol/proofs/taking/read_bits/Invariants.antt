@@ -5,8 +5,8 @@ use Rattle.constriction_symbol.specs.Golomb.{number_after}
 use Rattle.constriction_symbol.proofs.taking.read_bits.Given as goal
 
 -- these bits were taken
-abbrev pub invariant-bits : goal.invariant-bits
-invariant-bits g l = record {
+abbrev pub invariant-loop-left : goal.invariant-loop-left
+invariant-loop-left g l = record {
   can : g.I.Iterator.can_next l.source;
   finite : IsFinite (g.I.Iterator.remaining l.fn.source) → IsFinite (g.I.Iterator.remaining l.source);
   fits : (g.N.Natural.number l.number + 1) * 2 ^ l.left ≤ 2 ^ g.N.Natural.BITS;
@@ -16,5 +16,5 @@ invariant-bits g l = record {
   gives : YieldsBits g.I.Iterator.next_gives l.fn.source taken l.source;
 }
 
-abbrev pub decreases-bits : goal.decreases-bits
-decreases-bits g l = l.left
+abbrev pub decreases-loop-left : goal.decreases-loop-left
+decreases-loop-left g l = l.left

@@ -7,8 +7,8 @@ use Rattle.constriction_symbol.specs.Merging.{as_pair}
 use Rattle.constriction_symbol.proofs.huffman.decoder.walk.Given as goal
 
 -- the bits that were taken lead to the tree at the index
-abbrev pub invariant-walk : goal.invariant-walk
-invariant-walk g l = record {
+abbrev pub invariant-loop-index : goal.invariant-loop-index
+invariant-loop-index g l = record {
   can : g.I.Iterator.can_next l.source;
   finite : IsFinite (g.I.Iterator.remaining l.fn.source) → IsFinite (g.I.Iterator.remaining l.source);
   tree : Tree;
@@ -18,5 +18,5 @@ invariant-walk g l = record {
   gives : YieldsBits g.I.Iterator.next_gives l.fn.source taken l.source;
 }
 
-abbrev pub decreases-walk : goal.decreases-walk
-decreases-walk g l = l.index
+abbrev pub decreases-loop-index : goal.decreases-loop-index
+decreases-loop-index g l = l.index

@@ -6,8 +6,8 @@ use Rattle.constriction_symbol.specs.Merging.{as_pair}
 use Rattle.constriction_symbol.proofs.huffman.decoder.walk_on.Given as goal
 
 -- the bits that were taken lead to the tree at the index
-abbrev pub invariant-walk : goal.invariant-walk
-invariant-walk g l = record {
+abbrev pub invariant-loop-index : goal.invariant-loop-index
+invariant-loop-index g l = record {
   tree : Tree;
   taken : List Bool;
   leads : subtree (tree_of_pairs l.nodes) taken ≡ Some tree;
@@ -17,5 +17,5 @@ invariant-walk g l = record {
   bits : bits_of g.Word.Natural.BITS (g.Word.Natural.number l.fn.bits) ≡ l.rest ++ reverse taken;
 }
 
-abbrev pub decreases-walk : goal.decreases-walk
-decreases-walk g l = l.index
+abbrev pub decreases-loop-index : goal.decreases-loop-index
+decreases-loop-index g l = l.index

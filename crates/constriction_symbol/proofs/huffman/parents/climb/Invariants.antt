@@ -4,13 +4,13 @@ use Rattle.constriction_symbol.specs.Huffman.{climbed}
 use Rattle.constriction_symbol.proofs.huffman.parents.climb.Given as goal
 
 -- what the calls still to come make of the bits above, all calls make of all bits
-abbrev pub invariant-climb : goal.invariant-climb
-invariant-climb g l = record {
+abbrev pub invariant-loop-index : goal.invariant-loop-index
+invariant-loop-index g l = record {
   callable : goal.F-IsAlwaysCallable g l.emit;
   within : l.index < length l.nodes;
   all : (r : _) (last : _) → Emits g.F.FnMut l.emit (reverse (climbed (length l.nodes) l.nodes l.index)) r last
       → Emits g.F.FnMut l.fn.emit (reverse (climbed (length l.nodes) l.nodes l.symbol)) r last;
 }
 
-abbrev pub decreases-climb : goal.decreases-climb
-decreases-climb g l = length l.nodes - l.index
+abbrev pub decreases-loop-index : goal.decreases-loop-index
+decreases-loop-index g l = length l.nodes - l.index
