@@ -96,7 +96,7 @@ where
         (model_by PRECISION M.table model.now) words there len) }
 {
     let mut symbols = Vec::new(alloc);
-    'symbols: for _ in 0..len {
+    for _ in 0..len {
         match Decode::<PRECISION>::decode_symbol(decoder, model) {
             Ok(symbol) => match symbols.push(symbol) {
                 Ok(()) => {}

@@ -6,8 +6,8 @@ use Rattle.constriction_queue.specs.Symbols.{FindsAll}
 use Rattle.constriction_store.proofs.looking_up.decode_chunk.Given as goal
 
 -- the symbols so far are read, and the decoder is at the moment behind them
-abbrev pub invariant-symbols : goal.invariant-symbols
-invariant-symbols g l =
+abbrev pub invariant-loop : goal.invariant-loop
+invariant-loop g l =
     let w = g.Word.Natural.BITS in
     let s = g.State.Natural.BITS in
     let model : Model ℕ = record { precision = g.row.PRECISION; table = g.M.EntropyModel.table l.model } in
