@@ -193,12 +193,8 @@ impl<N: BitArray> DecoderCodebook for ExpGolomb<N> {
         &self,
         source: &mut I,
     ) -> Result<N, Refusal<InvalidCodeword, E>> {
-        let count = match count_zeros(source, N::BITS) {
-            Err(error) => return Err(error),
-            Ok(None) => return Err(CoderError::Frontend(SymbolCodeError::InvalidCodeword(
-                InvalidCodeword,
-            ))),
-            Ok(Some(count)) => count,
+        let Some(count) = count_zeros(source, N::BITS)? else {
+            return Err(CoderError::Frontend(SymbolCodeError::InvalidCodeword(InvalidCodeword)));
         };
         if count < N::BITS {
             return match read_bits(source, N::unit(), count) {

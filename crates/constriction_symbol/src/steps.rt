@@ -27,10 +27,7 @@ pub fn put_last<Word: BitArray, B: WriteWords<Word>>(
         last.old backend.old bit result last.new backend.new }
 {
     if last.is_full() {
-        match backend.write(last.word()) {
-            Ok(()) => {}
-            Err(error) => return Err(error),
-        }
+        backend.write(last.word())?;
         *last = TopBits::none();
         last.push(bit);
         return Ok(());
@@ -110,10 +107,9 @@ pub fn take_last<Word: BitArray, B: ReadWords<Word, Stack>>(
         last.old backend.old (item_of_answer result) last.new backend.new }
 {
     if last.is_empty() {
-        match backend.read() {
-            Err(error) => return Err(error),
-            Ok(None) => return Ok(None),
-            Ok(Some(word)) => {
+        match backend.read()? {
+            None => return Ok(None),
+            Some(word) => {
                 *last = TopBits::all(word);
                 return Ok(Some(last.pop()));
             }
@@ -137,12 +133,9 @@ pub fn take_first<Word: BitArray, B: ReadWords<Word, Queue>>(
         last.old backend.old (item_of_answer result) last.new backend.new }
 {
     if last.is_empty() {
-        match backend.read() {
-            Err(error) => return Err(error),
-            Ok(None) => return Ok(None),
-            Ok(Some(word)) => {
-                return Ok(Some(last.refill(word)));
-            }
+        match backend.read()? {
+            None => return Ok(None),
+            Some(word) => return Ok(Some(last.refill(word))),
         }
     }
     Ok(Some(last.take_first()))

@@ -79,27 +79,15 @@ impl<Word: BitArray, A: Allocator> StackCoder<Word, Vec<Word, A>> {
     {
         let mut last = self.last.copied();
         if last.is_full() {
-            match WriteWords::<Word>::prepare(&mut self.backend, 2) {
-                Ok(()) => {}
-                Err(error) => return Err(error),
-            }
-            match WriteWords::<Word>::write(&mut self.backend, last.word()) {
-                Ok(()) => {}
-                Err(error) => return Err(error),
-            }
+            WriteWords::<Word>::prepare(&mut self.backend, 2)?;
+            WriteWords::<Word>::write(&mut self.backend, last.word())?;
             let mut end = TopBits::<Word>::none();
             end.push(true);
-            match WriteWords::<Word>::write(&mut self.backend, end.word()) {
-                Ok(()) => {}
-                Err(error) => return Err(error),
-            }
+            WriteWords::<Word>::write(&mut self.backend, end.word())?;
             return Ok(2);
         }
         last.push(true);
-        match WriteWords::<Word>::write(&mut self.backend, last.word()) {
-            Ok(()) => {}
-            Err(error) => return Err(error),
-        }
+        WriteWords::<Word>::write(&mut self.backend, last.word())?;
         Ok(1)
     }
 }
@@ -120,10 +108,7 @@ impl<Word: BitArray, A: Allocator> QueueEncoder<Word, Vec<Word, A>> {
         if self.last.is_empty() {
             return Ok(0);
         }
-        match WriteWords::<Word>::write(&mut self.backend, self.last.word()) {
-            Ok(()) => {}
-            Err(error) => return Err(error),
-        }
+        WriteWords::<Word>::write(&mut self.backend, self.last.word())?;
         Ok(1)
     }
 }

@@ -36,10 +36,7 @@ impl<Word: BitArray, B: WriteWords<Word>> StackCoder<Word, B> {
             mut last,
             semantics: _,
         } = self;
-        match put_last(&mut backend, &mut last, true) {
-            Ok(()) => {}
-            Err(error) => return Err(error),
-        }
+        put_last(&mut backend, &mut last, true)?;
         match backend.write(last.word()) {
             Ok(()) => Ok(backend),
             Err(error) => Err(error),

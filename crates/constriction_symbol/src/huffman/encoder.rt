@@ -80,10 +80,7 @@ fn tree_of<P: BitArray, E>(
     ensures ok { IfOk result (λ tree. MakesTree P.number P.BITS (2 ^ 62 - 1) weights.now tree) }
     ensures err { IfErr result (λ e. MakeNoTree P.number P.BITS (2 ^ 62 - 1) weights.now e) }
 {
-    let pairs = match merge_pairs(alloc, weights, usize::MAX / 4) {
-        Ok(pairs) => pairs,
-        Err(error) => return Err(error),
-    };
+    let pairs = merge_pairs(alloc, weights, usize::MAX / 4)?;
     let nodes = match parents_of(alloc, &pairs) {
         Ok(nodes) => nodes,
         Err(_) => return Err(HuffmanError::Memory),
