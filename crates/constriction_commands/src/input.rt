@@ -145,7 +145,7 @@ pub fn parse_lines<N: Number>(alloc: Global, text: &[u8]) -> Result<Vec<Vec<N>>,
 {
     let mut lists = Vec::new(alloc);
     let mut rest = text;
-    'lines: while !rest.is_empty() {
+    while !rest.is_empty() {
         let (line, after) = split_line(rest);
         lists.push(parse_numbers::<N>(alloc, line)?)?;
         rest = after;

@@ -68,7 +68,7 @@ fn write_bytes<O: Write>(output: &mut O, bytes: &[u8]) -> Result<(), Fault>
     ensures err { IfErr result (λ fault. fault ≡ Unwritable) }
 {
     let mut count = 0;
-    'turns: for _ in 0..u64::MAX {
+    for _ in 0..u64::MAX {
         if count >= bytes.len() {
             return Ok(());
         }

@@ -32,7 +32,7 @@ fn encode<M: EncoderModel<PRECISION, Symbol = usize, Probability = u32>>(
 {
     let mut coder = DefaultAnsCoder::new(alloc);
     let mut left = symbols.len();
-    'symbols: while left > 0 {
+    while left > 0 {
         left -= 1;
         match coder.encode_symbol(&symbols[left], model) {
             Ok(()) => {}

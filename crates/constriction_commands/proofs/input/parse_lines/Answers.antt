@@ -15,17 +15,17 @@ passed (Err error) fault named is e = cc
 pub returns-in_err-parse_numbers-clause-bad : goal.returns-in_err-parse_numbers-clause-bad
 returns-in_err-parse_numbers-clause-bad g c = λ bad.
     let greatest = g.N.Number.GREATEST in
-    let lists = map (λ list. map g.N.Number.number list.items) c.lines.lists.items in
-    let some : 0 < length c.lines.rest.now = some_left _ c.lines-test.ensures in
+    let lists = map (λ list. map g.N.Number.number list.items) c.loop-rest.lists.items in
+    let some : 0 < length c.loop-rest.rest.now = some_left _ c.loop-rest-test.ensures in
     let none = c.in_err-parse_numbers.ensures.bad (ap Err (passed _ c.in_err-parse_numbers.field-0.0 BadNumber c.from_residual.ensures.1 bad)) in
-    at_bad_line greatest c.lines.rest.now lists _ some (ap (numbers_of greatest) (sym c.split_line.ensures.first) ∙ none) c.lines.invariant
+    at_bad_line greatest c.loop-rest.rest.now lists _ some (ap (numbers_of greatest) (sym c.split_line.ensures.first) ∙ none) c.loop-rest.invariant
 
-pub lines-preserved : goal.lines-preserved
-lines-preserved g c =
+pub loop-rest-preserved : goal.loop-rest-preserved
+loop-rest-preserved g c =
     let greatest = g.N.Number.GREATEST in
     let items = map (λ list. map g.N.Number.number list.items) in
-    let some : 0 < length c.lines.rest.now = some_left _ c.lines-test.ensures in
-    after_list greatest c.lines.rest.now c.split_line.result.1.now (map g.N.Number.number c.in_ok-parse_numbers.field-0.items) (items c.lines.lists.items) (items c.push.new.self.items) _ some c.split_line.ensures.rest
+    let some : 0 < length c.loop-rest.rest.now = some_left _ c.loop-rest-test.ensures in
+    after_list greatest c.loop-rest.rest.now c.split_line.result.1.now (map g.N.Number.number c.in_ok-parse_numbers.field-0.items) (items c.loop-rest.lists.items) (items c.push.new.self.items) _ some c.split_line.ensures.rest
     (ap (numbers_of greatest) (sym c.split_line.ensures.first) ∙ c.in_ok-parse_numbers.ensures.ok)
-    (ap items c.in_ok-push.ensures.items ∙ map-append _ c.lines.lists.items (c.in_ok-parse_numbers.field-0 ∷ []))
-    c.lines.invariant
+    (ap items c.in_ok-push.ensures.items ∙ map-append _ c.loop-rest.lists.items (c.in_ok-parse_numbers.field-0 ∷ []))
+    c.loop-rest.invariant
