@@ -65,7 +65,7 @@ where
         heads, words, width, lens, model, symbols, count,
     );
     let threes = group_count(heads.len() - first, width);
-    'threes: for group in 0..threes {
+    for group in 0..threes {
         let j = first + group * 3;
         decode_group::<_, _, _, PRECISION>(
             &mut heads[j..j + 3],
@@ -77,7 +77,7 @@ where
             count,
         );
     }
-    'rest: for j in first + threes * 3..heads.len() {
+    for j in first + threes * 3..heads.len() {
         let (head, left) = decode_one::<_, _, _, PRECISION>(
             heads[j],
             &words[j * width..j * width + width],

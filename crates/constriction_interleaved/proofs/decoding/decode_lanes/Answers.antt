@@ -32,8 +32,8 @@ left_behind {A} a k xs ys new within long e =
     drop-put_mid a (a + k - a) xs new (a + k) (omega arith) (omega arith) (omega arith)
     ∙ (sym (drop-drop k a xs) ∙ (ap (λ (zs : List A). drop k zs) e ∙ drop-drop k a ys))
 
-pub threes-init : goal.threes-init
-threes-init g c =
+pub loop-group-init : goal.loop-group-init
+loop-group-init g c =
     let call = c.decode_first_four-first in
     let e : call.result + 0 * 3 ≡ call.result = omega arith in
     rw e (record {
@@ -45,24 +45,24 @@ threes-init g c =
       symbols_count = call.auto.symbols;
     })
 
-pub overflow_add-j-in-threes-2 : goal.overflow_add-j-in-threes-2
-overflow_add-j-in-threes-2 g c =
-    let inside = group_within c.decode_first_four-first.result c.threes.group c.group_count-threes.result (length c.args.heads.now) c.args.width (length c.args.words.now) c.threes-test.true (groups_within c.decode_first_four-first.result c.group_count-threes.result (length c.args.heads.now) _ c.decode_first_four-first.ensures.within c.decode_first_four-first.auto.heads c.group_count-threes.ensures.within) c.requires.words in
+pub overflow_add-j-in-loop-group-2 : goal.overflow_add-j-in-loop-group-2
+overflow_add-j-in-loop-group-2 g c =
+    let inside = group_within c.decode_first_four-first.result c.loop-group.group c.group_count-threes.result (length c.args.heads.now) c.args.width (length c.args.words.now) c.loop-group-test.true (groups_within c.decode_first_four-first.result c.group_count-threes.result (length c.args.heads.now) _ c.decode_first_four-first.ensures.within c.decode_first_four-first.auto.heads c.group_count-threes.ensures.within) c.requires.words in
     omega (arith, inside)
 
-pub slice_bounds-decode_group-end-in-threes : goal.slice_bounds-decode_group-end-in-threes
-slice_bounds-decode_group-end-in-threes g c =
-    let inside = group_within c.decode_first_four-first.result c.threes.group c.group_count-threes.result (length c.args.heads.now) c.args.width (length c.args.words.now) c.threes-test.true (groups_within c.decode_first_four-first.result c.group_count-threes.result (length c.args.heads.now) _ c.decode_first_four-first.ensures.within c.decode_first_four-first.auto.heads c.group_count-threes.ensures.within) c.requires.words in
+pub slice_bounds-decode_group-end-in-loop-group : goal.slice_bounds-decode_group-end-in-loop-group
+slice_bounds-decode_group-end-in-loop-group g c =
+    let inside = group_within c.decode_first_four-first.result c.loop-group.group c.group_count-threes.result (length c.args.heads.now) c.args.width (length c.args.words.now) c.loop-group-test.true (groups_within c.decode_first_four-first.result c.group_count-threes.result (length c.args.heads.now) _ c.decode_first_four-first.ensures.within c.decode_first_four-first.auto.heads c.group_count-threes.ensures.within) c.requires.words in
     omega (arith, inside)
 
-pub slice_bounds-decode_group-end-in-threes-3 : goal.slice_bounds-decode_group-end-in-threes-3
-slice_bounds-decode_group-end-in-threes-3 g c =
-    let inside = group_within c.decode_first_four-first.result c.threes.group c.group_count-threes.result (length c.args.heads.now) c.args.count (length c.args.symbols.now) c.threes-test.true (groups_within c.decode_first_four-first.result c.group_count-threes.result (length c.args.heads.now) _ c.decode_first_four-first.ensures.within c.decode_first_four-first.auto.heads c.group_count-threes.ensures.within) c.requires.symbols in
-    omega (arith, inside, c.threes.invariant.symbols_count)
+pub slice_bounds-decode_group-end-in-loop-group-3 : goal.slice_bounds-decode_group-end-in-loop-group-3
+slice_bounds-decode_group-end-in-loop-group-3 g c =
+    let inside = group_within c.decode_first_four-first.result c.loop-group.group c.group_count-threes.result (length c.args.heads.now) c.args.count (length c.args.symbols.now) c.loop-group-test.true (groups_within c.decode_first_four-first.result c.group_count-threes.result (length c.args.heads.now) _ c.decode_first_four-first.ensures.within c.decode_first_four-first.auto.heads c.group_count-threes.ensures.within) c.requires.symbols in
+    omega (arith, inside, c.loop-group.invariant.symbols_count)
 
-pub threes-preserved : goal.threes-preserved
-threes-preserved g c =
-    let l = c.threes in
+pub loop-group-preserved : goal.loop-group-preserved
+loop-group-preserved g c =
+    let l = c.loop-group in
     let first = c.decode_first_four-first.result in
     let j = first + l.group * 3 in
     let width = c.args.width in
@@ -70,8 +70,8 @@ threes-preserved g c =
     let model : Model ℕ = record { precision = g.row.PRECISION; table = g.M.EntropyModel.table c.args.model.now } in
     let one : j + 3 - j ≡ 3 = omega arith in
     let row : j * width + 3 * width - j * width ≡ 3 * width = omega arith in
-    let symbols = group_within first l.group c.group_count-threes.result (length c.args.heads.now) count (length c.args.symbols.now) c.threes-test.true (groups_within c.decode_first_four-first.result c.group_count-threes.result (length c.args.heads.now) _ c.decode_first_four-first.ensures.within c.decode_first_four-first.auto.heads c.group_count-threes.ensures.within) c.requires.symbols in
-    let upto : j + 3 ≤ length c.args.heads.now = omega (arith, c.threes-test.true, groups_within c.decode_first_four-first.result c.group_count-threes.result (length c.args.heads.now) _ c.decode_first_four-first.ensures.within c.decode_first_four-first.auto.heads c.group_count-threes.ensures.within) in
+    let symbols = group_within first l.group c.group_count-threes.result (length c.args.heads.now) count (length c.args.symbols.now) c.loop-group-test.true (groups_within c.decode_first_four-first.result c.group_count-threes.result (length c.args.heads.now) _ c.decode_first_four-first.ensures.within c.decode_first_four-first.auto.heads c.group_count-threes.ensures.within) c.requires.symbols in
+    let upto : j + 3 ≤ length c.args.heads.now = omega (arith, c.loop-group-test.true, groups_within c.decode_first_four-first.result c.group_count-threes.result (length c.args.heads.now) _ c.decode_first_four-first.ensures.within c.decode_first_four-first.auto.heads c.group_count-threes.ensures.within) in
     let in_heads : j + 3 ≤ length l.heads = omega (arith, upto, l.invariant.heads_count) in
     let in_lens : j + 3 ≤ length l.lens = omega (arith, upto, l.invariant.lens_count, c.requires.lens) in
     let in_symbols : j * count + 3 * count ≤ length l.symbols = omega (arith, symbols, l.invariant.symbols_count) in
@@ -99,18 +99,18 @@ row_within j n width all lt is =
 
 pub decode_one-head-requires-clause-within : goal.decode_one-head-requires-clause-within
 decode_one-head-requires-clause-within g c =
-    let l = c.rest in
-    let lt : l.j < length c.args.heads.now = omega (arith, c.rest-test.true, c.threes.invariant.heads_count, l.invariant.heads_count) in
+    let l = c.loop-j in
+    let lt : l.j < length c.args.heads.now = omega (arith, c.loop-j-test.true, c.loop-group.invariant.heads_count, l.invariant.heads_count) in
     let long = part_long c.args.words.now (l.j * c.args.width) c.args.width (row_within l.j (length c.args.heads.now) c.args.width (length c.args.words.now) lt c.requires.words) in
     let len = same_here l.j l.lens c.args.lens.now 0 l.invariant.lens_left in
     let below = c.requires.within l.j (omega (arith, lt, c.requires.lens)) in
     omega (arith, long, len, below)
 
-pub rest-preserved : goal.rest-preserved
-rest-preserved g c =
-    let l = c.rest in
+pub loop-j-preserved : goal.loop-j-preserved
+loop-j-preserved g c =
+    let l = c.loop-j in
     let model : Model ℕ = record { precision = g.row.PRECISION; table = g.M.EntropyModel.table c.args.model.now } in
-    let lt : l.j < length c.args.heads.now = omega (arith, c.rest-test.true, c.threes.invariant.heads_count, l.invariant.heads_count) in
+    let lt : l.j < length c.args.heads.now = omega (arith, c.loop-j-test.true, c.loop-group.invariant.heads_count, l.invariant.heads_count) in
     let e : l.j * c.args.width + c.args.width - l.j * c.args.width ≡ c.args.width = omega arith in
     let inside = row_within l.j (length c.args.heads.now) c.args.count (length c.args.symbols.now) lt c.requires.symbols in
     let within : l.j * c.args.count + c.args.count ≤ length l.symbols = omega (arith, inside, l.invariant.symbols_count) in
@@ -129,10 +129,10 @@ rest-preserved g c =
     }
 
 -- ---- between the two, and at the end
-pub rest-init : goal.rest-init
-rest-init g c =
-    let l = c.threes in
-    let e : c.decode_first_four-first.result + c.group_count-threes.result * 3 ≡ c.decode_first_four-first.result + l.group * 3 = omega (arith, c.threes-test.false, l.auto.group-end) in
+pub loop-j-init : goal.loop-j-init
+loop-j-init g c =
+    let l = c.loop-group in
+    let e : c.decode_first_four-first.result + c.group_count-threes.result * 3 ≡ c.decode_first_four-first.result + l.group * 3 = omega (arith, c.loop-group-test.false, l.auto.group-end) in
     rw e (record {
       done = l.invariant.done;
       heads_left = l.invariant.heads_left;
@@ -144,5 +144,5 @@ rest-init g c =
 
 pub returns : goal.returns
 returns g c = record {
-  decoded = λ k lt d. c.rest.invariant.done k (omega (arith, lt, c.rest-test.false, c.threes.invariant.heads_count)) d;
+  decoded = λ k lt d. c.loop-j.invariant.done k (omega (arith, lt, c.loop-j-test.false, c.loop-group.invariant.heads_count)) d;
 }
