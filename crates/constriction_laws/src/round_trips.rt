@@ -38,7 +38,7 @@ where
         (λ e. StopsAmong C.decodes C.halts PRECISION M.table models.now e.0 decoder.old e.1 decoder.new) }
 {
     let mut symbols = Vec::new(alloc);
-    'decode: for answer in decoder.decode_symbols(models) {
+    for answer in decoder.decode_symbols(models) {
         let symbol = match answer {
             Ok(symbol) => symbol,
             Err(error) => return Err((symbols.len(), Stopped::Refused(error))),

@@ -83,7 +83,7 @@ where
         (M2.table second.now)) amt switch.old result }
 {
     let mut symbols = Vec::new(alloc);
-    'decode: for _ in 0..amt {
+    for _ in 0..amt {
         let symbol = match switch.next_symbol(first, second) {
             Ok(symbol) => symbol,
             Err(error) => return Err(Stopped::Refused(error)),

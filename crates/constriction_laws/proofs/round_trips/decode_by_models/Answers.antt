@@ -5,16 +5,16 @@ use Rattle.std.proofs.lemmas.List.{length-append}
 use Rattle.constriction_laws.proofs.ListsGiven.{GavePairs, pairs_more, rest_after}
 use Rattle.constriction_laws.proofs.round_trips.decode_by_models.Goals as goal
 
-pub decode-preserved : goal.decode-preserved
-decode-preserved g c =
+pub loop-answer-preserved : goal.loop-answer-preserved
+loop-answer-preserved g c =
     let table = g.M.EntropyModel.table in
     let models = c.args.models.now in
-    let kept = c.decode.invariant in
+    let kept = c.loop-answer.invariant in
     let on = c.in-Some.ensures.goes.on kept.1 in
     let given = c.in-Some.ensures.steps in
-    let xs = c.decode.symbols.items in
+    let xs = c.loop-answer.symbols.items in
     let x = c.in-Ok.symbol in
-    let before = c.decode.answer-iterator in
+    let before = c.loop-answer.answer-iterator in
     let after = c.next.new.self in
     let model = given.1.0 in
     let next : drop (length xs) models ≡ model.now ∷ iter_rest after.models = sym kept.3 ∙ given.1.1 in
@@ -31,26 +31,26 @@ decode-preserved g c =
 pub returns-clause-steps : goal.returns-clause-steps
 returns-clause-steps g c =
     let begun = ap (λ i. i.decoder.now) c.into_iter-answer-iterator.ensures.into_iter_gives ∙ c.decode_symbols-answer-items.ensures.decoder in
-    let all = subst (λ d. GavePairs g.C.Decode.decodes g.C.Decode.halts g.row.PRECISION g.M.EntropyModel.table (zip c.decode.symbols.items c.args.models.now) d c.decode.answer-iterator.decoder.now) begun c.decode.invariant.5 in
-    subst (λ d. GavePairs g.C.Decode.decodes g.C.Decode.halts g.row.PRECISION g.M.EntropyModel.table (zip c.decode.symbols.items c.args.models.now) c.args.decoder.now d) (search (rules, c.in-None.ensures.steps.1.1)) all
+    let all = subst (λ d. GavePairs g.C.Decode.decodes g.C.Decode.halts g.row.PRECISION g.M.EntropyModel.table (zip c.loop-answer.symbols.items c.args.models.now) d c.loop-answer.answer-iterator.decoder.now) begun c.loop-answer.invariant.5 in
+    subst (λ d. GavePairs g.C.Decode.decodes g.C.Decode.halts g.row.PRECISION g.M.EntropyModel.table (zip c.loop-answer.symbols.items c.args.models.now) c.args.decoder.now d) (search (rules, c.in-None.ensures.steps.1.1)) all
 
 pub returns-clause-count : goal.returns-clause-count
-returns-clause-count g c = omega (arith, c.decode.invariant.4, c.in-None.ensures.steps.1.0.0)
+returns-clause-count g c = omega (arith, c.loop-answer.invariant.4, c.in-None.ensures.steps.1.0.0)
 
 pub returns-in-Err-clause-err : goal.returns-in-Err-clause-err
 returns-in-Err-clause-err g c =
     let given = c.in-Some.ensures.steps in
-    let kept = c.decode.invariant in
+    let kept = c.loop-answer.invariant in
     let models = c.args.models.now in
     let begun = ap (λ i. i.decoder.now) c.into_iter-answer-iterator.ensures.into_iter_gives ∙ c.decode_symbols-answer-items.ensures.decoder in (
-      c.decode.symbols.items,
-      c.decode.answer-iterator.decoder.now,
+      c.loop-answer.symbols.items,
+      c.loop-answer.answer-iterator.decoder.now,
       given.1.0.now,
       _,
       search rules,
       omega (arith, kept.4, ap length given.1.1, c.len.ensures),
       sym kept.3 ∙ given.1.1,
-      subst (λ d. GavePairs g.C.Decode.decodes g.C.Decode.halts g.row.PRECISION g.M.EntropyModel.table (zip c.decode.symbols.items models) d c.decode.answer-iterator.decoder.now) begun kept.5,
+      subst (λ d. GavePairs g.C.Decode.decodes g.C.Decode.halts g.row.PRECISION g.M.EntropyModel.table (zip c.loop-answer.symbols.items models) d c.loop-answer.answer-iterator.decoder.now) begun kept.5,
       search (rules, given.1.2, c.in-Err.is),
     )
 
@@ -58,11 +58,11 @@ pub returns-in_default-clause-err : goal.returns-in_default-clause-err
 returns-in_default-clause-err g c =
     let table = g.M.EntropyModel.table in
     let models = c.args.models.now in
-    let kept = c.decode.invariant in
+    let kept = c.loop-answer.invariant in
     let given = c.in-Some.ensures.steps in
-    let xs = c.decode.symbols.items in
+    let xs = c.loop-answer.symbols.items in
     let x = c.in-Ok.symbol in
-    let before = c.decode.answer-iterator in
+    let before = c.loop-answer.answer-iterator in
     let after = c.next.new.self in
     let model = given.1.0 in
     let begun = ap (λ i. i.decoder.now) c.into_iter-answer-iterator.ensures.into_iter_gives ∙ c.decode_symbols-answer-items.ensures.decoder in

@@ -101,7 +101,7 @@ where
         codebooks.now stream.old e stream.new) }
 {
     let mut symbols = Vec::new(alloc);
-    'decode: for answer in stream.decode_symbols(codebooks) {
+    for answer in stream.decode_symbols(codebooks) {
         let symbol = match answer {
             Ok(symbol) => symbol,
             Err(error) => return Err(Stopped::Refused(error)),

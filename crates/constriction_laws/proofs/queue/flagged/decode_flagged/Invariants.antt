@@ -9,8 +9,8 @@ use Rattle.constriction_laws.specs.queue.Flagging.{flagged_behind}
 use Rattle.constriction_laws.proofs.queue.flagged.decode_flagged.Given as goal
 
 -- the symbols so far are read, and the models were switched before, or where the flag is among them
-abbrev pub invariant-decode : goal.invariant-decode
-invariant-decode g l =
+abbrev pub invariant-loop : goal.invariant-loop
+invariant-loop g l =
     let w = g.Word.Natural.BITS in
     let s = g.State.Natural.BITS in
     let first : Model ℕ = record { precision = g.row.P1; table = g.M1.EntropyModel.table l.first } in

@@ -10,19 +10,19 @@ use Rattle.constriction_laws.proofs.ListsGiven.{rest_after}
 use Rattle.constriction_laws.proofs.of_symbol.bit_coders.Pairs.{reads_pairs_more}
 use Rattle.constriction_laws.proofs.symbol.round_trips.pairs.decode_pairs.Goals as goal
 
-pub decode-preserved : goal.decode-preserved
-decode-preserved g c =
+pub loop-answer-preserved : goal.loop-answer-preserved
+loop-answer-preserved g c =
     let gives = g.R.ReadBitStream.gives in
     let codeword = g.C.Codebook.codeword in
     let on = g.C.DecoderCodebook.reads_on in
     let invalid = g.C.DecoderCodebook.is_invalid in
     let books = c.args.codebooks.now in
-    let kept = c.decode.invariant in
+    let kept = c.loop-answer.invariant in
     let next = c.in-Some.ensures.goes.on kept.1 in
     let given = c.in-Some.ensures.steps in
-    let xs = c.decode.symbols.items in
+    let xs = c.loop-answer.symbols.items in
     let x = c.in-Ok.symbol in
-    let before = c.decode.answer-iterator in
+    let before = c.loop-answer.answer-iterator in
     let after = c.next.new.self in
     let book = given.1.0 in
     let left : drop (length xs) books ≡ book.now ∷ iter_rest after.codebooks = sym kept.3 ∙ given.1.1 in
@@ -41,24 +41,24 @@ returns-clause-steps g c =
     let books = c.args.codebooks.now in
     let gives = g.R.ReadBitStream.gives in
     let begun = ap (λ i. i.bit_stream.now) c.into_iter-answer-iterator.ensures.into_iter_gives ∙ c.decode_symbols-answer-items.ensures.stream in
-    let all = subst (λ d. ReadsPairs gives g.C.Codebook.codeword g.C.DecoderCodebook.reads_on g.C.DecoderCodebook.is_invalid (zip c.decode.symbols.items books) d c.decode.answer-iterator.bit_stream.now) begun c.decode.invariant.5 in
-    subst (λ d. ReadsPairs gives g.C.Codebook.codeword g.C.DecoderCodebook.reads_on g.C.DecoderCodebook.is_invalid (zip c.decode.symbols.items books) c.args.stream.now d) (search (rules, c.in-None.ensures.steps.1.1)) all
+    let all = subst (λ d. ReadsPairs gives g.C.Codebook.codeword g.C.DecoderCodebook.reads_on g.C.DecoderCodebook.is_invalid (zip c.loop-answer.symbols.items books) d c.loop-answer.answer-iterator.bit_stream.now) begun c.loop-answer.invariant.5 in
+    subst (λ d. ReadsPairs gives g.C.Codebook.codeword g.C.DecoderCodebook.reads_on g.C.DecoderCodebook.is_invalid (zip c.loop-answer.symbols.items books) c.args.stream.now d) (search (rules, c.in-None.ensures.steps.1.1)) all
 
 pub returns-clause-count : goal.returns-clause-count
-returns-clause-count g c = omega (arith, c.decode.invariant.4, c.in-None.ensures.steps.1.0.0)
+returns-clause-count g c = omega (arith, c.loop-answer.invariant.4, c.in-None.ensures.steps.1.0.0)
 
 pub returns-in-Err-clause-err : goal.returns-in-Err-clause-err
 returns-in-Err-clause-err g c =
     let books = c.args.codebooks.now in
     let given = c.in-Some.ensures.steps in
-    let kept = c.decode.invariant in
+    let kept = c.loop-answer.invariant in
     let begun = ap (λ i. i.bit_stream.now) c.into_iter-answer-iterator.ensures.into_iter_gives ∙ c.decode_symbols-answer-items.ensures.stream in (
-      c.decode.symbols.items,
-      c.decode.answer-iterator.bit_stream.now,
+      c.loop-answer.symbols.items,
+      c.loop-answer.answer-iterator.bit_stream.now,
       given.1.0.now,
       _,
       sym kept.3 ∙ given.1.1,
-      subst (λ d. ReadsPairs g.R.ReadBitStream.gives g.C.Codebook.codeword g.C.DecoderCodebook.reads_on g.C.DecoderCodebook.is_invalid (zip c.decode.symbols.items books) d c.decode.answer-iterator.bit_stream.now) begun kept.5,
+      subst (λ d. ReadsPairs g.R.ReadBitStream.gives g.C.Codebook.codeword g.C.DecoderCodebook.reads_on g.C.DecoderCodebook.is_invalid (zip c.loop-answer.symbols.items books) d c.loop-answer.answer-iterator.bit_stream.now) begun kept.5,
       search (rules, given.1.2, c.in-Err.is),
     )
 
@@ -69,11 +69,11 @@ returns-in_default-clause-err g c =
     let on = g.C.DecoderCodebook.reads_on in
     let invalid = g.C.DecoderCodebook.is_invalid in
     let books = c.args.codebooks.now in
-    let kept = c.decode.invariant in
+    let kept = c.loop-answer.invariant in
     let given = c.in-Some.ensures.steps in
-    let xs = c.decode.symbols.items in
+    let xs = c.loop-answer.symbols.items in
     let x = c.in-Ok.symbol in
-    let before = c.decode.answer-iterator in
+    let before = c.loop-answer.answer-iterator in
     let after = c.next.new.self in
     let book = given.1.0 in
     let begun = ap (λ i. i.bit_stream.now) c.into_iter-answer-iterator.ensures.into_iter_gives ∙ c.decode_symbols-answer-items.ensures.stream in
@@ -94,7 +94,7 @@ returns-clause-back g c = λ known symbols code rest first_count coded is.
     let on = g.C.DecoderCodebook.reads_on in
     let invalid = g.C.DecoderCodebook.is_invalid in
     let books = c.args.codebooks.now in
-    let again = c.decode.symbols.items in
+    let again = c.loop-answer.symbols.items in
     all_back unread (λ p. codeword p.1 p.0) (λ p before after. ReadsSymbol gives (codeword p.1) (on p.1) (invalid p.1) before (Ok p.0) after) (IsSamePair same) (λ p q. p.1 ≡ q.1)
     (λ p q first more before after alike here_known here given.
     let read = subst (λ k. ReadsSymbol gives (codeword k) (on k) (invalid k) before (Ok p.0) after) alike given in
