@@ -118,7 +118,7 @@ impl DecoderModel<24> for BucketTable {
     #[inline(always)]
     fn quantile_function(&self, quantile: u32) -> (usize, u32, NonZero<u32>) {
         let mut symbol = self.firsts[(quantile >> 12) as usize] as usize;
-        'search: while self.starts[symbol + 1] <= quantile {
+        while self.starts[symbol + 1] <= quantile {
             symbol += 1;
         }
         let left = self.starts[symbol];
