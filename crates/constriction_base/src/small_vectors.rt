@@ -91,10 +91,7 @@ impl<A: Allocator + Copy> WriteWords<usize> for SmallVec<usize, 1, A> {
         // The capacity is at least one, and at least the number of words.
         let _inline = self.capacity();
         let _held = self.len();
-        match self.reserve(count) {
-            Ok(()) => Ok(()),
-            Err(error) => Err(error),
-        }
+        self.reserve(count)
     }
 
     ghost room_law = { λ v e some full. no_room_left v.capacity (length v.items) some full.0 };
