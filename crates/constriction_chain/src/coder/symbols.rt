@@ -76,16 +76,13 @@ impl<
     {
         let precision = PRECISION as u32;
         let (mut h, r) = self.heads.numbers();
-        let quantile = match take(
+        let quantile = take(
             &mut self.compressed,
             &mut self.remainders,
             &mut h,
             r,
             precision,
-        ) {
-            Ok(quantile) => quantile,
-            Err(error) => return Err(error),
-        };
+        )?;
         let (symbol, left, p) = model.quantile_function(M::Probability::narrow(quantile));
         let (left, p) = (left.widen(), M::Probability::from_nonzero(p).widen());
         match keep::<Word, State, R>(&mut self.remainders, r, quantile, left, p, precision) {

@@ -7,12 +7,12 @@ use Rattle.constriction_chain.proofs.coder.symbols.ChainCoderDecode.decode_symbo
 
 pub quantile_function-symbol-requires : goal.quantile_function-symbol-requires
 quantile_function-symbol-requires g c =
-    let below = c.in-Ok.ensures.step.ok.below in
+    let below = c.in_ok-quantile.ensures.step.ok.below in
     rw (c.narrow.ensures, same_number _ _ _ below (g.met.M.EntropyModel.sized c.args.model).1) below
 
 pub keep-requires-clause-covers : goal.keep-requires-clause-covers
 keep-requires-clause-covers g c =
-    let covers = covered _ _ _ _ _ _ c.in-Ok.ensures.step.ok.below (g.met.M.EntropyModel.sized c.args.model).1 c.narrow.ensures c.quantile_function-symbol.ensures.covers in
+    let covers = covered _ _ _ _ _ _ c.in_ok-quantile.ensures.step.ok.below (g.met.M.EntropyModel.sized c.args.model).1 c.narrow.ensures c.quantile_function-symbol.ensures.covers in
     rw (c.widen-left.ensures, c.widen-p.ensures, c.from_nonzero.ensures) covers
 
 pub keep-requires-clause-few : goal.keep-requires-clause-few
@@ -20,12 +20,12 @@ keep-requires-clause-few g c =
     let within = in_range _ _ _ _ _ _ (g.M.EntropyModel.lawful c.args.model).follow c.quantile_function-symbol.ensures.found in
     rw (c.widen-p.ensures, c.from_nonzero.ensures) (omega (arith, within.2))
 
-pub returns-in-Ok-keep : goal.returns-in-Ok-keep
-returns-in-Ok-keep g c =
+pub returns-in-Ok : goal.returns-in-Ok
+returns-in-Ok g c =
     let number = g.Word.Natural.number in
-    let taken = rw c.numbers-h.ensures.parts at c.in-Ok.ensures.step.ok in
+    let taken = rw c.numbers-h.ensures.parts at c.in_ok-quantile.ensures.step.ok in
     let covers = covered _ _ _ _ _ _ taken.below (g.met.M.EntropyModel.sized c.args.model).1 c.narrow.ensures c.quantile_function-symbol.ensures.covers in
-    let kept = rw (c.widen-left.ensures, c.widen-p.ensures, c.from_nonzero.ensures, c.numbers-h.ensures.parts) at c.in-Ok-keep.ensures.ok in
+    let kept = rw (c.widen-left.ensures, c.widen-p.ensures, c.from_nonzero.ensures, c.numbers-h.ensures.parts) at c.in-Ok.ensures.ok in
     rw (← c.self.view_is, c.replace.ensures) (record {
       step = (
         _,
@@ -38,9 +38,9 @@ returns-in-Ok-keep g c =
 pub returns : goal.returns
 returns g c =
     let number = g.Word.Natural.number in
-    let taken = rw c.numbers-h.ensures.parts at c.in-Ok.ensures.step.ok in
+    let taken = rw c.numbers-h.ensures.parts at c.in_ok-quantile.ensures.step.ok in
     let covers = covered _ _ _ _ _ _ taken.below (g.met.M.EntropyModel.sized c.args.model).1 c.narrow.ensures c.quantile_function-symbol.ensures.covers in
-    let lost = rw (c.widen-left.ensures, c.widen-p.ensures, c.from_nonzero.ensures, c.numbers-h.ensures.parts) at c.in-Err-keep.ensures.err in
+    let lost = rw (c.widen-left.ensures, c.widen-p.ensures, c.from_nonzero.ensures, c.numbers-h.ensures.parts) at c.in-Err.ensures.err in
     rw (← c.self.view_is) (record {
       step = inr (
         _,
