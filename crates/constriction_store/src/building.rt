@@ -192,15 +192,12 @@ where
             return Err(BuildError::TooLong);
         }
         let mut encoder: RangeEncoder<Word, State, Vec<Word>> = RangeEncoder::new(alloc);
-        let index = match encode_chunks::<Word, State, M, PRECISION>(
+        let index = encode_chunks::<Word, State, M, PRECISION>(
             alloc,
             &mut encoder,
             chunks,
             &model,
-        ) {
-            Ok(index) => index,
-            Err(error) => return Err(error),
-        };
+        )?;
         match encoder.into_self_delimited() {
             Ok(words) => Ok(Store {
                 words,
