@@ -1,5 +1,6 @@
 -- Symbols with what their models are made of, as symbols each under a table of its own.
-use Rattle.std.proofs.Common.{◌≡◌, ◌∙◌, ℕ, zero, suc, List, [], ◌∷◌, length, drop, take, refl, sym, ap, arith}
+use Rattle.std.proofs.Common.{◌≡◌, ◌∙◌, ◌<◌, ℕ, zero, suc, List, [], ◌∷◌, length, drop, get_or, take, refl, sym, ap, arith}
+use Rattle.std.proofs.lemmas.List.{get_or-replicate, length-replicate}
 use Rattle.std.specs.Prelude.{replicate}
 use Rattle.constriction_base.specs.Models.{Item, item_of, items_of, pairs_of}
 use Rattle.constriction_inputs.specs.Rows.{row_items, row_tables}
@@ -13,6 +14,10 @@ items_listed precision zero (symbol ∷ symbols) table made many is = absurd (om
 items_listed precision (suc count) (symbol ∷ symbols) table made many is =
     ap (λ (items : List (Item ℕ)). item_of (record { precision = precision; table = table }) symbol ∷ items) (items_listed precision count symbols table made (omega arith) is)
     ∙ ap (λ (t : List (ℕ × ℕ × ℕ)). item_of (record { precision = precision; table = t }) symbol ∷ pairs_of precision (λ (t : List (ℕ × ℕ × ℕ)). t) symbols (replicate count made)) (sym is)
+
+-- the table at an index of such a list
+pub alike_at : {A : Type 0} (count place : ℕ) (x other : A) → place < length (replicate count x) → get_or (replicate count x) place other ≡ x
+alike_at count place x other within = get_or-replicate count place x other (rw (length-replicate count x) at within)
 
 -- ---- under rows of weights
 -- how many tables there are

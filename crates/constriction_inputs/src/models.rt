@@ -23,7 +23,7 @@ pub mod table_or_rows;
 pub mod weights;
 pub mod weights_model;
 
-ghost use Rattle.std.specs.Prelude.{◌≡◌, ◌↔◌, ◌<◌, ◌≤◌, ℕ, List, [], get_or, length, map, replicate};
+ghost use Rattle.std.specs.Prelude.{◌≡◌, ◌↔◌, ◌<◌, ◌≤◌, ℕ, List, [], get_or, length, map};
 ghost use Rattle.std.specs.Prelude.{IfNone, IfOk, IfSome, IsTrue};
 ghost use Rattle.constriction_base.specs.Models.{AreKnown};
 ghost use Rattle.constriction_base.specs.Tables.{Impossible};
@@ -209,72 +209,6 @@ pub fn check_for<P: BitArray, G: DecoderModels<P, PRECISION>, const PRECISION: u
         → AreFit PRECISION (G.coded models.now ns)) }
 {
     models.check(symbols.len())
-}
-
-/// A list of models for symbols that all have the same model. The list stores the model once.
-///
-/// # Examples
-///
-/// ```
-/// let weights = Weights { weights: &[255u8, 1] };
-/// if let Some(mut list) = EncoderModels::<u8, 8>::list(&weights, alloc, 2, false) {
-///     ModelList::<u8, 8>::interval(&mut list, 1, 1) // Some((255, 1, None))
-/// }
-/// ```
-#[derive(Drop)]
-pub struct One<M> {
-    model: M,
-    count: usize,
-    place: usize,
-}
-
-impl<
-    P: BitArray,
-    M: EncoderModel<PRECISION, Symbol = usize, Probability = P>,
-    const PRECISION: usize,
-> ModelList<P, PRECISION> for One<M> {
-    const LOOKS_AHEAD: bool = false;
-
-    ghost tables = { λ one. replicate one.count (M.table one.model) };
-
-    #[inline]
-    fn count(&self) -> usize {
-        self.count
-    }
-
-    #[inline(always)]
-    fn interval(
-        &mut self,
-        _place: usize,
-        symbol: usize,
-    ) -> Option<(P, <P as BitArray>::NonZero, Option<Reciprocal>)> {
-        match entry_of::<P, M, PRECISION>(&self.model, symbol) {
-            Some(found) => Some(found),
-            None => None,
-        }
-    }
-}
-
-impl<
-    P: BitArray,
-    M: DecoderModel<PRECISION, Symbol = usize, Probability = P>,
-    const PRECISION: usize,
-> DecoderModelList<P, PRECISION> for One<M> {
-    type Model = M;
-
-    ghost tables = { λ one. replicate one.count (M.table one.model) };
-
-    ghost turned_to = { λ one. one.place };
-
-    #[inline]
-    fn select(&mut self, place: usize) {
-        self.place = place;
-    }
-
-    #[inline]
-    fn model(&self) -> &M {
-        &self.model
-    }
 }
 
 /// Returns the start and the length of the symbol's interval under `model`, and the length's reciprocal if the model

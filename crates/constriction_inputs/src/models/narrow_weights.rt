@@ -4,8 +4,8 @@ ghost use Rattle.std.specs.Prelude.{◌≡◌, length, map};
 ghost use Rattle.constriction_inputs.specs.Weights.{narrow_by_weights};
 ghost use Rattle.constriction_inputs.specs.laws.Weights.{known_below};
 
-use crate::models::table_or_rows::TableOrRows;
-use crate::models::{DecoderModels, Models, One, Weights};
+use crate::models::weights::WeightsDecoderList;
+use crate::models::{DecoderModels, Models, Weights};
 use crate::refusal::Refusal;
 use crate::symbol::Symbol;
 use constriction_words::BitArray;
@@ -53,13 +53,13 @@ impl<'a, P: BitArray, S: Symbol, const PRECISION: usize> DecoderModels<P, PRECIS
     for NarrowWeights<'a, P, S> {
     type Symbol = S;
 
-    type DecoderList = One<TableOrRows<'a, P, PRECISION>>;
+    type DecoderList = WeightsDecoderList<'a, P, PRECISION>;
 
     fn decoder_list(
         &self,
         alloc: Global,
         count: usize,
-    ) -> Option<One<TableOrRows<'a, P, PRECISION>>> {
+    ) -> Option<WeightsDecoderList<'a, P, PRECISION>> {
         DecoderModels::<P, PRECISION>::decoder_list(&self.table(), alloc, count)
     }
 

@@ -1,6 +1,6 @@
 //! `Weights`: one table of weights for all symbols.
 
-ghost use Rattle.std.specs.Prelude.{◌≡◌, ◌≤◌, map, IfSome, IsTrue};
+ghost use Rattle.std.specs.Prelude.{◌≡◌, ◌≤◌, map, replicate, IfSome, IsTrue};
 ghost use Rattle.constriction_base.specs.Tables.{table_of};
 ghost use Rattle.constriction_base.specs.WeightTables.{entries, HasReciprocals};
 ghost use Rattle.constriction_inputs.specs.Weights.{by_weights, IsTotal};
@@ -11,7 +11,7 @@ use crate::models::row_lookup::RowLookup;
 use crate::models::table_or_row::TableOrRow;
 use crate::models::table_or_rows::TableOrRows;
 use crate::models::weights_model::WeightsModel;
-use crate::models::{DecoderModels, EncoderModels, ModelList, Models, One};
+use crate::models::{DecoderModelList, DecoderModels, EncoderModels, ModelList, Models, entry_of};
 use crate::refusal::Refusal;
 use crate::rows::Row;
 use crate::rows::adding::is_total;
@@ -76,24 +76,18 @@ impl<'a, P: BitArray, const PRECISION: usize> EncoderModels<P, PRECISION> for We
         if count <= 1 {
             let row = Row::of_total(self.weights);
             return Some(WeightsList {
-                models: One {
-                    model: TableOrRow {
-                        model: WeightsModel::Rows(row),
-                    },
-                    count,
-                    place: 0,
+                model: TableOrRow {
+                    model: WeightsModel::Rows(row),
                 },
+                count,
             });
         }
         match table_by(alloc, self.weights, divides) {
             Some(table) => Some(WeightsList {
-                models: One {
-                    model: TableOrRow {
-                        model: WeightsModel::Table(table),
-                    },
-                    count,
-                    place: 0,
+                model: TableOrRow {
+                    model: WeightsModel::Table(table),
                 },
+                count,
             }),
             None => None,
         }
@@ -101,9 +95,6 @@ impl<'a, P: BitArray, const PRECISION: usize> EncoderModels<P, PRECISION> for We
 }
 
 /// The models that [`Weights`] makes for encoding: one table of weights, or one row, for all symbols.
-///
-/// A proof about a call with this list mentions this type, and none of the types that the list is made of, which makes
-/// the proof several times shorter.
 ///
 /// # Examples
 ///
@@ -115,27 +106,29 @@ impl<'a, P: BitArray, const PRECISION: usize> EncoderModels<P, PRECISION> for We
 /// ```
 #[derive(Drop)]
 pub struct WeightsList<'a, P: BitArray, const PRECISION: usize> {
-    models: One<TableOrRow<'a, P, PRECISION>>,
+    model: TableOrRow<'a, P, PRECISION>,
+    count: usize,
 }
 
 impl<'a, P: BitArray, const PRECISION: usize> ModelList<P, PRECISION>
     for WeightsList<'a, P, PRECISION> {
     const LOOKS_AHEAD: bool = false;
 
-    ghost tables = { λ list. ⟦<One<TableOrRow<'a, P, PRECISION>> as ModelList<P, PRECISION>>⟧.tables list.models };
+    ghost tables = { λ list. replicate list.count
+        (⟦<TableOrRow<'a, P, PRECISION> as EntropyModel<PRECISION>>⟧.table list.model) };
 
     #[inline]
     fn count(&self) -> usize {
-        ModelList::<P, PRECISION>::count(&self.models)
+        self.count
     }
 
     #[inline(always)]
     fn interval(
         &mut self,
-        place: usize,
+        _place: usize,
         symbol: usize,
     ) -> Option<(P, <P as BitArray>::NonZero, Option<Reciprocal>)> {
-        match self.models.interval(place, symbol) {
+        match entry_of::<P, _, PRECISION>(&self.model, symbol) {
             Some(found) => Some(found),
             None => None,
         }
@@ -145,15 +138,15 @@ impl<'a, P: BitArray, const PRECISION: usize> ModelList<P, PRECISION>
 impl<'a, P: BitArray, const PRECISION: usize> DecoderModels<P, PRECISION> for Weights<'a, P> {
     type Symbol = usize;
 
-    type DecoderList = One<TableOrRows<'a, P, PRECISION>>;
+    type DecoderList = WeightsDecoderList<'a, P, PRECISION>;
 
     fn decoder_list(
         &self,
         alloc: Global,
         count: usize,
-    ) -> Option<One<TableOrRows<'a, P, PRECISION>>> {
+    ) -> Option<WeightsDecoderList<'a, P, PRECISION>> {
         match decoder_by(alloc, self.weights, count) {
-            Some(model) => Some(One {
+            Some(model) => Some(WeightsDecoderList {
                 model,
                 count,
                 place: 0,
@@ -163,6 +156,44 @@ impl<'a, P: BitArray, const PRECISION: usize> DecoderModels<P, PRECISION> for We
     }
 
     ghost kept_law = { λ given ns fit known. refl };
+}
+
+/// The models that [`Weights`] makes for decoding: one model for all symbols.
+///
+/// # Examples
+///
+/// ```
+/// let weights = Weights { weights: &[255u8, 1] };
+/// if let Some(mut list) = DecoderModels::<u8, 8>::decoder_list(&weights, alloc, 2) {
+///     DecoderModelList::<u8, 8>::select(&mut list, 1);
+///     DecoderModelList::<u8, 8>::model(&list).quantile_function(255) // (1, 255, 1)
+/// }
+/// ```
+#[derive(Drop)]
+pub struct WeightsDecoderList<'a, P: BitArray, const PRECISION: usize> {
+    model: TableOrRows<'a, P, PRECISION>,
+    count: usize,
+    place: usize,
+}
+
+impl<'a, P: BitArray, const PRECISION: usize> DecoderModelList<P, PRECISION>
+    for WeightsDecoderList<'a, P, PRECISION> {
+    type Model = TableOrRows<'a, P, PRECISION>;
+
+    ghost tables = { λ list. replicate list.count
+        (⟦<TableOrRows<'a, P, PRECISION> as EntropyModel<PRECISION>>⟧.table list.model) };
+
+    ghost turned_to = { λ list. list.place };
+
+    #[inline]
+    fn select(&mut self, place: usize) {
+        self.place = place;
+    }
+
+    #[inline]
+    fn model(&self) -> &TableOrRows<'a, P, PRECISION> {
+        &self.model
+    }
 }
 
 /// Returns the model of the symbols `0`, `1`, .. with the weights `weights`, for decoding `count` symbols.
