@@ -96,10 +96,7 @@ impl<'a, P: WordOf<u32>, const PRECISION: usize> Models<P, PRECISION> for Mixtur
         if self.components.locations.len() != self.weights.len() {
             return Err(Refusal::WrongLength);
         }
-        match self.components.quantizer::<P, PRECISION>() {
-            Ok(_) => {}
-            Err(refusal) => return Err(refusal),
-        }
+        self.components.quantizer::<P, PRECISION>()?;
         if self.width == 0 || !are_mixable(self.weights, self.width, count) {
             return Err(Refusal::WrongWeights);
         }

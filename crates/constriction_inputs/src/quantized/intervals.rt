@@ -48,10 +48,7 @@ pub fn intervals_of_quantized<P: WordOf<u32>, const PRECISION: usize>(
     if families.locations.len() != symbols.len() {
         return Err(Refusal::WrongLength);
     }
-    let (family, quantizer) = match families.quantizer::<P, PRECISION>() {
-        Ok(made) => made,
-        Err(refusal) => return Err(refusal),
-    };
+    let (family, quantizer) = families.quantizer::<P, PRECISION>()?;
     if !EncoderModels::<P, PRECISION>::know::<usize>(families, symbols) {
         return Err(Refusal::ImpossibleSymbol);
     }

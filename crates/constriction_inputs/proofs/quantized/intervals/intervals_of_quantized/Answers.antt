@@ -10,7 +10,7 @@ use Rattle.constriction_inputs.proofs.quantized.intervals.intervals_of_quantized
 pub put_intervals-requires : goal.put_intervals-requires
 put_intervals-requires g c =
     let f = c.args.families.now in
-    let right = three_ok c.in-Ok.ensures.asks in
+    let right = three_ok c.in_ok-family.ensures.asks in
     let many : length f.locations.now ≡ length c.args.symbols.now = omega (arith, c.if-families-symbols.false) in
     let known : AreKnown (family_items g.row.PRECISION (record { family = f.family; min = f.min; max = f.max; locations = f.locations.now; scales = f.scales.now }) c.args.symbols.now) = c.if-not-know.ensures.0 refl in
     let places = known_places g.row.PRECISION (λ (at : ℤ × ℕ). below_by (family_of f.family) at.0 at.1) f.min (symbols_in f.min f.max) (zip f.locations.now f.scales.now) c.args.symbols.now
@@ -20,7 +20,7 @@ put_intervals-requires g c =
         (many, sym right.0 ∙ many),
         (
           (omega (arith, c.if-lefts-symbols.false), omega (arith, c.if-ps-symbols.false)),
-          (right.2.1, subst (λ (n : ℕ). AllByRecursion (λ (symbol : ℕ). symbol < n) c.args.symbols.now) (sym c.in-Ok.ensures.count) places),
+          (right.2.1, subst (λ (n : ℕ). AllByRecursion (λ (symbol : ℕ). symbol < n) c.args.symbols.now) (sym c.in_ok-family.ensures.count) places),
         ),
       ),
     )
@@ -29,10 +29,10 @@ pub returns : goal.returns
 returns g c =
     let f = c.args.families.now in
     let by : ByFamily = record { family = f.family; min = f.min; max = f.max; locations = f.locations.now; scales = f.scales.now } in
-    let right = three_ok c.in-Ok.ensures.asks in
+    let right = three_ok c.in_ok-family.ensures.asks in
     let many : length f.locations.now ≡ length c.args.symbols.now = omega (arith, c.if-families-symbols.false) in
     let known : AreKnown (family_items g.row.PRECISION by c.args.symbols.now) = c.if-not-know.ensures.0 refl in
-    let e = c.in-Ok.ensures in
+    let e = c.in_ok-family.ensures in
     record {
       call = record {
         intervals = rw (e.family, ← e.count, ← e.first) c.put_intervals.ensures;
