@@ -152,7 +152,7 @@ impl Mixture {
         ensures hides { IsNormalized 32 64 coder.old.state
             → OnOk result (Trace (Hides self.now) symbols.now coder.old.state coder.new.state) }
     {
-        'symbols: for symbol in symbols {
+        for symbol in symbols {
             self.hide(coder, *symbol)?;
         }
         Ok(())
@@ -167,7 +167,7 @@ impl Mixture {
             → IfOk result (λ symbols. (symbols.items ≡ reverse hidden) × (coder.new.state ≡ before)) }
     {
         let mut symbols = Vec::new(alloc);
-        'symbols: for _ in 0..count {
+        for _ in 0..count {
             symbols.push(self.reveal(coder)?)?;
         }
         Ok(symbols)

@@ -56,7 +56,7 @@ where
 {
     let symbol = coder.decode_symbol(first).ok().context("no symbol")?;
     let mut rest = Vec::new(alloc);
-    'later: for table in later {
+    for table in later {
         rest.push(coder.decode_symbol(table).ok().context("no symbol")?)?;
     }
     Ok((symbol, rest))
@@ -115,7 +115,7 @@ fn show_chain(
 /// Makes the tables of the symbols after the first: 16 symbols of equal weights.
 fn later_tables(alloc: Global) -> Result<Vec<Table>> {
     let mut later = Vec::new(alloc);
-    'later: for _ in 0..LATER {
+    for _ in 0..LATER {
         later.push(new_table(alloc, &[256; 16])?)?;
     }
     Ok(later)

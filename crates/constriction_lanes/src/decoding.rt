@@ -130,7 +130,7 @@ fn decode_rows<
     ensures decoded { DecodesRows Word.number State.number Word.BITS State.BITS PRECISION (L.tables models.old) width
         count words.now heads.old lens.old heads.new lens.new symbols.new (length heads.old) }
 {
-    'rows: for j in 0..heads.len() {
+    for j in 0..heads.len() {
         let (head, left) = decode_row::<_, _, P, L, PRECISION>(
             heads[j],
             &words[j * width..j * width + width],

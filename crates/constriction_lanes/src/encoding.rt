@@ -137,7 +137,7 @@ fn encode_rows<
     ensures { OnTrue result (CodesRows Word.number State.number Word.BITS State.BITS (L.list_items list.old) count
         heads.old heads.new words.new lens.new (length heads.old)) }
 {
-    'rows: for j in 0..heads.len() {
+    for j in 0..heads.len() {
         let Some(made) = encode_row::<_, _, P, L, PRECISION>(
             heads[j],
             &mut words[j * count..j * count + count],
@@ -179,7 +179,7 @@ fn encode_row<
 {
     let (mut top, mut len) = (head, 0);
     let mut rest = row.len();
-    'items: while rest > 0 {
+    while rest > 0 {
         let found = list.interval(first + rest - 1)?;
         let (left, p, reciprocal) = found;
         let (next, more) = encode_interval::<Word, State, P, PRECISION>(
@@ -310,7 +310,7 @@ fn append_rows<Word: BitArray>(
         (length lens.old) }
     ensures lengths { (length words.new ≡ length words.old) × (length lens.new ≡ length lens.old) }
 {
-    'rows: for j in 0..lens.len() {
+    for j in 0..lens.len() {
         append(
             &added[j * count..j * count + counts[j]],
             &mut words[j * width..j * width + width],

@@ -170,7 +170,7 @@ fn encode_into<
 {
     let (mut top, mut len) = (head, 0);
     let mut rest = room.len();
-    'items: while rest > 0 {
+    while rest > 0 {
         let found = list.interval(rest - 1)?;
         let (left, p, reciprocal) = found;
         let (begin, length) = (left.widen().widen(), P::from_nonzero(p).widen().widen());
@@ -207,7 +207,7 @@ fn encode_ahead<
         return Some(coder.into_raw_parts());
     }
     let mut found = list.interval(rest - 1)?;
-    'items: while rest > 1 {
+    while rest > 1 {
         let next = list.interval(rest - 2)?;
         let (left, p, reciprocal) = found;
         match coder.encode_interval::<P, PRECISION>(left, p, reciprocal) {

@@ -55,6 +55,7 @@ pub struct DecoderParts<State> {
     pub point: State,
     pub pos: usize,
 }
+
 /// Creates an encoder over an empty backend from `parts`. The call needs no memory.
 ///
 /// The encoder can encode at least `count` symbols. Returns `None` in exactly two cases: no encoder can have the values

@@ -10,16 +10,16 @@ use Rattle.constriction_lanes.proofs.decoding.decode_rows.Goals as goal
 
 pub decode_row-head-requires-clause-within : goal.decode_row-head-requires-clause-within
 decode_row-head-requires-clause-within g c =
-    let l = c.rows in
-    let lt : l.j < length c.args.heads.now = omega (arith, c.rows-test.true) in
+    let l = c.loop-j in
+    let lt : l.j < length c.args.heads.now = omega (arith, c.loop-j-test.true) in
     let long = part_long c.args.words.now (l.j * c.args.width) c.args.width (row_within l.j (length c.args.heads.now) c.args.width (length c.args.words.now) lt c.requires.words) in
     let len = same_here l.j l.lens c.args.lens.now 0 l.invariant.lens_left in
     let below = c.requires.within l.j (omega (arith, lt, c.requires.lens)) in
     omega (arith, long, len, below)
 
-pub rows-preserved : goal.rows-preserved
-rows-preserved g c =
-    let l = c.rows in
+pub loop-j-preserved : goal.loop-j-preserved
+loop-j-preserved g c =
+    let l = c.loop-j in
     let w = g.Word.Natural.BITS in
     let s = g.State.Natural.BITS in
     let number = g.Word.Natural.number in
@@ -30,7 +30,7 @@ rows-preserved g c =
     let heads = c.args.heads.now in
     let lens = c.args.lens.now in
     let words = c.args.words.now in
-    let lt : l.j < length heads = omega (arith, c.rows-test.true) in
+    let lt : l.j < length heads = omega (arith, c.loop-j-test.true) in
     let e : l.j * width + width - l.j * width ≡ width = omega arith in
     let inside = row_within l.j (length heads) count (length c.args.symbols.now) lt c.requires.symbols in
     let within : l.j * count + count ≤ length l.symbols = omega (arith, inside, l.invariant.symbols_count) in
@@ -55,5 +55,5 @@ rows-preserved g c =
 
 pub returns : goal.returns
 returns g c = record {
-  decoded = λ k lt d. c.rows.invariant.done k (omega (arith, lt, c.rows-test.false)) d;
+  decoded = λ k lt d. c.loop-j.invariant.done k (omega (arith, lt, c.loop-j-test.false)) d;
 }

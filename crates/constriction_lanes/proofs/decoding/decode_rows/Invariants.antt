@@ -2,8 +2,8 @@ use Rattle.std.proofs.Common.{◌≡◌, drop, length}
 use Rattle.constriction_lanes.specs.LaneCalls.{DecodesRows}
 use Rattle.constriction_lanes.proofs.decoding.decode_rows.Given as goal
 
-abbrev pub invariant-rows : goal.invariant-rows
-invariant-rows g l = record {
+abbrev pub invariant-loop-j : goal.invariant-loop-j
+invariant-loop-j g l = record {
   done : DecodesRows g.Word.Natural.number g.State.Natural.number g.Word.Natural.BITS g.State.Natural.BITS g.row.PRECISION (g.L.DecoderModelList.tables l.fn.models) l.width l.count l.words
       l.fn.heads l.fn.lens l.heads l.lens l.symbols l.j;
   heads_left : drop l.j l.heads ≡ drop l.j l.fn.heads;

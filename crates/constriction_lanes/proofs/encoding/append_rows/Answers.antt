@@ -14,10 +14,10 @@ ok_else (Err e) fails never = absurd (never fails)
 
 pub append-requires : goal.append-requires
 append-requires g c =
-    let l = c.rows in
+    let l = c.loop-j in
     let lens = c.args.lens.now in
     let width = c.args.width in
-    let lt : l.j < length lens = omega (arith, c.rows-test.true) in
+    let lt : l.j < length lens = omega (arith, c.loop-j-test.true) in
     let inside = row_within l.j (length lens) width (length c.args.words.now) lt c.requires.words in
     let words = part_long l.words (l.j * width) width (omega (arith, inside, l.invariant.words_count)) in
     let left = same_here l.j l.lens lens 0 l.invariant.lens_left in
@@ -26,12 +26,12 @@ append-requires g c =
 
 pub unwrap-requires : goal.unwrap-requires
 unwrap-requires g c =
-    let l = c.rows in
+    let l = c.loop-j in
     let lens = c.args.lens.now in
     let counts = c.args.counts.now in
     let width = c.args.width in
     let count = c.args.count in
-    let lt : l.j < length lens = omega (arith, c.rows-test.true) in
+    let lt : l.j < length lens = omega (arith, c.loop-j-test.true) in
     let inside = row_within l.j (length lens) width (length c.args.words.now) lt c.requires.words in
     let words = part_long l.words (l.j * width) width (omega (arith, inside, l.invariant.words_count)) in
     let few = c.requires.few l.j lt in
@@ -41,15 +41,15 @@ unwrap-requires g c =
     let room = c.requires.room l.j lt in
     ok_else c.append.result c.append.ensures.full (λ less. omega (arith, less, words, added, left, room))
 
-pub rows-preserved : goal.rows-preserved
-rows-preserved g c =
-    let l = c.rows in
+pub loop-j-preserved : goal.loop-j-preserved
+loop-j-preserved g c =
+    let l = c.loop-j in
     let lens = c.args.lens.now in
     let counts = c.args.counts.now in
     let words = c.args.words.now in
     let width = c.args.width in
     let count = c.args.count in
-    let lt : l.j < length lens = omega (arith, c.rows-test.true) in
+    let lt : l.j < length lens = omega (arith, c.loop-j-test.true) in
     let inside = row_within l.j (length lens) width (length words) lt c.requires.words in
     let within : l.j * width + width ≤ length l.words = omega (arith, inside, l.invariant.words_count) in
     let call = c.append in

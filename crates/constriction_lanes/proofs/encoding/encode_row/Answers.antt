@@ -5,8 +5,8 @@ use Rattle.constriction_calls.proofs.AnsPlaces.{codes_more}
 use Rattle.constriction_lanes.proofs.RowItems.{at_row}
 use Rattle.constriction_lanes.proofs.encoding.encode_row.Goals as goal
 
-pub items-init : goal.items-init
-items-init g c =
+pub loop-rest-init : goal.loop-rest-init
+loop-rest-init g c =
     let all = g.L.ItemList.list_items c.args.list.now in
     let count = length c.args.row.now in
     let items = take count (drop c.args.first all) in
@@ -26,34 +26,34 @@ pub encode_interval-next-requires-clause-step : goal.encode_interval-next-requir
 encode_interval-next-requires-clause-step g c =
     let all = g.L.ItemList.list_items c.args.list.now in
     let count = length c.args.row.now in
-    let kept = c.items.invariant in
-    let at = at_row all c.args.first count c.items.rest _ c.items-test.true kept.within (rw kept.same at c.in_ok-found.ensures.found) in
-    is_step g.Word.Natural.BITS g.row.PRECISION g.P.Natural.BITS g.met.P.WordOf.width_law (take count (drop c.args.first all)) c.items.rest c.items-test.true _ _ at
+    let kept = c.loop-rest.invariant in
+    let at = at_row all c.args.first count c.loop-rest.rest _ c.loop-rest-test.true kept.within (rw kept.same at c.in_ok-found.ensures.found) in
+    is_step g.Word.Natural.BITS g.row.PRECISION g.P.Natural.BITS g.met.P.WordOf.width_law (take count (drop c.args.first all)) c.loop-rest.rest c.loop-rest-test.true _ _ at
 
-pub items-preserved : goal.items-preserved
-items-preserved g c =
+pub loop-rest-preserved : goal.loop-rest-preserved
+loop-rest-preserved g c =
     let w = g.Word.Natural.BITS in
     let all = g.L.ItemList.list_items c.args.list.now in
     let count = length c.args.row.now in
     let items = take count (drop c.args.first all) in
-    let kept = c.items.invariant in
+    let kept = c.loop-rest.invariant in
     let call = c.encode_interval-next in
     let pushed = call.ensures.encoded kept.valid in
-    let at = at_row all c.args.first count c.items.rest _ c.items-test.true kept.within (rw kept.same at c.in_ok-found.ensures.found) in
+    let at = at_row all c.args.first count c.loop-rest.rest _ c.loop-rest-test.true kept.within (rw kept.same at c.in_ok-found.ensures.found) in
     record {
       same = c.in_ok-found.ensures.items ∙ kept.same;
       within = omega (arith, kept.within);
-      room = omega (arith, kept.room, call.ensures.more.1, c.items-test.true);
+      room = omega (arith, kept.room, call.ensures.more.1, c.loop-rest-test.true);
       long = call.auto.words ∙ kept.long;
       valid = pushed.valid;
-      models = models_more w g.row.PRECISION g.P.Natural.BITS g.met.P.WordOf.width_law items c.items.rest c.items-test.true _ _ at kept.models;
-      coded = codes_more w g.State.Natural.BITS g.row.PRECISION g.P.Natural.BITS items c.items.rest c.items-test.true _ _ at _ _ _ kept.coded pushed;
+      models = models_more w g.row.PRECISION g.P.Natural.BITS g.met.P.WordOf.width_law items c.loop-rest.rest c.loop-rest-test.true _ _ at kept.models;
+      coded = codes_more w g.State.Natural.BITS g.row.PRECISION g.P.Natural.BITS items c.loop-rest.rest c.loop-rest-test.true _ _ at _ _ _ kept.coded pushed;
     }
 
 pub returns-clause-coded : goal.returns-clause-coded
 returns-clause-coded g c =
-    let kept = c.items.invariant in
-    let zero : c.items.rest ≡ 0 = omega (arith, c.items-test.false) in
+    let kept = c.loop-rest.invariant in
+    let zero : c.loop-rest.rest ≡ 0 = omega (arith, c.loop-rest-test.false) in
     record {
       models = rw zero at kept.models;
       coded = rw zero at kept.coded;

@@ -8,10 +8,10 @@ use Rattle.constriction_lanes.proofs.encoding.encode_rows.Goals as goal
 
 pub encode_row-requires-clause-items : goal.encode_row-requires-clause-items
 encode_row-requires-clause-items g c =
-    let l = c.rows in
+    let l = c.loop-j in
     let count = c.args.count in
     let all = g.L.ItemList.list_items c.args.list.now in
-    let lt : l.j < length c.args.heads.now = omega (arith, c.rows-test.true) in
+    let lt : l.j < length c.args.heads.now = omega (arith, c.loop-j-test.true) in
     let inside = row_within l.j (length c.args.heads.now) count (length all) lt c.requires.items in
     let here = row_within l.j (length c.args.heads.now) count (length c.args.words.now) lt c.requires.words in
     let long = part_long l.words (l.j * count) count (omega (arith, here, l.invariant.words_count)) in
@@ -19,20 +19,20 @@ encode_row-requires-clause-items g c =
 
 pub encode_row-requires-clause-fits : goal.encode_row-requires-clause-fits
 encode_row-requires-clause-fits g c =
-    let l = c.rows in
+    let l = c.loop-j in
     let count = c.args.count in
-    let lt : l.j < length c.args.heads.now = omega (arith, c.rows-test.true) in
+    let lt : l.j < length c.args.heads.now = omega (arith, c.loop-j-test.true) in
     let here = row_within l.j (length c.args.heads.now) count (length c.args.words.now) lt c.requires.words in
     let long = part_long l.words (l.j * count) count (omega (arith, here, l.invariant.words_count)) in
     omega (arith, here, long)
 
-pub rows-preserved : goal.rows-preserved
-rows-preserved g c =
-    let l = c.rows in
+pub loop-j-preserved : goal.loop-j-preserved
+loop-j-preserved g c =
+    let l = c.loop-j in
     let count = c.args.count in
     let all = g.L.ItemList.list_items c.args.list.now in
     let heads = c.args.heads.now in
-    let lt : l.j < length heads = omega (arith, c.rows-test.true) in
+    let lt : l.j < length heads = omega (arith, c.loop-j-test.true) in
     let inside = row_within l.j (length heads) count (length c.args.words.now) lt c.requires.words in
     let within : l.j * count + count ≤ length l.words = omega (arith, inside, l.invariant.words_count) in
     let call = c.encode_row in
@@ -52,4 +52,4 @@ rows-preserved g c =
     }
 
 pub returns : goal.returns
-returns g c = λ k lt d. c.rows.invariant.done k (omega (arith, lt, c.rows-test.false)) d
+returns g c = λ k lt d. c.loop-j.invariant.done k (omega (arith, lt, c.loop-j-test.false)) d

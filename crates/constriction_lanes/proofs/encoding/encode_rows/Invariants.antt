@@ -2,8 +2,8 @@ use Rattle.std.proofs.Common.{◌≡◌, drop, length}
 use Rattle.constriction_lanes.specs.LaneCalls.{CodesRows}
 use Rattle.constriction_lanes.proofs.encoding.encode_rows.Given as goal
 
-abbrev pub invariant-rows : goal.invariant-rows
-invariant-rows g l = record {
+abbrev pub invariant-loop-j : goal.invariant-loop-j
+invariant-loop-j g l = record {
   done : CodesRows g.Word.Natural.number g.State.Natural.number g.Word.Natural.BITS g.State.Natural.BITS (g.L.ItemList.list_items l.fn.list) l.count l.fn.heads l.heads l.words l.lens l.j;
   heads_left : drop l.j l.heads ≡ drop l.j l.fn.heads;
   heads_count : length l.heads ≡ length l.fn.heads;

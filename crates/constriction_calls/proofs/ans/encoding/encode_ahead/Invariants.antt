@@ -7,8 +7,8 @@ use Rattle.constriction_words.specs.Reciprocals.{IsReciprocalOf}
 use Rattle.constriction_inputs.specs.Items.{HasAt, HasInterval}
 use Rattle.constriction_calls.proofs.ans.encoding.encode_ahead.Given as goal
 
-abbrev pub invariant-items : goal.invariant-items
-invariant-items g l =
+abbrev pub invariant-loop-rest : goal.invariant-loop-rest
+invariant-loop-rest g l =
     let items = g.L.ItemList.list_items l.fn.list in
     record {
       same : g.L.ItemList.list_items l.list ≡ items;
@@ -21,5 +21,5 @@ invariant-items g l =
       reciprocal : IfSome l.found.2 (λ r. IsReciprocalOf r (g.P.BitArray.nonzero_number l.found.1));
     }
 
-abbrev pub decreases-items : goal.decreases-items
-decreases-items g l = l.rest
+abbrev pub decreases-loop-rest : goal.decreases-loop-rest
+decreases-loop-rest g l = l.rest

@@ -6,8 +6,8 @@ use Rattle.constriction_stack.specs.Lanes.{lane}
 use Rattle.constriction_stack.specs.Symbols.{EncodesAll}
 use Rattle.constriction_calls.proofs.ans.encoding.encode_into.Given as goal
 
-abbrev pub invariant-items : goal.invariant-items
-invariant-items g l =
+abbrev pub invariant-loop-rest : goal.invariant-loop-rest
+invariant-loop-rest g l =
     let w = g.Word.Natural.BITS in
     let s = g.State.Natural.BITS in
     let items = g.L.ItemList.list_items l.fn.list in
@@ -21,5 +21,5 @@ invariant-items g l =
       coded : EncodesAll w s (reverse (drop l.rest items)) (record { head = g.State.Natural.number l.fn.head; words = [] }) (lane g.Word.Natural.number g.State.Natural.number l.top l.room l.len);
     }
 
-abbrev pub decreases-items : goal.decreases-items
-decreases-items g l = l.rest
+abbrev pub decreases-loop-rest : goal.decreases-loop-rest
+decreases-loop-rest g l = l.rest
