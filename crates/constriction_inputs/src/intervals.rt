@@ -104,11 +104,15 @@ fn is_interval<P: BitArray, const PRECISION: usize>(left: P, p: P) -> bool
     requires { (1 ≤ PRECISION) × (PRECISION ≤ P.BITS) }
     ensures { IsTrue result ↔ IsIntervalWithin PRECISION (P.number left) (P.number p) }
 {
-    let last = ones::<P>(PRECISION);
-    if p.is_nothing() || last.is_below(left) {
+    if p.is_nothing() {
         return false;
     }
-    !last.minus(left).is_below(p.minus(P::unit()))
+    let last = ones::<P>(PRECISION);
+    let behind = p.minus(P::unit());
+    if last.is_below(behind) {
+        return false;
+    }
+    !last.minus(behind).is_below(left)
 }
 
 /// Returns whether no interval `[lefts[i], lefts[i] + ps[i])` is empty or ends past `2 ^ PRECISION`.
