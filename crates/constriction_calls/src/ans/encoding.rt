@@ -72,7 +72,8 @@ pub fn encode_reverse<
 /// Encodes items from the last to the first, onto a state of `head` and no words.
 ///
 /// Returns the words that the encodes write, and the new head. Returns `None` if a model has no entry for its symbol,
-/// or if there is no memory.
+/// or if there is no memory. An item writes at most one word. So a call that doesn't look ahead asks for memory for one
+/// word for each item, once.
 #[inline]
 fn encode_items<
     Word: WordOf<State>,
@@ -86,10 +87,16 @@ fn encode_items<
         (L.list_items list.old) head made.0.items made.1) }
 {
     if L::LOOKS_AHEAD {
-        encode_ahead::<Word, State, P, L, PRECISION>(alloc, head, list)
-    } else {
-        encode_in_order::<Word, State, P, L, PRECISION>(alloc, head, list)
+        return encode_ahead::<Word, State, P, L, PRECISION>(alloc, head, list);
     }
+    let Ok(mut words) = vec![in alloc; Word::nothing(); list.count()] else {
+        return None;
+    };
+    let room = words.as_mut_slice();
+    let made = encode_into::<Word, State, P, L, PRECISION>(head, room, list)?;
+    let (new_head, len) = made;
+    words.truncate(len);
+    Some((words, new_head))
 }
 
 /// Encodes a single item onto a state of `head` and no words, with `room` for the word that the encode may write.
@@ -122,30 +129,6 @@ fn encode_single_item<
     );
     *head = new_head;
     Some(&room[..count])
-}
-
-/// Encodes as [`encode_items`] does, and finds the interval of an item right before its step.
-///
-/// An item writes at most one word. So the call asks for memory for one word for each item, once.
-fn encode_in_order<
-    Word: WordOf<State>,
-    State: BitArray,
-    P: WordOf<Word>,
-    L: ItemList<P, PRECISION>,
-    const PRECISION: usize,
->(alloc: Global, head: State, list: &mut L) -> Option<(Vec<Word>, State)>
-    requires { IsSizes Word.BITS State.BITS }
-    ensures { IfSome result (λ made. CodesAlone Word.number State.number Word.BITS State.BITS
-        (L.list_items list.old) head made.0.items made.1) }
-{
-    let Ok(mut words) = vec![in alloc; Word::nothing(); list.count()] else {
-        return None;
-    };
-    let room = words.as_mut_slice();
-    let made = encode_into::<Word, State, P, L, PRECISION>(head, room, list)?;
-    let (new_head, len) = made;
-    words.truncate(len);
-    Some((words, new_head))
 }
 
 /// Encodes all items of `list` from the last to the first, onto the head `head` and no words.

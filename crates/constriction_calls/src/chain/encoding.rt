@@ -1,10 +1,11 @@
 //! Encoding items into compressed words.
 
-ghost use Rattle.std.specs.Prelude.{◌≡◌, ◌⊎◌, ◌+◌, ◌<◌, ◌≤◌, ℕ, List, length, map, reverse, IfErr, IfSome, OnErr, OnOk};
+ghost use Rattle.std.specs.Prelude.{◌≡◌, ◌⊎◌, ◌+◌, ◌<◌, ◌≤◌, ℕ, List, length, map, reverse};
+ghost use Rattle.std.specs.Prelude.{IfErr, IfSome, IsTrue, OnErr, OnOk};
 ghost use Rattle.constriction_base.specs.Steps.{IsStep};
 ghost use Rattle.constriction_chain.specs.Chain.{ChainState, IsSized};
 ghost use Rattle.constriction_inputs.specs.Buffers.{Appended};
-ghost use Rattle.constriction_calls.specs.ChainCalls.{AreHeadsOf, ChainEncodesListBy, chain_buffers};
+ghost use Rattle.constriction_calls.specs.ChainCalls.{AreHeadsOf, AreInUse, ChainEncodesListBy, chain_buffers};
 ghost use Rattle.constriction_chain.specs.Fits.{CoderFits};
 ghost use Rattle.constriction_calls.specs.ChainItems.{ChainEncodesItems, PutsItem, PutsBackItems, PutsStep};
 ghost use Rattle.constriction_inputs.specs.declared.refusal.Refusal.TheVariants as refusals;
@@ -112,46 +113,41 @@ fn encode_list<
 ) -> Result<(), Refusal>
     requires fits { CoderFits Word.row State.row }
     requires heads { both ≡ (heads.now.compressed, heads.now.remainders) }
-    requires compressed { len.now ≤ length compressed.now }
-    requires remainders { rest.now ≤ length remainders.now }
+    requires within { AreInUse (chain_buffers heads.now compressed.now len.now remainders.now rest.now) }
     ensures { ChainEncodesItems Word.number State.number Word.BITS State.BITS (L.list_items list.old)
         (chain_buffers heads.old compressed.old len.old remainders.now rest.old)
         (chain_buffers heads.new compressed.new len.new remainders.now rest.new) result }
 {
-    let is_single = list.count() == 1;
-    let count = if is_single { 0 } else { list.count() };
-    let Ok(mut many) = vec![in alloc; Word::nothing(); count] else {
+    if list.count() == 1 {
+        let mut room = [Word::nothing()];
+        return encode_within::<Word, State, P, L, PRECISION, true>(
+            &mut room, both, heads, compressed, len, remainders, rest, list,
+        );
+    }
+    let Ok(mut room) = vec![in alloc; Word::nothing(); list.count()] else {
         return Err(Refusal::NoMemory);
     };
-    let mut single = [Word::nothing()];
-    let room = room_of(is_single, &mut single, &mut many);
-    encode_within::<Word, State, P, L, PRECISION>(
-        room, both, heads, compressed, len, remainders, rest, list,
+    encode_within::<Word, State, P, L, PRECISION, false>(
+        &mut room, both, heads, compressed, len, remainders, rest, list,
     )
-}
-
-/// Returns the buffer for the new words of a single item, or of many.
-#[inline(always)]
-fn room_of<'a, Word>(
-    is_single: bool,
-    single: &'a mut [Word],
-    many: &'a mut [Word],
-) -> &'a mut [Word] {
-    if is_single { single } else { many }
 }
 
 /// Encodes items as [`encode_list`] does, and collects the new words in the buffer `room`.
 ///
+/// `SINGLE` tells the compiler that there is a single item. It then makes a function without a loop, which keeps the
+/// coder in registers.
+///
 /// # Errors
 ///
 /// The call returns the errors of [`encode_list`]. It also returns `NoMemory` if `room` is too short for the new words.
-#[inline]
+#[inline(always)]
 fn encode_within<
     Word: WordOf<State>,
     State: BitArray,
     P: WordOf<Word>,
     L: ItemList<P, PRECISION>,
     const PRECISION: usize,
+    const SINGLE: bool,
 >(
     room: &mut [Word],
     both: ChainCoderHeads<Word, State, PRECISION>,
@@ -164,15 +160,15 @@ fn encode_within<
 ) -> Result<(), Refusal>
     requires fits { CoderFits Word.row State.row }
     requires heads { both ≡ (heads.now.compressed, heads.now.remainders) }
-    requires compressed { len.now ≤ length compressed.now }
-    requires remainders { rest.now ≤ length remainders.now }
+    requires within { AreInUse (chain_buffers heads.now compressed.now len.now remainders.now rest.now) }
+    requires one { IsTrue SINGLE → length (L.list_items list.now) ≡ 1 }
     ensures { ChainEncodesItems Word.number State.number Word.BITS State.BITS (L.list_items list.old)
         (chain_buffers heads.old compressed.old len.old remainders.now rest.old)
         (chain_buffers heads.new compressed.new len.new remainders.now rest.new) result }
 {
     let lent = Cursor::new_at_write_end(&remainders[..*rest]);
     let mut coder = ChainCoder::from_raw_parts(Cursor::new_at_write_beginning(room), lent, both);
-    match encode_list_items::<P, Putting<'_, Word, State, PRECISION>, L, PRECISION>(
+    match encode_list_items::<P, Putting<'_, Word, State, PRECISION>, L, PRECISION, SINGLE>(
         &mut coder, list,
     ) {
         Ok(()) => {}
@@ -184,24 +180,26 @@ fn encode_within<
     }
 }
 
-/// Encodes items with `coder` from the last to the first.
+/// Encodes items with `coder` from the last to the first. If `SINGLE` is true, there is a single item.
 ///
 /// # Errors
 ///
 /// - `ImpossibleSymbol`: a model has no entry for its symbol.
 /// - `OutOfData`: the coder needs a word of remainders, and no word is left.
 /// - `NoMemory`: the coder's buffer for new words is full.
-#[inline]
+#[inline(always)]
 fn encode_list_items<
     P: BitArray,
     C: Put<P, PRECISION>,
     L: ItemList<P, PRECISION>,
     const PRECISION: usize,
+    const SINGLE: bool,
 >(coder: &mut C, list: &mut L) -> Result<(), Refusal>
+    requires { IsTrue SINGLE → length (L.list_items list.now) ≡ 1 }
     ensures { PutsBackItems C.word_bits C.state_bits (L.list_items list.old)
         (C.chain coder.old) (C.chain coder.new) result }
 {
-    if list.count() == 1 {
+    if SINGLE {
         encode_item::<P, C, L, PRECISION>(coder, list, 0)
     } else {
         encode_many::<P, C, L, PRECISION>(coder, list)

@@ -20,7 +20,7 @@ returns-in-Err g c =
     let symbols = g.G.Symbol.Symbol.numbers c.args.symbols.now in
     let right = c.in-Some.ensures.variant.0 refl in
     let is : c.from_raw_parts-coder.result.state ≡ state (number c.args.heads.now.compressed) (g.State.Natural.number c.args.heads.now.remainders) (stack_in number c.args.compressed.now c.args.len.now) []
-    = ap (λ coder. coder.state) c.from_raw_parts-coder.ensures.value ∙ rw (c.in-Some.ensures.value, c.new_at_write_end-lent.ensures, c.new-2.ensures.items, take-length (take c.args.len.now c.args.compressed.now)) refl in
+    = rw (c.from_raw_parts-coder.ensures.value, c.in-Some.ensures.value, c.new_at_write_end-lent.ensures, c.new-2.ensures.items, take-length (take c.args.len.now c.args.compressed.now)) refl in
     record {
       call = takes_stopped number g.State.Natural.number g.Word.Natural.BITS g.State.Natural.BITS g.row.PRECISION old within coded symbols (fit_ok g.row.PRECISION (coded symbols) c.in_ok-check_for.ensures.asks)
           (record { some = right.0; window = right.1 }) (length c.args.symbols.now) (sym (g.G.Symbol.Symbol.count_law c.args.symbols.now)) old refl c.in-Err.refusal (of_data _ _ _ c.in-Err.ensures.err
@@ -36,7 +36,7 @@ returns-in-Err-finish_decoding g c =
     let symbols = g.G.Symbol.Symbol.numbers c.args.symbols.now in
     let right = c.in-Some.ensures.variant.0 refl in
     let is : c.from_raw_parts-coder.result.state ≡ state (number c.args.heads.now.compressed) (g.State.Natural.number c.args.heads.now.remainders) (stack_in number c.args.compressed.now c.args.len.now) []
-    = ap (λ coder. coder.state) c.from_raw_parts-coder.ensures.value ∙ rw (c.in-Some.ensures.value, c.new_at_write_end-lent.ensures, c.new-2.ensures.items, take-length (take c.args.len.now c.args.compressed.now)) refl in
+    = rw (c.from_raw_parts-coder.ensures.value, c.in-Some.ensures.value, c.new_at_write_end-lent.ensures, c.new-2.ensures.items, take-length (take c.args.len.now c.args.compressed.now)) refl in
     let now = c.finish_decoding.new in
     let kept = c.in-Err-finish_decoding.ensures.kept in
     record {
@@ -56,7 +56,7 @@ returns g c =
     let symbols = g.G.Symbol.Symbol.numbers c.args.symbols.now in
     let right = c.in-Some.ensures.variant.0 refl in
     let is : c.from_raw_parts-coder.result.state ≡ state (number c.args.heads.now.compressed) (g.State.Natural.number c.args.heads.now.remainders) (stack_in number c.args.compressed.now c.args.len.now) []
-    = ap (λ coder. coder.state) c.from_raw_parts-coder.ensures.value ∙ rw (c.in-Some.ensures.value, c.new_at_write_end-lent.ensures, c.new-2.ensures.items, take-length (take c.args.len.now c.args.compressed.now)) refl in
+    = rw (c.from_raw_parts-coder.ensures.value, c.in-Some.ensures.value, c.new_at_write_end-lent.ensures, c.new-2.ensures.items, take-length (take c.args.len.now c.args.compressed.now)) refl in
     let e = c.in-Ok-finish_decoding.ensures in
     let now = c.finish_decoding.new in
     let again = c.in-Ok.again.items in
