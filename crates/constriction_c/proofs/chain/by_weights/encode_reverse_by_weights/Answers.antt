@@ -1,0 +1,4 @@
+use Rattle.constriction_c.proofs.chain.by_weights.encode_reverse_by_weights.Goals as goal
+
+pub returns : goal.returns
+returns g c = record { call = c.encode_reverse.ensures.call }

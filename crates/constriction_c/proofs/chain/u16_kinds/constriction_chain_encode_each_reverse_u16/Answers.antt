@@ -1,0 +1,7 @@
+-- Written by tools/sizes from Answers.antt.
+use Rattle.std.proofs.Common.{refl}
+use Rattle.constriction_c.proofs.Told.{chain_puts}
+use Rattle.constriction_c.proofs.chain.u16_kinds.constriction_chain_encode_each_reverse_u16.Goals as goal
+
+pub returns : goal.returns
+returns c = chain_puts c.code_of.result c.args.needed.now c.code_of.new.needed refl c.parts-both.ensures c.of.ensures c.code_of.ensures.code c.code_of.ensures.needed c.encode_reverse-answer.ensures.call

@@ -1,0 +1,7 @@
+-- Written by tools/sizes from Answers.antt.
+use Rattle.std.proofs.Common.{refl}
+use Rattle.constriction_c.proofs.Told.{lanes_taken}
+use Rattle.constriction_c.proofs.lanes.u16_kinds.constriction_ans_lanes_decode_each_u16.Goals as goal
+
+pub returns : goal.returns
+returns c = lanes_taken refl c.code_without_space.ensures c.decode-answer.ensures.call

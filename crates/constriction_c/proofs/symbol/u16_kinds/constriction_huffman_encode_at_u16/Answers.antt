@@ -1,0 +1,5 @@
+-- Written by tools/sizes from Answers.antt.
+use Rattle.constriction_c.proofs.symbol.u16_kinds.constriction_huffman_encode_at_u16.Goals as goal
+
+pub returns : goal.returns
+returns c = (rw c.code_of.ensures.code c.encode_at-answer.ensures.call, rw c.code_of.ensures.code c.code_of.ensures.needed)

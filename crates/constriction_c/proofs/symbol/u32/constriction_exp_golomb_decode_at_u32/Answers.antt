@@ -1,0 +1,4 @@
+use Rattle.constriction_c.proofs.symbol.u32.constriction_exp_golomb_decode_at_u32.Goals as goal
+
+pub returns : goal.returns
+returns c = rw c.code_without_space.ensures c.decode_at.ensures.call

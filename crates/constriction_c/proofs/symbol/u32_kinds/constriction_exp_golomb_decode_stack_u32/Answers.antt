@@ -1,0 +1,4 @@
+use Rattle.constriction_c.proofs.symbol.u32_kinds.constriction_exp_golomb_decode_stack_u32.Goals as goal
+
+pub returns : goal.returns
+returns c = rw c.code_without_space.ensures c.decode_stack.ensures.call
