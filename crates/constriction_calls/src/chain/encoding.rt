@@ -69,8 +69,8 @@ pub fn encode_reverse<
         return Err(Refusal::InvalidData);
     };
     let refusal = match items.list(alloc, true) {
-        Some(mut list) => match encode_list::<Word, State, P, I::List, PRECISION>(
-            alloc, both, heads, compressed, len, remainders, rest, &mut list,
+        Some(list) => match encode_list::<Word, State, P, I::List, PRECISION>(
+            alloc, both, heads, compressed, len, remainders, rest, list,
         ) {
             Ok(()) => return Ok(()),
             Err(refusal) => refusal,
@@ -87,8 +87,9 @@ pub fn encode_reverse<
 /// Encodes the items of `list` from the last to the first, with the coder that [`encode_reverse`] describes.
 ///
 /// Each item writes at most one word, so the call collects the new words in a buffer of one word for each item. The
-/// buffer of a single item needs no allocation. The caller proves that the numbers of words in use are within the
-/// buffers, and that `both` are the heads in `heads`.
+/// buffer of a single item needs no allocation. The call takes `list` by value, so that a single item stays in
+/// registers. The caller proves that the numbers of words in use are within the buffers, and that `both` are the heads
+/// in `heads`.
 ///
 /// # Errors
 ///
@@ -109,26 +110,27 @@ fn encode_list<
     len: &mut usize,
     remainders: &[Word],
     rest: &mut usize,
-    list: &mut L,
+    list: L,
 ) -> Result<(), Refusal>
     requires fits { CoderFits Word.row State.row }
     requires heads { both ≡ (heads.now.compressed, heads.now.remainders) }
     requires within { AreInUse (chain_buffers heads.now compressed.now len.now remainders.now rest.now) }
-    ensures { ChainEncodesItems Word.number State.number Word.BITS State.BITS (L.list_items list.old)
+    ensures { ChainEncodesItems Word.number State.number Word.BITS State.BITS (L.list_items list)
         (chain_buffers heads.old compressed.old len.old remainders.now rest.old)
         (chain_buffers heads.new compressed.new len.new remainders.now rest.new) result }
 {
     if list.count() == 1 {
-        let mut room = [Word::nothing()];
+        let (mut one, mut room) = (list, [Word::nothing()]);
         return encode_within::<Word, State, P, L, PRECISION, true>(
-            &mut room, both, heads, compressed, len, remainders, rest, list,
+            &mut room, both, heads, compressed, len, remainders, rest, &mut one,
         );
     }
     let Ok(mut room) = vec![in alloc; Word::nothing(); list.count()] else {
         return Err(Refusal::NoMemory);
     };
+    let mut all = list;
     encode_within::<Word, State, P, L, PRECISION, false>(
-        &mut room, both, heads, compressed, len, remainders, rest, list,
+        &mut room, both, heads, compressed, len, remainders, rest, &mut all,
     )
 }
 
