@@ -12,8 +12,7 @@ returns-in-Ok g c =
     let right = c.in-Some.ensures.variant.0 refl in
     let h : ℕ = number c.args.heads.now.compressed in
     let r : ℕ = g.State.Natural.number c.args.heads.now.remainders in
-    let is : c.from_raw_parts-coder.result.state ≡ state h r [] [] =
-    ap (λ coder. coder.state) c.from_raw_parts-coder.ensures.value ∙ rw (c.in-Some.ensures.value, c.new-2.ensures.items, c.new-3.ensures.items) refl in
+    let is : c.from_raw_parts-coder.result.state ≡ state h r [] [] = rw (c.from_raw_parts-coder.ensures.value, c.in-Some.ensures.value, c.new-2.ensures.items, c.new-3.ensures.items) refl in
     let found = compressed_above number g.Word.Natural.BITS h r c.in-Ok.added.items (stack_in number c.args.words.now c.args.len.now) c.from_raw_parts-coder.result.state is c.in-Ok.ensures.ok in
     record {
       call = rw c.in-InCompressed.is (ends_at number g.State.Natural.number g.Word.Natural.BITS g.State.Natural.BITS g.row.PRECISION InCompressed c.args.heads.now (record { words = c.args.words.now; len = c.args.len.now })
@@ -28,8 +27,7 @@ returns-in-Ok-into_binary g c =
     let right = c.in-Some.ensures.variant.0 refl in
     let h : ℕ = number c.args.heads.now.compressed in
     let r : ℕ = g.State.Natural.number c.args.heads.now.remainders in
-    let is : c.from_raw_parts-coder.result.state ≡ state h r [] [] =
-    ap (λ coder. coder.state) c.from_raw_parts-coder.ensures.value ∙ rw (c.in-Some.ensures.value, c.new-2.ensures.items, c.new-3.ensures.items) refl in
+    let is : c.from_raw_parts-coder.result.state ≡ state h r [] [] = rw (c.from_raw_parts-coder.ensures.value, c.in-Some.ensures.value, c.new-2.ensures.items, c.new-3.ensures.items) refl in
     let found = binary_above number g.Word.Natural.BITS h r c.in-Ok-into_binary.added.items (stack_in number c.args.words.now c.args.len.now) c.from_raw_parts-coder.result.state is c.in-Ok-into_binary.ensures.ok in
     record {
       call = rw c.in-InBinary.is (ends_at number g.State.Natural.number g.Word.Natural.BITS g.State.Natural.BITS g.row.PRECISION InBinary c.args.heads.now (record { words = c.args.words.now; len = c.args.len.now })
@@ -44,8 +42,7 @@ returns-in-Ok-into_remainders g c =
     let right = c.in-Some.ensures.variant.0 refl in
     let h : ℕ = number c.args.heads.now.compressed in
     let r : ℕ = g.State.Natural.number c.args.heads.now.remainders in
-    let is : c.from_raw_parts-coder.result.state ≡ state h r [] [] =
-    ap (λ coder. coder.state) c.from_raw_parts-coder.ensures.value ∙ rw (c.in-Some.ensures.value, c.new-2.ensures.items, c.new-3.ensures.items) refl in
+    let is : c.from_raw_parts-coder.result.state ≡ state h r [] [] = rw (c.from_raw_parts-coder.ensures.value, c.in-Some.ensures.value, c.new-2.ensures.items, c.new-3.ensures.items) refl in
     let found = heads_above number g.Word.Natural.BITS h r c.in-Ok-into_remainders.added.items (stack_in number c.args.words.now c.args.len.now) c.from_raw_parts-coder.result.state is c.in-Ok-into_remainders.ensures.ok.1 in
     record {
       call = rw c.in-InRemainders.is (ends_at number g.State.Natural.number g.Word.Natural.BITS g.State.Natural.BITS g.row.PRECISION InRemainders c.args.heads.now (record { words = c.args.words.now; len = c.args.len.now })
@@ -59,7 +56,6 @@ returns-in-InBinary g c =
     let right = c.in-Some.ensures.variant.0 refl in
     let h : ℕ = g.Word.Natural.number c.args.heads.now.compressed in
     let r : ℕ = g.State.Natural.number c.args.heads.now.remainders in
-    let is : c.from_raw_parts-coder.result.state ≡ state h r [] [] =
-    ap (λ coder. coder.state) c.from_raw_parts-coder.ensures.value ∙ rw (c.in-Some.ensures.value, c.new-2.ensures.items, c.new-3.ensures.items) refl in
+    let is : c.from_raw_parts-coder.result.state ≡ state h r [] [] = rw (c.from_raw_parts-coder.ensures.value, c.in-Some.ensures.value, c.new-2.ensures.items, c.new-3.ensures.items) refl in
     let have = binary_heads g.Word.Natural.BITS g.State.Natural.BITS g.row.PRECISION h r c.from_raw_parts-coder.result.state is (record { some = right.0; window = right.1 }) (rw (c.in-Err-Backend-into_binary.is ∙ ap Err c.in-Err-Backend-into_binary.field-0-is) at c.into_binary.ensures.err) in
     record { call = rw c.in-InBinary.is (record { ended = tt; appended = tt; asked = inr (within, inr (have, tt)); kept = refl }) }
