@@ -1,0 +1,4 @@
+use Rattle.constriction_c.proofs.ans.u32_kinds.constriction_ans_into_binary_u32.Goals as goal
+
+pub returns : goal.returns
+returns c = (rw c.code_of.ensures.code c.into_binary.ensures, rw c.code_of.ensures.code c.code_of.ensures.needed)
