@@ -85,6 +85,7 @@ impl BitArray for u64 {
         self % other
     }
 
+    #[inline(always)]
     fn div_rem(self, other: u64, length: u32) -> (u64, u64) {
         division::div_rem(self, other, length)
     }

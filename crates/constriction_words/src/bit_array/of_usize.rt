@@ -85,6 +85,7 @@ impl BitArray for usize {
         self % other
     }
 
+    #[inline(always)]
     fn div_rem(self, other: usize, length: u32) -> (usize, usize) {
         let (quotient, rest) = division::div_rem(self as u64, other as u64, length);
         (quotient as usize, rest as usize)
