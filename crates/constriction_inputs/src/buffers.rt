@@ -37,6 +37,9 @@ pub fn append<Word: BitArray>(
     ensures full { OnErr result (length buffer.old < len.old + length added.now) }
     ensures kept { OnErr result ((buffer.new ≡ buffer.old) × (len.new ≡ len.old)) }
 {
+    if added.len() == 0 {
+        return Ok(());
+    }
     let Some(end) = len.checked_add(added.len()) else {
         return Err(Refusal::NoMemory);
     };
@@ -45,7 +48,7 @@ pub fn append<Word: BitArray>(
     }
     if added.len() == 1 {
         buffer[*len] = added[0];
-    } else if added.len() > 1 {
+    } else {
         buffer[*len..end].copy_from_slice(added);
     }
     *len = end;

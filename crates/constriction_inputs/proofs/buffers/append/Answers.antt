@@ -2,8 +2,8 @@ use Rattle.std.proofs.Common.{◌≡◌, ◌+◌, ◌-◌, length, arith, ap}
 use Rattle.std.proofs.lemmas.Slice.{take-put_mid, drop-put_mid}
 use Rattle.constriction_inputs.proofs.buffers.append.Goals as goal
 
-pub returns-then-added-gt1-clause-ok : goal.returns-then-added-gt1-clause-ok
-returns-then-added-gt1-clause-ok g c =
+pub returns-else-added-eq1-clause-ok : goal.returns-else-added-eq1-clause-ok
+returns-else-added-eq1-clause-ok g c =
     let old = c.args.buffer.now in
     let len = c.args.len.now in
     let new = c.copy_from_slice.new.self in
