@@ -49,16 +49,10 @@ pub fn encode_reverse<
         let word = Word::nothing();
         if size_of_val(&word) <= 64 && list.count() == 1 {
             let (mut room, mut new_head) = ([word], *head);
-            if let Some(added) = encode_single_item::<Word, State, P, I::List, PRECISION>(
-                &mut new_head,
-                &mut room,
-                &mut list,
-            ) {
+            if let Some(added) = encode_single_item(&mut new_head, &mut room, &mut list) {
                 return finish_encoding(added, new_head, head, words, len);
             }
-        } else if let Some((added, new_head)) = encode_items::<Word, State, P, I::List, PRECISION>(
-            alloc, *head, &mut list,
-        ) {
+        } else if let Some((added, new_head)) = encode_items(alloc, *head, &mut list) {
             return finish_encoding(&added, new_head, head, words, len);
         }
     }

@@ -1,7 +1,7 @@
 //! Encoding items into compressed words.
 
 ghost use Rattle.std.specs.Prelude.{◌≡◌, ◌⊎◌, ◌+◌, ◌<◌, ◌≤◌, ℕ, List, length, map, reverse};
-ghost use Rattle.std.specs.Prelude.{IfErr, IfSome, IsTrue, OnErr, OnOk};
+ghost use Rattle.std.specs.Prelude.{IfErr, IfSome, OnErr, OnOk};
 ghost use Rattle.constriction_base.specs.Steps.{IsStep};
 ghost use Rattle.constriction_chain.specs.Chain.{ChainState, IsSized};
 ghost use Rattle.constriction_inputs.specs.Buffers.{Appended};
@@ -61,6 +61,47 @@ pub fn encode_reverse<
         (chain_buffers heads.old compressed.old len.old remainders.now rest.old)
         (chain_buffers heads.new compressed.new len.new remainders.now rest.new) result }
 {
+    if items.count() == 1 {
+        encode_checked::<Word, State, P, I, PRECISION, true>(
+            alloc, heads, compressed, len, remainders, rest, items,
+        )
+    } else {
+        encode_checked::<Word, State, P, I, PRECISION, false>(
+            alloc, heads, compressed, len, remainders, rest, items,
+        )
+    }
+}
+
+/// Does what [`encode_reverse`] does. `SINGLE` tells the compiler that there is a single item. It then makes code
+/// without a loop, which keeps the coder in registers.
+///
+/// # Errors
+///
+/// The call returns the errors that [`crate::chain`] lists.
+#[inline(always)]
+fn encode_checked<
+    Word: WordOf<State>,
+    State: BitArray,
+    P: WordOf<Word>,
+    I: Items<P, PRECISION>,
+    const PRECISION: usize,
+    const SINGLE: bool,
+>(
+    alloc: Global,
+    heads: &mut ChainHeads<Word, State>,
+    compressed: &mut [Word],
+    len: &mut usize,
+    remainders: &[Word],
+    rest: &mut usize,
+    items: &I,
+) -> Result<(), Refusal>
+    requires sized { IsSized Word.BITS State.BITS PRECISION }
+    requires within { PRECISION ≤ P.BITS }
+    requires fits { CoderFits Word.row State.row }
+    ensures call { ChainEncodesListBy Word.Natural State.Natural PRECISION (I.coded items.now)
+        (chain_buffers heads.old compressed.old len.old remainders.now rest.old)
+        (chain_buffers heads.new compressed.new len.new remainders.now rest.new) result }
+{
     if *len > compressed.len() || *rest > remainders.len() {
         return Err(Refusal::WrongLength);
     }
@@ -69,7 +110,7 @@ pub fn encode_reverse<
         return Err(Refusal::InvalidData);
     };
     let refusal = match items.list(alloc, true) {
-        Some(list) => match encode_list::<Word, State, P, I::List, PRECISION>(
+        Some(list) => match encode_list::<Word, State, P, I::List, PRECISION, SINGLE>(
             alloc, both, heads, compressed, len, remainders, rest, list,
         ) {
             Ok(()) => return Ok(()),
@@ -102,6 +143,7 @@ fn encode_list<
     P: WordOf<Word>,
     L: ItemList<P, PRECISION>,
     const PRECISION: usize,
+    const SINGLE: bool,
 >(
     alloc: Global,
     both: ChainCoderHeads<Word, State, PRECISION>,
@@ -119,9 +161,9 @@ fn encode_list<
         (chain_buffers heads.old compressed.old len.old remainders.now rest.old)
         (chain_buffers heads.new compressed.new len.new remainders.now rest.new) result }
 {
-    if list.count() == 1 {
+    if SINGLE && list.count() == 1 {
         let (mut one, mut room) = (list, [Word::nothing()]);
-        return encode_within::<Word, State, P, L, PRECISION, true>(
+        return encode_within(
             &mut room, both, heads, compressed, len, remainders, rest, &mut one,
         );
     }
@@ -129,15 +171,12 @@ fn encode_list<
         return Err(Refusal::NoMemory);
     };
     let mut all = list;
-    encode_within::<Word, State, P, L, PRECISION, false>(
+    encode_within(
         &mut room, both, heads, compressed, len, remainders, rest, &mut all,
     )
 }
 
 /// Encodes items as [`encode_list`] does, and collects the new words in the buffer `room`.
-///
-/// `SINGLE` tells the compiler that there is a single item. It then makes a function without a loop, which keeps the
-/// coder in registers.
 ///
 /// # Errors
 ///
@@ -149,7 +188,6 @@ fn encode_within<
     P: WordOf<Word>,
     L: ItemList<P, PRECISION>,
     const PRECISION: usize,
-    const SINGLE: bool,
 >(
     room: &mut [Word],
     both: ChainCoderHeads<Word, State, PRECISION>,
@@ -163,16 +201,13 @@ fn encode_within<
     requires fits { CoderFits Word.row State.row }
     requires heads { both ≡ (heads.now.compressed, heads.now.remainders) }
     requires within { AreInUse (chain_buffers heads.now compressed.now len.now remainders.now rest.now) }
-    requires one { IsTrue SINGLE → length (L.list_items list.now) ≡ 1 }
     ensures { ChainEncodesItems Word.number State.number Word.BITS State.BITS (L.list_items list.old)
         (chain_buffers heads.old compressed.old len.old remainders.now rest.old)
         (chain_buffers heads.new compressed.new len.new remainders.now rest.new) result }
 {
     let lent = Cursor::new_at_write_end(&remainders[..*rest]);
     let mut coder = ChainCoder::from_raw_parts(Cursor::new_at_write_beginning(room), lent, both);
-    match encode_list_items::<P, Putting<'_, Word, State, PRECISION>, L, PRECISION, SINGLE>(
-        &mut coder, list,
-    ) {
+    match encode_list_items(&mut coder, list) {
         Ok(()) => {}
         Err(refusal) => return Err(refusal),
     }
@@ -182,7 +217,7 @@ fn encode_within<
     }
 }
 
-/// Encodes items with `coder` from the last to the first. If `SINGLE` is true, there is a single item.
+/// Encodes items with `coder` from the last to the first.
 ///
 /// # Errors
 ///
@@ -195,13 +230,11 @@ fn encode_list_items<
     C: Put<P, PRECISION>,
     L: ItemList<P, PRECISION>,
     const PRECISION: usize,
-    const SINGLE: bool,
 >(coder: &mut C, list: &mut L) -> Result<(), Refusal>
-    requires { IsTrue SINGLE → length (L.list_items list.now) ≡ 1 }
     ensures { PutsBackItems C.word_bits C.state_bits (L.list_items list.old)
         (C.chain coder.old) (C.chain coder.new) result }
 {
-    if SINGLE {
+    if list.count() == 1 {
         encode_item::<P, C, L, PRECISION>(coder, list, 0)
     } else {
         encode_many::<P, C, L, PRECISION>(coder, list)

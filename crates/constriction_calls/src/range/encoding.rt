@@ -57,9 +57,7 @@ pub fn encode<
     let word = Word::nothing();
     if size_of_val(&word) <= 64 && encoder.held <= buffer.len() - *len {
         let mut room = [word, word];
-        if let Some((words, now)) = encode_single::<Word, State, P, I, PRECISION>(
-            alloc, &mut room, *encoder, items,
-        ) {
+        if let Some((words, now)) = encode_single(alloc, &mut room, *encoder, items) {
             return finish_encoding(words, now, encoder, buffer, len);
         }
     }
@@ -102,9 +100,7 @@ fn encode_list<
     let is_room = held <= buffer.len() - *len;
     if is_room
         && let Some(mut list) = items.list(alloc, false)
-        && let Some((words, now)) = encode_to_list::<Word, State, P, I::List, PRECISION>(
-            made, &mut list,
-        )
+        && let Some((words, now)) = encode_to_list(made, &mut list)
     {
         return finish_encoding(&words, now, encoder, buffer, len);
     }

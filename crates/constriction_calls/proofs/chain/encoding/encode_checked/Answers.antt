@@ -2,7 +2,7 @@ use Rattle.std.proofs.Common.{arith, refl}
 use Rattle.constriction_inputs.proofs.Asking.{fit_ok}
 use Rattle.constriction_calls.specs.ChainCalls.{AreInUse, chain_buffers}
 use Rattle.constriction_calls.proofs.ChainAnswers.{puts_ended}
-use Rattle.constriction_calls.proofs.chain.encoding.encode_reverse.Goals as goal
+use Rattle.constriction_calls.proofs.chain.encoding.encode_checked.Goals as goal
 
 pub returns-in-Ok : goal.returns-in-Ok
 returns-in-Ok g c =
